@@ -1,0 +1,7 @@
+pub mod Bits
+pub mod Reading
+pub mod RoundTrip
+pub mod Small
+pub mod Width
+pub mod Worked
+pub mod Writing

@@ -1,0 +1,20 @@
+-- `field::column_mark` meets its contract. Assumes nothing.
+use borrow.Author.Needs.{needs}
+use borrow.Author.Tests.{eq-eqb, ne-eqb}
+use Rattle.field.proofs.column_mark.Statement.{statement}
+use Rattle.field.proofs.column_mark.Tie as tie
+
+returns : tie.Need-returns
+returns c = simp (eq-eqb _ 0 (c .before .if1 .taken), c .if2 .taken)
+
+returns-2 : tie.Need-returns-2
+returns-2 c = simp (eq-eqb _ 0 (c .before .if1 .taken), c .if2 .left)
+
+last-digit-requires : tie.Need-last-digit-requires
+last-digit-requires c κs = search needs
+
+returns-3 : tie.Need-returns-3
+returns-3 c = rw (c .last-digit .ensures) (simp (ne-eqb _ 0 (c .before .if1 .left)))
+
+pub column-mark-spec : {M : Type 1} → statement M
+column-mark-spec = tie.close (tie.spec returns returns-2 last-digit-requires returns-3)

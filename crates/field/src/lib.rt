@@ -1,0 +1,202 @@
+// A number in columns of a text: read from a part of it, and written right-justified into it.
+// What a well-written number is stands in specs/Field.antt alone.
+ghost use mathlib.Core.Path.{_≡_};
+ghost use mathlib.Core.Bool.{cond, false};
+ghost use Prim.Native.Nat.{_+_, _-_, _≤_, _<_, _^_};
+ghost use lib.Dec.{eqb};
+ghost use lib.ListN.{length, drop};
+ghost use lib.IntN.{negℤ, pos, natAbs};
+ghost use Rattle.field.specs.Field.{strip, digits, whole, plain, minus, signed, fieldOf, digit, textOf, written};
+
+// The number that a run of digits means, or none.
+pub enum Whole {
+    Digits(u64),
+    Wrong,
+}
+
+// What a field holds.
+pub enum Field {
+    Blank,
+    Ill,
+    Number(i64),
+}
+
+// How many blanks stand first.
+fn blanks(t: &[u8]) -> usize
+    ensures { λ r. ⌜ (r ≤ length (now (t .entry))) × (strip (now (t .entry)) ≡ drop r (now (t .entry))) ⌝ }
+{
+    let mut i = 0;
+    while i < t.len() {
+        if t[i] != b' ' {
+            return i;
+        }
+        i += 1;
+    }
+    i
+}
+
+// What a digit counts.
+fn value(b: u8) -> u64
+    requires { ⌜ 48 ≤ b ⌝ }
+    ensures { λ r. ⌜ r ≡ b - 48 ⌝ }
+{
+    (b - b'0') as u64
+}
+
+// The digits of a number of at most 18 columns, which 64 bits hold.
+fn read_digits(t: &[u8]) -> Whole
+    requires { ⌜ length (now t) ≤ 18 ⌝ }
+    ensures { λ r. ⌜ r ≡ digits 0 (now (t .entry)) ⌝ }
+{
+    let mut n: u64 = 0;
+    let mut i = 0;
+    while i < t.len() {
+        let b = t[i];
+        if b < b'0' {
+            return Whole::Wrong;
+        }
+        if b'9' < b {
+            return Whole::Wrong;
+        }
+        n = n * 10 + value(b);
+        i += 1;
+    }
+    Whole::Digits(n)
+}
+
+fn read_whole(t: &[u8]) -> Whole
+    requires { ⌜ length (now t) ≤ 18 ⌝ }
+    ensures { λ r. ⌜ r ≡ whole (now (t .entry)) ⌝ }
+{
+    if t.len() == 0 {
+        return Whole::Wrong;
+    }
+    if t.len() == 1 {
+        return read_digits(t);
+    }
+    if t[0] == b'0' {
+        return Whole::Wrong;
+    }
+    read_digits(t)
+}
+
+// What stands where there is no minus.
+fn read_plain(t: &[u8]) -> Field
+    requires { ⌜ length (now t) ≤ 18 ⌝ }
+    ensures { λ r. ⌜ r ≡ plain (whole (now (t .entry))) ⌝ }
+{
+    let n = read_whole(t);
+    match n {
+        Whole::Wrong => Field::Ill,
+        Whole::Digits(m) => Field::Number(m as i64),
+    }
+}
+
+fn below_zero(m: u64) -> i64
+    requires { ⌜ m < 10 ^ 18 ⌝ }
+    ensures { λ r. ⌜ r ≡ negℤ (pos m) ⌝ }
+{
+    -(m as i64)
+}
+
+// What stands after a minus.
+fn read_minus(t: &[u8]) -> Field
+    requires { ⌜ length (now t) ≤ 18 ⌝ }
+    ensures { λ r. ⌜ r ≡ minus (whole (now (t .entry))) ⌝ }
+{
+    let n = read_whole(t);
+    match n {
+        Whole::Wrong => Field::Ill,
+        Whole::Digits(m) => {
+            if m == 0 {
+                Field::Ill
+            } else {
+                Field::Number(below_zero(m))
+            }
+        }
+    }
+}
+
+fn read_signed(t: &[u8]) -> Field
+    requires { ⌜ length (now t) ≤ 18 ⌝ }
+    ensures { λ r. ⌜ r ≡ signed (now (t .entry)) ⌝ }
+{
+    if t.len() == 0 {
+        return Field::Blank;
+    }
+    if t[0] == b'-' {
+        read_minus(&t[1..])
+    } else {
+        read_plain(t)
+    }
+}
+
+// The field of `width` columns from the byte `from` on.
+pub fn read(s: &[u8], from: usize, width: usize) -> Field
+    requires { ⌜ (from + width ≤ length (now s)) × (width ≤ 18) ⌝ }
+    ensures { λ r. ⌜ r ≡ fieldOf (now (s .entry)) from width ⌝ }
+{
+    let t = &s[from..from + width];
+    let at = blanks(t);
+    read_signed(&t[at..])
+}
+
+// The last digit of n.
+fn last_digit(n: u64) -> u8
+    ensures { λ r. ⌜ r ≡ digit n ⌝ }
+{
+    b'0' + ((n % 10) as u8)
+}
+
+// The column before the digits written so far, where n is what is left of the number: its last digit;
+// where none is left the minus, if it is still to come, and then a blank.
+fn column_mark(negative: bool, n: u64) -> u8
+    ensures { λ r. ⌜ r ≡ cond (eqb n 0) (cond negative 45 32) (digit n) ⌝ }
+{
+    if n == 0 {
+        if negative {
+            return b'-';
+        }
+        return b' ';
+    }
+    last_digit(n)
+}
+
+// Whether the minus is still to come before that column.
+fn still(negative: bool, n: u64) -> bool
+    ensures { λ r. ⌜ r ≡ cond (eqb n 0) false negative ⌝ }
+{
+    if n == 0 {
+        return false;
+    }
+    negative
+}
+
+// z without its sign.
+fn magnitude(z: i64) -> u64
+    requires { ⌜ natAbs z < 10 ^ 15 ⌝ }
+    ensures { λ r. ⌜ r ≡ natAbs z ⌝ }
+{
+    if z < 0 {
+        return (-z) as u64;
+    }
+    z as u64
+}
+
+// Writes z, of at most 15 digits, in the `width` columns from the byte `at` on: the last column first.
+pub fn write(dst: &mut [u8], at: usize, width: usize, z: i64)
+    requires { ⌜ (at + width ≤ length (now dst)) × (length (textOf z) ≤ width) × (natAbs z < 10 ^ 15) ⌝ }
+    ensures { λ _. ⌜ now (dst .exit) ≡ written (now (dst .entry)) at width z ⌝ }
+{
+    let m = magnitude(z);
+    let mut i = width - 1;
+    dst[at + i] = last_digit(m);
+    let mut n = m / 10;
+    let mut negative = z < 0;
+    while 0 < i {
+        i -= 1;
+        dst[at + i] = column_mark(negative, n);
+        negative = still(negative, n);
+        n = n / 10;
+    }
+}
