@@ -1,0 +1,235 @@
+//! Benchmark of reading: both engines on the same texts in the same run.
+//!
+//! Run it in release mode: `cargo run --release --bin bench`.
+
+use std::hint::black_box;
+use std::time::{Duration, Instant};
+
+use compare::engine::{self, Lent};
+use compare::random::{seed, Random};
+use compare::second;
+
+/// Node lines of the tables.
+const SIZES: [usize; 3] = [64, 256, 1_024];
+
+/// Texts of one shape and size, which differ in their utilities.
+const TEXTS: usize = 8;
+
+/// The best of so many rounds counts, as others may use the machine too.
+const ROUNDS: usize = 60;
+
+/// The least time that an engine works on one shape and size in a round.
+const SPELL: Duration = Duration::from_millis(3);
+
+/// The texts of one shape and size, and the times that they took.
+struct Case {
+    shape: &'static str,
+    size: usize,
+    texts: Vec<Vec<u8>>,
+    /// How often all texts are read in a round.
+    turns: usize,
+    /// The best nanoseconds per call so far.
+    proved: f64,
+    second: f64,
+}
+
+fn main() {
+    let seed = seed();
+    println!("Reading a table: the proved engine and the second engine (Rust).");
+    println!("Seed {seed}; {TEXTS} texts each; best of {ROUNDS} rounds, the engines by turns.");
+    println!("The proved engine's arrays are allocated once, outside of the timing, and are");
+    println!("not cleared between calls; the second engine allocates its table in each call.");
+    println!("Growth is the time per line over that of the same shape with 64 lines.");
+    println!();
+
+    let mut lent = Box::new(Lent::PATTERN);
+    let shapes: [(&str, Shape); 3] = [("flat", flat), ("deep", deep), ("bushy", bushy)];
+    let mut cases = Vec::new();
+    for (name, shape) in shapes {
+        for size in SIZES {
+            let mut random = Random::new(seed);
+            let texts = (0..TEXTS).map(|_| shape(size, &mut random)).collect();
+            cases.push(Case::new(name, size, texts, &mut lent));
+        }
+    }
+
+    // Every round goes through all cases, so that a time in which the machine is
+    // slow spoils one round of each and not all rounds of one.
+    for _ in 0..ROUNDS {
+        for case in &mut cases {
+            case.round(&mut lent);
+        }
+    }
+    print(&cases);
+}
+
+impl Case {
+    fn new(shape: &'static str, size: usize, texts: Vec<Vec<u8>>, lent: &mut Lent) -> Case {
+        for text in &texts {
+            let table = second::read(text).expect("a valid table");
+            assert_eq!(table.nodes.len(), size);
+            assert_eq!(engine::call(text, lent), 0, "a valid table");
+            assert_eq!(lent.numbers[0], size as i64);
+        }
+        let mut case = Case {
+            shape,
+            size,
+            texts,
+            turns: 1,
+            proved: f64::INFINITY,
+            second: f64::INFINITY,
+        };
+        let spell = SPELL.as_nanos() as f64;
+        while case.time_proved(lent).min(case.time_second()) < spell {
+            case.turns *= 2;
+        }
+        case
+    }
+
+    fn round(&mut self, lent: &mut Lent) {
+        let calls = (self.turns * self.texts.len()) as f64;
+        self.proved = self.proved.min(self.time_proved(lent) / calls);
+        self.second = self.second.min(self.time_second() / calls);
+    }
+
+    fn time_proved(&self, lent: &mut Lent) -> f64 {
+        self.time(|text| {
+            black_box(engine::call(black_box(text), black_box(lent)));
+        })
+    }
+
+    fn time_second(&self) -> f64 {
+        self.time(|text| {
+            let _ = black_box(second::read(black_box(text)));
+        })
+    }
+
+    /// The nanoseconds that all turns take.
+    fn time(&self, mut read: impl FnMut(&[u8])) -> f64 {
+        let began = Instant::now();
+        for _ in 0..self.turns {
+            for text in &self.texts {
+                read(text);
+            }
+        }
+        began.elapsed().as_nanos() as f64
+    }
+}
+
+fn print(cases: &[Case]) {
+    println!(
+        "{:<8}{:>6}  {:>10}{:>10}  {:>9}{:>9}  {:>8}  {:>8}{:>8}",
+        "", "", "proved", "second", "proved", "second", "proved/", "proved", "second"
+    );
+    println!(
+        "{:<8}{:>6}  {:>10}{:>10}  {:>9}{:>9}  {:>8}  {:>8}{:>8}",
+        "shape", "lines", "ns/call", "ns/call", "ns/line", "ns/line", "second", "growth", "growth"
+    );
+    for sizes in cases.chunks(SIZES.len()) {
+        let per_line = |case: &Case| {
+            let lines = case.size as f64;
+            (case.proved / lines, case.second / lines)
+        };
+        let least = per_line(&sizes[0]);
+        for case in sizes {
+            let (proved, second) = per_line(case);
+            println!(
+                "{:<8}{:>6}  {:>10.0}{:>10.0}  {:>9.2}{:>9.2}  {:>8.2}  {:>8.2}{:>8.2}",
+                case.shape,
+                case.size,
+                case.proved,
+                case.second,
+                proved,
+                second,
+                proved / second,
+                proved / least.0,
+                second / least.1,
+            );
+        }
+    }
+}
+
+/// Makes a table of so many nodes.
+type Shape = fn(usize, &mut Random) -> Vec<u8>;
+
+/// A table being written, with the ends at their widest.
+struct Writer<'a> {
+    text: String,
+    nodes: usize,
+    random: &'a mut Random,
+}
+
+impl Writer<'_> {
+    fn new(count: usize, total: usize, random: &mut Random) -> Writer<'_> {
+        Writer {
+            text: format!("{count:>4}{total:>4}-1000000 1000000\n"),
+            nodes: 0,
+            random,
+        }
+    }
+
+    /// Writes a node and returns its number.
+    fn node(&mut self, kind: char, parent: Option<usize>, weight: Option<usize>) -> usize {
+        let written = |field: Option<usize>| field.map_or(String::new(), |n| n.to_string());
+        let node = self.nodes;
+        let utility = match kind {
+            'L' => self.random.between(-1_000_000, 1_000_000).to_string(),
+            _ => String::new(),
+        };
+        let (parent, weight) = (written(parent), written(weight));
+        self.text += &format!("{node:>4} {kind}{parent:>5}{weight:>5}{utility:>8}\n");
+        self.nodes += 1;
+        node
+    }
+
+    fn finish(self) -> Vec<u8> {
+        self.text.into_bytes()
+    }
+}
+
+/// A root and its leaves.
+fn flat(count: usize, random: &mut Random) -> Vec<u8> {
+    let mut table = Writer::new(count, 1, random);
+    let root = table.node('M', None, None);
+    for _ in 1..count {
+        table.node('L', Some(root), None);
+    }
+    table.finish()
+}
+
+/// Chains of 64 nodes that share the root, the last one shorter where the count
+/// so demands.
+fn deep(count: usize, random: &mut Random) -> Vec<u8> {
+    let mut table = Writer::new(count, 1, random);
+    let root = table.node('M', None, None);
+    while table.nodes < count {
+        let mut parent = root;
+        for depth in 2..=(count - table.nodes).min(63) {
+            let kind = if depth % 2 == 0 { 'N' } else { 'M' };
+            parent = table.node(kind, Some(parent), None);
+        }
+        table.node('L', Some(parent), None);
+    }
+    table.finish()
+}
+
+/// Plays of a root, each followed by the 21 rolls of two dice; plays that are
+/// leaves fill up the count.
+fn bushy(count: usize, random: &mut Random) -> Vec<u8> {
+    const ROLLS: usize = 21;
+    let mut table = Writer::new(count, 36, random);
+    let root = table.node('M', None, None);
+    while table.nodes + 1 + ROLLS <= count {
+        let play = table.node('C', Some(root), None);
+        for first in 1..=6 {
+            for second in first..=6 {
+                let weight = if first == second { 1 } else { 2 };
+                table.node('L', Some(play), Some(weight));
+            }
+        }
+    }
+    while table.nodes < count {
+        table.node('L', Some(root), None);
+    }
+    table.finish()
+}

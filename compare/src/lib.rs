@@ -1,0 +1,14 @@
+//! Holds the proved engine to a second, independent engine.
+//!
+//! - `engine` calls the proved engine.
+//! - `second` is the second engine, written from document 01 alone.
+//! - `random` and `texts` make the random texts that both are given.
+//!
+//! The comparisons are in `tests`, the benchmark in `src/bin/bench.rs`.
+
+#![deny(unsafe_code)]
+
+pub mod engine;
+pub mod random;
+pub mod second;
+pub mod texts;

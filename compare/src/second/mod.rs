@@ -1,0 +1,10 @@
+//! The second engine: document 01 once more, in plain Rust.
+//!
+//! It shares nothing with the proved engine, so that a misreading of the
+//! document would have to be made twice to go unseen. One module a subject.
+
+mod read;
+mod table;
+
+pub use read::read;
+pub use table::*;

@@ -1,0 +1,237 @@
+//! Reads a table from its text, or refuses it: refusals 1 to 10.
+
+use super::table::*;
+
+/// Reads a whole text. The sequence of the checks is document 01's: 1, then the
+/// header, then each node line from the top, then 8 and 9 over all nodes.
+pub fn read(text: &[u8]) -> Result<Table, Refusal> {
+    let (lines, rest) = text.as_chunks::<LINE>();
+    if !rest.is_empty() || lines.len() < 2 || lines.len() > 1 + MOST_NODES {
+        return Err(refusal(1, 0));
+    }
+
+    let header = Header::read(&lines[0], lines.len() - 1).map_err(|number| refusal(number, 0))?;
+
+    let mut reader = Reader::new(header);
+    for (node, line) in lines[1..].iter().enumerate() {
+        reader
+            .line(node, line)
+            .map_err(|number| refusal(number, node + 1))?;
+    }
+    reader.finish()
+}
+
+fn refusal(number: u8, line: usize) -> Refusal {
+    Refusal { number, line }
+}
+
+struct Header {
+    count: usize,
+    total: i64,
+    lowest: i64,
+    highest: i64,
+}
+
+impl Header {
+    /// Reads the header of a text with `count` node lines: 2, 3, 4.
+    fn read(line: &[u8; LINE], count: usize) -> Result<Header, u8> {
+        if line[24] != b'\n' {
+            return Err(2);
+        }
+        let written = number(&line[0..4])?;
+        let total = number(&line[4..8])?;
+        let lowest = number(&line[8..16])?;
+        let highest = number(&line[16..24])?;
+
+        let ends = -FARTHEST_END..=FARTHEST_END;
+        if !(1..=MOST_TOTAL).contains(&total)
+            || !ends.contains(&lowest)
+            || !ends.contains(&highest)
+            || lowest > highest
+        {
+            return Err(3);
+        }
+        if written != count as i64 {
+            return Err(4);
+        }
+        Ok(Header {
+            count,
+            total,
+            lowest,
+            highest,
+        })
+    }
+}
+
+/// A node on the path from the root to the line last read.
+struct Step {
+    node: usize,
+    /// Chance nodes on the path down to this node, itself counted.
+    chances: usize,
+}
+
+/// What is known after some of the node lines.
+struct Reader {
+    header: Header,
+    nodes: Vec<Node>,
+    /// For each node, the sum of its children's weights so far.
+    sums: Vec<i64>,
+    path: Vec<Step>,
+    most_chances: usize,
+    leaves: usize,
+}
+
+impl Reader {
+    fn new(header: Header) -> Reader {
+        Reader {
+            nodes: Vec::with_capacity(header.count),
+            sums: vec![0; header.count],
+            path: Vec::with_capacity(LONGEST_PATH),
+            most_chances: 0,
+            leaves: 0,
+            header,
+        }
+    }
+
+    /// Reads the line of `node`: 2, 4, 5, 6, 10, 7, 3.
+    fn line(&mut self, node: usize, line: &[u8; LINE]) -> Result<(), u8> {
+        if line[4] != b' ' || line[5] == b' ' || line[24] != b'\n' {
+            return Err(2);
+        }
+        let place = number(&line[0..4])?;
+        let parent = field(&line[6..11])?;
+        let weight = field(&line[11..16])?;
+        let utility = field(&line[16..24])?;
+
+        if place != node as i64 {
+            return Err(4);
+        }
+
+        let kind = match line[5] {
+            b'M' => Kind::Max,
+            b'N' => Kind::Min,
+            b'C' => Kind::Chance,
+            b'L' => Kind::Leaf,
+            _ => return Err(5),
+        };
+
+        let parent = match parent {
+            None if node == 0 => None,
+            Some(parent) if node > 0 => Some(self.close_down_to(parent, node)?),
+            _ => return Err(6),
+        };
+
+        let chances =
+            self.path.last().map_or(0, |step| step.chances) + usize::from(kind == Kind::Chance);
+        if self.path.len() == LONGEST_PATH || chances > MOST_CHANCES {
+            return Err(10);
+        }
+
+        let under_chance = parent.is_some_and(|p| self.nodes[p].kind == Kind::Chance);
+        if weight.is_some() != under_chance || utility.is_some() != (kind == Kind::Leaf) {
+            return Err(7);
+        }
+
+        let weights = 1..=self.header.total;
+        let utilities = self.header.lowest..=self.header.highest;
+        if weight.is_some_and(|w| !weights.contains(&w))
+            || utility.is_some_and(|u| !utilities.contains(&u))
+        {
+            return Err(3);
+        }
+
+        if let (Some(parent), Some(weight)) = (parent, weight) {
+            self.sums[parent] += weight;
+        }
+        self.most_chances = self.most_chances.max(chances);
+        self.leaves += usize::from(kind == Kind::Leaf);
+        self.path.push(Step { node, chances });
+        self.nodes.push(Node {
+            kind,
+            parent,
+            weight,
+            utility,
+            stop: node + 1,
+        });
+        Ok(())
+    }
+
+    /// Takes off the path all nodes below `parent`, whose runs stop at `node`.
+    /// Each node is taken off once, so all lines together take linear time.
+    fn close_down_to(&mut self, parent: i64, node: usize) -> Result<usize, u8> {
+        while let Some(step) = self.path.last() {
+            let last = step.node;
+            if last as i64 == parent {
+                return match self.nodes[last].kind {
+                    Kind::Leaf => Err(6),
+                    _ => Ok(last),
+                };
+            }
+            self.nodes[last].stop = node;
+            self.path.pop();
+        }
+        Err(6)
+    }
+
+    /// Closes the last path, then looks for 8 and 9.
+    fn finish(mut self) -> Result<Table, Refusal> {
+        for step in &self.path {
+            self.nodes[step.node].stop = self.header.count;
+        }
+
+        let mut nodes = self.nodes.iter().enumerate();
+        let childless = nodes.find(|(i, node)| node.kind != Kind::Leaf && node.stop == i + 1);
+        if let Some((node, _)) = childless {
+            return Err(refusal(8, node + 1));
+        }
+
+        let total = self.header.total;
+        let mut sums = self.nodes.iter().zip(&self.sums);
+        let unequal = sums.position(|(node, &sum)| node.kind == Kind::Chance && sum != total);
+        if let Some(node) = unequal {
+            return Err(refusal(9, node + 1));
+        }
+
+        let chances = self.most_chances as u32;
+        Ok(Table {
+            total,
+            lowest: self.header.lowest,
+            highest: self.header.highest,
+            nodes: self.nodes,
+            chances,
+            grains: total.pow(chances),
+            leaves: self.leaves,
+        })
+    }
+}
+
+/// Reads a field that must not be blank.
+fn number(columns: &[u8]) -> Result<i64, u8> {
+    field(columns)?.ok_or(2)
+}
+
+/// Reads a field: blanks, then nothing or a number right-justified. A number is
+/// digits without a leading zero, with a minus directly before them if it is
+/// below zero; anything else is ill-written.
+fn field(columns: &[u8]) -> Result<Option<i64>, u8> {
+    let Some(start) = columns.iter().position(|&byte| byte != b' ') else {
+        return Ok(None);
+    };
+    let (negative, digits) = match &columns[start..] {
+        [b'-', digits @ ..] => (true, digits),
+        digits => (false, digits),
+    };
+    match digits {
+        [] | [b'0', _, ..] => return Err(2),
+        [b'0'] if negative => return Err(2),
+        _ => {}
+    }
+    let mut value = 0;
+    for &digit in digits {
+        if !digit.is_ascii_digit() {
+            return Err(2);
+        }
+        value = 10 * value + i64::from(digit - b'0');
+    }
+    Ok(Some(if negative { -value } else { value }))
+}

@@ -1,0 +1,62 @@
+//! The decoded table, and the refusal given in its place.
+
+/// Bytes of a line: 24 characters and a newline.
+pub const LINE: usize = 25;
+
+/// The most nodes a table has.
+pub const MOST_NODES: usize = 1_024;
+
+/// The greatest total T of a chance node's weights.
+pub const MOST_TOTAL: i64 = 64;
+
+/// The ends lie between this and its negative.
+pub const FARTHEST_END: i64 = 1_000_000;
+
+/// The most nodes on a path from the root, the root counted.
+pub const LONGEST_PATH: usize = 64;
+
+/// The most chance nodes on a path from the root.
+pub const MOST_CHANCES: usize = 4;
+
+#[derive(Clone, Copy, Debug, PartialEq, Eq)]
+pub enum Kind {
+    Max,
+    Min,
+    Chance,
+    Leaf,
+}
+
+/// One node line.
+#[derive(Clone, Debug, PartialEq, Eq)]
+pub struct Node {
+    pub kind: Kind,
+    pub parent: Option<usize>,
+    pub weight: Option<i64>,
+    pub utility: Option<i64>,
+    /// One past the last node of this node's run: itself and all under it.
+    pub stop: usize,
+}
+
+/// An accepted table.
+#[derive(Clone, Debug, PartialEq, Eq)]
+pub struct Table {
+    pub total: i64,
+    pub lowest: i64,
+    pub highest: i64,
+    /// In line order, which is depth-first order.
+    pub nodes: Vec<Node>,
+    /// K, the greatest number of chance nodes on any path.
+    pub chances: u32,
+    /// G, the grains in one point: T to the power K.
+    pub grains: i64,
+    /// The number of leaves.
+    pub leaves: usize,
+}
+
+/// A refused table: which refusal, and at which line (0 for the header, node
+/// number + 1 for a node).
+#[derive(Clone, Copy, Debug, PartialEq, Eq)]
+pub struct Refusal {
+    pub number: u8,
+    pub line: usize,
+}

@@ -1,0 +1,253 @@
+-- From decoded node lines to the whole verdict: 8, 9, and the numbers of an accepted table. Assumes nothing.
+use Prim.Native.Nat.{ℕ, zero, suc, _+_, _-_, _*_, _^_, _≤_, _<_}
+use mathlib.Core.Path.{_≡_, refl, sym, ap, ap₂, subst, _∙_}
+use mathlib.Core.Bool.{Bool, true, false, not, _&&_, cond}
+use mathlib.Core.List.{List, [], _∷_, _++_, map}
+use native.Mathlib.Omega.{arith}
+use native.Mathlib.Numerals.{add-one}
+use borrow.Author.Tests.{lt-ltb, le-ltb}
+use lib.ListN.{length, getD, take, drop, length-map, length-append, List·getD-append}
+use lib.Seq.{take-append-seam}
+use lib.Dec.{eqb, ltb, leb}
+use lib.IntN.{ℤ}
+use Rattle.table.specs.declared.Head.{Head}
+use Rattle.table.specs.declared.Line.{Line}
+use Rattle.table.specs.declared.Lines
+use Rattle.table.specs.declared.Lines.{Lines}
+use Rattle.table.specs.declared.Refusal.{Refusal}
+use Rattle.table.specs.declared.Refusal.the-variants.{Childless, WrongSum}
+use Rattle.table.specs.declared.Reading.{Reading}
+use Rattle.table.specs.declared.Reading.the-variants.{Accepted, Refused}
+use Rattle.table.specs.Refusal.{Verdict, refused, fine, unlessAt, next}
+use Rattle.table.specs.Tree.{Kind, Forest, end, leaf, inner, isEnd, isChance, run, weigh, nodesWhere, childless, unbalanced}
+use Rattle.table.specs.Line.{Step}
+use Rattle.table.specs.Table.{Table, nodeLines, linesOf, tree, complete, greatest, leafLines, summary, answer}
+use Rattle.table.specs.Tree
+use Rattle.table.specs.Slices.{Slices, Spans, slicesOf, heightOf, ends, laid, kindsOf, weightsOf, heightsOf, stopsOf}
+use Rattle.table.specs.Inside.{Gathered, reach, endsFrom, scanFrom, firstOr, bareAt, oddAt, Has, summaryOf, refuseAt, completeAt, Decoded}
+use Rattle.table.proofs.Scan.{spans-le, scan-below, spans-where, bare-tests, odd-tests}
+use Rattle.table.proofs.Reach.{ends-length}
+use Rattle.table.proofs.Runs.{size, Numbered, flat-length, regrow-root}
+use Rattle.table.proofs.Grown.{Whole, whole, lines-counted, lines-first, next-fine}
+use Rattle.table.proofs.Heights.{mapForest, map-end, map-weigh, above}
+use Rattle.table.proofs.Spans.{spans-root}
+
+-- ---- what the node lines left
+
+pub record Lined (lowest : ℤ) (v : Verdict (List Line)) (most leaves : ℕ) (k u w g k′ u′ w′ g′ : List ℕ) : Type 0 where
+  pub lines : List Line
+  pub verdict : v ≡ fine lines
+  pub most-is : most ≡ greatest lines
+  pub leaves-is : leaves ≡ leafLines lines
+  pub kinds : k′ ≡ laid (map (λ (l : Line). l .kind) lines) k
+  pub ups : u′ ≡ laid (map (λ (l : Line). l .parent) lines) u
+  pub weights : w′ ≡ laid (map (λ (l : Line). l .weight) lines) w
+  pub heights : g′ ≡ laid (map (heightOf lowest) lines) g
+
+isFine : Lines → ℕ
+isFine (Lines.the-variants.Fine a b) = 1
+isFine (Lines.the-variants.Refused r) = 0
+
+mostOf : Lines → ℕ
+mostOf (Lines.the-variants.Fine a b) = a
+mostOf (Lines.the-variants.Refused r) = 0
+
+leavesOf : Lines → ℕ
+leavesOf (Lines.the-variants.Fine a b) = b
+leavesOf (Lines.the-variants.Refused r) = 0
+
+pub gathered-lined : (lowest : ℤ) (v : Verdict (List Line)) (most leaves : ℕ) (k u w g k′ u′ w′ g′ : List ℕ)
+    → Gathered lowest v (Lines.the-variants.Fine most leaves) k u w g k′ u′ w′ g′ → Lined lowest v most leaves k u w g k′ u′ w′ g′
+unfolding isFine mostOf leavesOf
+gathered-lined lowest (refused r) most leaves k u w g k′ u′ w′ g′ G = absurd (omega (arith, ap isFine G))
+gathered-lined lowest (fine ls) most leaves k u w g k′ u′ w′ g′ G =
+    record {
+      lines = ls;
+      verdict = refl;
+      most-is = ap mostOf (G .0);
+      leaves-is = ap leavesOf (G .0);
+      kinds = G .1;
+      ups = G .2;
+      weights = G .3;
+      heights = G .4;
+    }
+
+pub gathered-refusal : (lowest : ℤ) (v : Verdict (List Line)) (r : Refusal) (k u w g k′ u′ w′ g′ : List ℕ)
+    → Gathered lowest v (Lines.the-variants.Refused r) k u w g k′ u′ w′ g′ → v ≡ refused r
+unfolding isFine
+gathered-refusal lowest (refused x) r k u w g k′ u′ w′ g′ G = cc
+gathered-refusal lowest (fine ls) r k u w g k′ u′ w′ g′ G = absurd (omega (arith, ap isFine (G .0)))
+
+-- ---- the stops
+
+reach-run : (n : ℕ) (ls : List Line) → reach n (map (λ (l : Line). l .parent) ls) ≡ length (run n ls)
+unfolding reach run
+reach-run n [] = refl
+reach-run n (l ∷ ls) = go (reach-run n ls) (leb n (l .parent)) refl
+  where
+    go : reach n (map (λ (l : Line). l .parent) ls) ≡ length (run n ls) → (b : Bool) → leb n (l .parent) ≡ b
+        → cond (leb n (l .parent)) (suc (reach n (map (λ (l : Line). l .parent) ls))) 0 ≡ length (cond (leb n (l .parent)) (l ∷ run n ls) [])
+    go ih true e = rw (e, ih)
+    go ih false e = rw e
+
+module _ (h : Head) where
+  -- a line's number is its place
+  ends-are : (n i : ℕ) (P : List Step) (s : List ℕ) (ls : List Line) → nodeLines h n i P s ≡ fine ls → endsFrom i (map (λ (l : Line). l .parent) ls) ≡ ends ls
+  unfolding nodeLines endsFrom ends
+  ends-are zero i P s ls e =
+      let f : [] ≡ ls = cc in
+      rw (← f) refl
+  ends-are (suc n) i P s ls e =
+      let F = lines-first h n i P s ls e in
+      let l = F .placed .line in
+      let k : l .node ≡ i = F .read .node in
+      rw (F .lines, reach-run i (F .rest), ends-are n (suc i) (F .placed .steps) (drop 25 s) (F .rest) (F .more), k)
+
+-- the slice of stops, from the slice of parents
+pub stops-are : (h : Head) (n : ℕ) (s : List ℕ) (ls : List Line) (u u′ st st′ : List ℕ) → nodeLines h n 0 [] s ≡ fine ls
+    → u′ ≡ laid (map (λ (l : Line). l .parent) ls) u → st′ ≡ laid (endsFrom 0 (take n u′)) st → st′ ≡ laid (ends ls) st
+stops-are h n s ls u u′ st st′ e p q =
+    let ups : List ℕ = map (λ (l : Line). l .parent) ls in
+    let m : length ups ≡ n = length-map ls (λ (l : Line). l .parent) ∙ lines-counted h n 0 [] s ls e .0 in
+    let f : take n u′ ≡ ups = ap (take n) p ∙ rw (← m) (take-append-seam ups (drop (length ups) u)) in
+    q ∙ ap (λ (xs : List ℕ). laid xs st) (ap (endsFrom 0) f ∙ ends-are h n 0 [] s ls e)
+
+-- ---- the tree in the slices
+
+-- slices that agree up to e hold the same nodes
+module _ (S S′ : Slices) (N : ℕ)
+    (same : (i : ℕ) → i < N → (getD (S′ .kinds) i 0 ≡ getD (S .kinds) i 0) × (getD (S′ .stops) i 0 ≡ getD (S .stops) i 0) × (getD (S′ .weights) i 0 ≡ getD (S .weights) i 0) × (getD (S′ .heights) i 0 ≡ getD (S .heights) i 0)) where
+  spans-same : (c e : ℕ) (f : Forest ℕ) → e ≤ N → Spans S c e f → Spans S′ c e f
+  unfolding Spans
+  spans-same c e end l h = h
+  spans-same c e (leaf n w v rest) l h =
+      let r = spans-le S (c + 1) e rest (h .5) in
+      let q = same c (omega arith) in
+      (h .0, q .0 ∙ h .1, q .1 ∙ h .2, q .2 ∙ h .3, q .3 ∙ h .4, spans-same (c + 1) e rest l (h .5))
+  spans-same c e (inner n w k under rest) l h =
+      let x : ℕ = getD (S .stops) c 0 in
+      let a = spans-le S (c + 1) x under (h .3) in
+      let b = spans-le S x e rest (h .4) in
+      let q = same c (omega arith) in
+      rw (q .1) (h .0, q .0 ∙ h .1, q .2 ∙ h .2, spans-same (c + 1) x under (omega arith) (h .3), spans-same x e rest l (h .4))
+
+laid-at : (xs a b : List ℕ) (n i : ℕ) → b ≡ laid xs a → length xs ≡ n → i < n → getD b i 0 ≡ getD xs i 0
+laid-at xs a b n i e m l = ap (λ (y : List ℕ). getD y i 0) e ∙ List·getD-append xs (drop (length xs) a) 0 i (omega arith)
+
+pub ends-long : (ls : List Line) → length (ends ls) ≡ length ls
+unfolding ends
+ends-long [] = refl
+ends-long (l ∷ ls) = ap suc (ends-long ls)
+
+where-map : {A B : Type 0} (g : A → B) (bad : Kind → Forest A → Bool) (bad′ : Kind → Forest B → Bool)
+    → ((k : Kind) (f : Forest A) → bad′ k (mapForest g f) ≡ bad k f) → (f : Forest A) → nodesWhere bad′ (mapForest g f) ≡ nodesWhere bad f
+unfolding nodesWhere
+where-map g bad bad′ s end = refl
+where-map g bad bad′ s (leaf n w v rest) = where-map g bad bad′ s rest
+where-map g bad bad′ s (inner n w k under rest) = rw (s k under, where-map g bad bad′ s under, where-map g bad bad′ s rest)
+
+-- ---- 8 and 9
+
+refuse-list : (gives : ℕ → Refusal) (n : ℕ) (xs : List ℕ) (t : Table) (f : Table → Verdict Table) (else : Reading)
+    → ((x : ℕ) (ys : List ℕ) → xs ≡ x ∷ ys → x < n) → else ≡ answer (f t)
+    → refuseAt gives n (firstOr n xs) else ≡ answer (next (unlessAt (λ (m : ℕ). gives (m + 1)) xs t) f)
+unfolding unlessAt
+refuse-list gives n [] t f else b e = rw (le-ltb n n (omega arith)) e
+refuse-list gives n (x ∷ xs) t f else b e = rw (lt-ltb x n (b x xs refl))
+
+next-fine-same : (v : Verdict Table) (a : Table) → next v (λ (t : Table). fine t) ≡ v
+next-fine-same (refused r) a = refl
+next-fine-same (fine t) a = refl
+
+-- a table that is complete is the table
+unless-same : (gives : ℕ → Refusal) (xs : List ℕ) (t t′ : Table) → unlessAt gives xs t ≡ fine t′ → t′ ≡ t
+unfolding unlessAt
+unless-same gives [] t t′ e = cc
+unless-same gives (x ∷ xs) t t′ e = let z : _≡_ {A = ℕ} 0 1 = cc in absurd (omega arith)
+
+complete-same : (t t′ : Table) → complete t ≡ fine t′ → t′ ≡ t
+unfolding complete
+complete-same t t′ e =
+    let (u, p, q) = next-fine (unlessAt (λ (n : ℕ). Childless (n + 1)) (childless (tree t)) t) (λ (t : Table). unlessAt (λ (n : ℕ). WrongSum (n + 1)) (unbalanced (t .head .total) (tree t)) t) t′ e in
+    unless-same _ (unbalanced (u .head .total) (tree u)) u t′ q ∙ unless-same _ (childless (tree t)) t u p
+
+module _ (h : Head) (n : ℕ) (s : List ℕ) (ls : List Line) (e : nodeLines h n 0 [] s ≡ fine ls) (some : 0 < n) where
+  abbrev t : Table
+  t = record { head = h; lines = ls }
+
+  abbrev W : Whole h ls
+  W = whole h n s ls some e
+
+  counted : length ls ≡ n
+  counted = lines-counted h n 0 [] s ls e .0
+
+  pub few : greatest ls ≤ 4
+  few = lines-counted h n 0 [] s ls e .1
+
+  sized : size (W .tree) ≡ n
+  sized = sym (flat-length 0 0 (W .tree)) ∙ ap length (W .lines) ∙ counted
+
+  tree-is : tree t ≡ W .tree
+  tree-is = ap (forest-of (length ls)) (sym (W .lines)) ∙ regrow-root (length ls) (W .tree) (W .numbered) (W .rooted) (omega (arith, sized, counted))
+    where
+      forest-of : ℕ → List Line → Forest ℤ
+      forest-of k xs = Rattle.table.specs.Tree.forest (λ (l : Line). l .utility) k xs
+
+  module _ (k st w g k′ st′ w′ g′ : List ℕ) (pk : k′ ≡ laid (kindsOf t) k) (ps : st′ ≡ laid (stopsOf t) st) (pw : w′ ≡ laid (weightsOf t) w) (pg : g′ ≡ laid (heightsOf t) g) where
+    abbrev S : Slices
+    S = record { kinds = k′; stops = st′; weights = w′; heights = g′ }
+
+    shown : Forest ℕ
+    shown = mapForest (above (h .lowest)) (W .tree)
+
+    spans : Spans S 0 n shown
+    unfolding shown
+    spans =
+        spans-same (slicesOf t) S n
+        (λ i l.
+          (laid-at (kindsOf t) k k′ n i pk (length-map ls (λ (l : Line). l .kind) ∙ counted) l,
+          laid-at (stopsOf t) st st′ n i ps (ends-long ls ∙ counted) l,
+          laid-at (weightsOf t) w w′ n i pw (length-map ls (λ (l : Line). l .weight) ∙ counted) l,
+          laid-at (heightsOf t) g g′ n i pg (length-map ls (heightOf (h .lowest)) ∙ counted) l))
+        0 n shown (omega arith) (subst (λ (m : ℕ). Spans (slicesOf t) 0 m shown) sized (spans-root t (W .tree) (W .lines) (W .numbered) (W .rooted)))
+
+    pub has : Has k′ st′ w′ 0 n
+    has = record { heights = g′; forest = shown; spans = spans }
+
+    found-bare : scanFrom (bareAt k′ st′) 0 n ≡ childless (tree t)
+    unfolding shown
+    found-bare =
+        let z : n - 0 ≡ n = omega arith in
+        sym (rw z at (spans-where S _ (bareAt k′ st′) n (bare-tests S n) 0 n shown (omega arith) spans))
+        ∙ where-map (above (h .lowest)) (λ (k : Kind) (f : Forest ℤ). isEnd f) (λ (k : Kind) (f : Forest ℕ). isEnd f) (λ k f. map-end (above (h .lowest)) f) (W .tree)
+        ∙ ap childless (sym tree-is)
+
+    found-odd : n ≤ 1024 → scanFrom (oddAt k′ st′ w′ (h .total)) 0 n ≡ unbalanced (h .total) (tree t)
+    unfolding shown
+    found-odd small =
+        let z : n - 0 ≡ n = omega arith in
+        sym (rw z at (spans-where S _ (oddAt k′ st′ w′ (h .total)) n (odd-tests S (h .total) n small) 0 n shown (omega arith) spans))
+        ∙ where-map (above (h .lowest)) (λ (k : Kind) (f : Forest ℤ). isChance k && not (eqb (weigh f) (h .total))) (λ (k : Kind) (f : Forest ℕ). isChance k && not (eqb (weigh f) (h .total)))
+        (λ k f. ap (λ (x : ℕ). isChance k && not (eqb x (h .total))) (map-weigh (above (h .lowest)) f)) (W .tree)
+        ∙ ap (unbalanced (h .total)) (sym tree-is)
+
+    module _ (small : n ≤ 1024) (most leaves : ℕ) (pm : most ≡ greatest ls) (pl : leaves ≡ leafLines ls) where
+      complete-is : completeAt k′ st′ w′ n h most leaves ≡ answer (complete t)
+      unfolding complete
+      complete-is =
+          rw (found-bare, found-odd small, pm, pl)
+          (refuse-list Childless n (childless (tree t)) t (λ (t : Table). unlessAt (λ (n : ℕ). WrongSum (n + 1)) (unbalanced (t .head .total) (tree t)) t) _
+          (λ x xs q. omega (arith, scan-below (bareAt k′ st′) 0 n x xs (found-bare ∙ q)))
+          (refuse-list WrongSum n (unbalanced (h .total) (tree t)) t (λ (t : Table). fine t) _
+          (λ x xs q. omega (arith, scan-below (oddAt k′ st′ w′ (h .total)) 0 n x xs (found-odd small ∙ q)))
+          (ap (λ (m : ℕ). Accepted (summaryOf m h (greatest ls) (leafLines ls))) (sym counted))
+          ∙ ap answer (next-fine-same (unlessAt (λ (n : ℕ). WrongSum (n + 1)) (unbalanced (h .total) (tree t)) t) t)))
+
+      decoded-by : (v : Verdict Table) → complete t ≡ v → (out : Reading) → out ≡ answer v → Decoded v out k st w g k′ st′ w′ g′
+      decoded-by (refused r) c out o = o
+      decoded-by (fine t′) c out o =
+          let z : t ≡ t′ = sym (complete-same t t′ c) in
+          (o, subst (λ (y : Table). k′ ≡ laid (kindsOf y) k) z pk, subst (λ (y : Table). st′ ≡ laid (stopsOf y) st) z ps, subst (λ (y : Table). w′ ≡ laid (weightsOf y) w) z pw, subst (λ (y : Table). g′ ≡ laid (heightsOf y) g) z pg)
+
+      pub decoded-all : (out : Reading) → out ≡ completeAt k′ st′ w′ n h most leaves → Decoded (linesOf h n s) out k st w g k′ st′ w′ g′
+      decoded-all out o = rw e (decoded-by (complete t) refl out (o ∙ complete-is))

@@ -1,0 +1,14 @@
+pub mod Signs
+pub mod Path
+pub mod Checks
+pub mod Fine
+pub mod Gather
+pub mod Reach
+pub mod Scan
+pub mod Copied
+pub mod Top
+pub mod Runs
+pub mod Grown
+pub mod Heights
+pub mod Spans
+pub mod Complete

@@ -1,0 +1,7 @@
+pub mod Refusal
+pub mod Tree
+pub mod Line
+pub mod Table
+pub mod Slices
+pub mod Accepted
+pub mod Inside

@@ -1,0 +1,79 @@
+-- The decoded table: number slices, one entry for each node, by node number. Document 01, 'The table on paper'.
+use Prim.Native.Nat.{ℕ, zero, suc, _+_, _-_}
+use mathlib.Core.Bool.{Bool, cond}
+use mathlib.Core.List.{List, [], _∷_, _++_, map}
+use mathlib.Core.Path.{_≡_}
+use lib.ListN.{length, getD, take, drop}
+use lib.Dec.{eqb}
+use lib.IntN.{ℤ, _-ℤ_}
+use Rattle.table.specs.declared.Line.{Line}
+use Rattle.table.specs.Refusal.{Verdict, refused, fine}
+use Rattle.table.specs.Tree.{Forest, end, leaf, inner, codeOf, run, forest}
+use Rattle.table.specs.Line.{toNat}
+use Rattle.table.specs.Table.{Table}
+
+-- how many points a leaf stands above the lowest end
+abbrev pub heightOf : ℤ → Line → ℕ
+heightOf lowest l = cond (eqb (l .kind) 0) (toNat (l .utility -ℤ lowest)) 0
+
+abbrev pub kindsOf : Table → List ℕ
+kindsOf t = map (λ (l : Line). l .kind) (t .lines)
+
+abbrev pub weightsOf : Table → List ℕ
+weightsOf t = map (λ (l : Line). l .weight) (t .lines)
+
+abbrev pub heightsOf : Table → List ℕ
+heightsOf t = map (heightOf (t .head .lowest)) (t .lines)
+
+-- one past the last line of each line's run
+unfoldable pub ends : List Line → List ℕ
+ends [] = []
+ends (l ∷ ls) = (l .node + 1 + length (run (l .node) ls)) ∷ ends ls
+
+abbrev pub stopsOf : Table → List ℕ
+stopsOf t = ends (t .lines)
+
+-- a slice a with the numbers xs at its front, and with as many of them as it has room for
+abbrev pub laid : List ℕ → List ℕ → List ℕ
+laid xs a = xs ++ drop (length xs) a
+
+abbrev pub fitted : List ℕ → List ℕ → List ℕ
+fitted xs a = laid (take (length a) xs) a
+
+-- nothing is written where the table is refused
+
+abbrev pub decoded : (Table → List ℕ) → Verdict Table → List ℕ
+decoded f (refused r) = []
+decoded f (fine t) = f t
+
+-- ---- the tree in the slices
+
+pub record Slices : Type 0 where
+  pub kinds : List ℕ
+  pub stops : List ℕ
+  pub weights : List ℕ
+  pub heights : List ℕ
+
+-- the entries from c up to e are these nodes with one parent
+unfoldable pub Spans : Slices → ℕ → ℕ → Forest ℕ → Type 0
+Spans s c e end = c ≡ e
+Spans s c e (leaf n w h rest) =
+    (n ≡ c)
+    × (getD (s .kinds) c 0 ≡ 0)
+    × (getD (s .stops) c 0 ≡ c + 1)
+    × (getD (s .weights) c 0 ≡ w)
+    × (getD (s .heights) c 0 ≡ h)
+    × Spans s (c + 1) e rest
+Spans s c e (inner n w k under rest) =
+    (n ≡ c)
+    × (getD (s .kinds) c 0 ≡ codeOf k)
+    × (getD (s .weights) c 0 ≡ w)
+    × Spans s (c + 1) (getD (s .stops) c 0) under
+    × Spans s (getD (s .stops) c 0) e rest
+
+-- the tree with heights in place of utilities
+abbrev pub heightTree : Table → Forest ℕ
+heightTree t = forest (heightOf (t .head .lowest)) (length (t .lines)) (t .lines)
+
+abbrev pub slicesOf : Table → Slices
+slicesOf t = record { kinds = kindsOf t; stops = stopsOf t; weights = weightsOf t; heights = heightsOf t }
