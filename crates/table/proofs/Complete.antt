@@ -22,15 +22,13 @@ use Rattle.table.specs.Refusal.{Verdict, refused, fine, unlessAt, next}
 use Rattle.table.specs.Tree.{Kind, Forest, end, leaf, inner, isEnd, isChance, run, weigh, nodesWhere, childless, unbalanced}
 use Rattle.table.specs.Line.{Step}
 use Rattle.table.specs.Table.{Table, nodeLines, linesOf, tree, complete, greatest, leafLines, summary, answer}
-use Rattle.table.specs.Tree
-use Rattle.table.specs.Slices.{Slices, Spans, slicesOf, heightOf, ends, laid, kindsOf, weightsOf, heightsOf, stopsOf}
+use Rattle.table.specs.Slices.{Slices, Spans, slicesOf, heightOf, heightTree, ends, laid, kindsOf, weightsOf, heightsOf, stopsOf}
 use Rattle.table.specs.Inside.{Gathered, reach, endsFrom, scanFrom, firstOr, bareAt, oddAt, Has, summaryOf, refuseAt, completeAt, Decoded}
 use Rattle.table.proofs.Scan.{spans-le, scan-below, spans-where, bare-tests, odd-tests}
 use Rattle.table.proofs.Reach.{ends-length}
-use Rattle.table.proofs.Runs.{size, Numbered, flat-length, regrow-root}
-use Rattle.table.proofs.Grown.{Whole, whole, lines-counted, lines-first, next-fine}
-use Rattle.table.proofs.Heights.{mapForest, map-end, map-weigh, above}
-use Rattle.table.proofs.Spans.{spans-root}
+use Rattle.table.proofs.Grown.{lines-counted, lines-first, next-fine}
+use Rattle.table.proofs.Heights.{mapForest, map-end, map-weigh, above, heights-map}
+use Rattle.table.proofs.Known.{read-length, read-spans}
 
 -- ---- what the node lines left
 
@@ -175,33 +173,14 @@ module _ (h : Head) (n : ℕ) (s : List ℕ) (ls : List Line) (e : nodeLines h n
   abbrev t : Table
   t = record { head = h; lines = ls }
 
-  abbrev W : Whole h ls
-  W = whole h n s ls some e
-
   counted : length ls ≡ n
-  counted = lines-counted h n 0 [] s ls e .0
-
-  pub few : greatest ls ≤ 4
-  few = lines-counted h n 0 [] s ls e .1
-
-  sized : size (W .tree) ≡ n
-  sized = sym (flat-length 0 0 (W .tree)) ∙ ap length (W .lines) ∙ counted
-
-  tree-is : tree t ≡ W .tree
-  tree-is = ap (forest-of (length ls)) (sym (W .lines)) ∙ regrow-root (length ls) (W .tree) (W .numbered) (W .rooted) (omega (arith, sized, counted))
-    where
-      forest-of : ℕ → List Line → Forest ℤ
-      forest-of k xs = Rattle.table.specs.Tree.forest (λ (l : Line). l .utility) k xs
+  counted = read-length t n s e
 
   module _ (k st w g k′ st′ w′ g′ : List ℕ) (pk : k′ ≡ laid (kindsOf t) k) (ps : st′ ≡ laid (stopsOf t) st) (pw : w′ ≡ laid (weightsOf t) w) (pg : g′ ≡ laid (heightsOf t) g) where
     abbrev S : Slices
     S = record { kinds = k′; stops = st′; weights = w′; heights = g′ }
 
-    shown : Forest ℕ
-    shown = mapForest (above (h .lowest)) (W .tree)
-
-    spans : Spans S 0 n shown
-    unfolding shown
+    spans : Spans S 0 n (heightTree t)
     spans =
         spans-same (slicesOf t) S n
         (λ i l.
@@ -209,27 +188,25 @@ module _ (h : Head) (n : ℕ) (s : List ℕ) (ls : List Line) (e : nodeLines h n
           laid-at (stopsOf t) st st′ n i ps (ends-long ls ∙ counted) l,
           laid-at (weightsOf t) w w′ n i pw (length-map ls (λ (l : Line). l .weight) ∙ counted) l,
           laid-at (heightsOf t) g g′ n i pg (length-map ls (heightOf (h .lowest)) ∙ counted) l))
-        0 n shown (omega arith) (subst (λ (m : ℕ). Spans (slicesOf t) 0 m shown) sized (spans-root t (W .tree) (W .lines) (W .numbered) (W .rooted)))
+        0 n (heightTree t) (omega arith) (subst (λ (m : ℕ). Spans (slicesOf t) 0 m (heightTree t)) counted (read-spans t n s e some))
 
     pub has : Has k′ st′ w′ 0 n
-    has = record { heights = g′; forest = shown; spans = spans }
+    has = record { heights = g′; forest = heightTree t; spans = spans }
 
     found-bare : scanFrom (bareAt k′ st′) 0 n ≡ childless (tree t)
-    unfolding shown
     found-bare =
         let z : n - 0 ≡ n = omega arith in
-        sym (rw z at (spans-where S _ (bareAt k′ st′) n (bare-tests S n) 0 n shown (omega arith) spans))
-        ∙ where-map (above (h .lowest)) (λ (k : Kind) (f : Forest ℤ). isEnd f) (λ (k : Kind) (f : Forest ℕ). isEnd f) (λ k f. map-end (above (h .lowest)) f) (W .tree)
-        ∙ ap childless (sym tree-is)
+        sym (rw z at (spans-where S _ (bareAt k′ st′) n (bare-tests S n) 0 n (heightTree t) (omega arith) spans))
+        ∙ ap childless (heights-map t)
+        ∙ where-map (above (h .lowest)) (λ (k : Kind) (f : Forest ℤ). isEnd f) (λ (k : Kind) (f : Forest ℕ). isEnd f) (λ k f. map-end (above (h .lowest)) f) (tree t)
 
     found-odd : n ≤ 1024 → scanFrom (oddAt k′ st′ w′ (h .total)) 0 n ≡ unbalanced (h .total) (tree t)
-    unfolding shown
     found-odd small =
         let z : n - 0 ≡ n = omega arith in
-        sym (rw z at (spans-where S _ (oddAt k′ st′ w′ (h .total)) n (odd-tests S (h .total) n small) 0 n shown (omega arith) spans))
+        sym (rw z at (spans-where S _ (oddAt k′ st′ w′ (h .total)) n (odd-tests S (h .total) n small) 0 n (heightTree t) (omega arith) spans))
+        ∙ ap (unbalanced (h .total)) (heights-map t)
         ∙ where-map (above (h .lowest)) (λ (k : Kind) (f : Forest ℤ). isChance k && not (eqb (weigh f) (h .total))) (λ (k : Kind) (f : Forest ℕ). isChance k && not (eqb (weigh f) (h .total)))
-        (λ k f. ap (λ (x : ℕ). isChance k && not (eqb x (h .total))) (map-weigh (above (h .lowest)) f)) (W .tree)
-        ∙ ap (unbalanced (h .total)) (sym tree-is)
+        (λ k f. ap (λ (x : ℕ). isChance k && not (eqb x (h .total))) (map-weigh (above (h .lowest)) f)) (tree t)
 
     module _ (small : n ≤ 1024) (most leaves : ℕ) (pm : most ≡ greatest ls) (pl : leaves ≡ leafLines ls) where
       complete-is : completeAt k′ st′ w′ n h most leaves ≡ answer (complete t)

@@ -31,7 +31,8 @@ module _ {A B : Type 0} where
   next-fine (refused r) f b e = fine-refused r b e
   next-fine (fine a) f b e = (a, refl, e)
 
-prefix-fine : (done : List Line) (v : Verdict (List Line)) (ls : List Line) → prefix done v ≡ fine ls → (rest : List Line) × (v ≡ fine rest) × (ls ≡ done ++ rest)
+prefix-fine : (done : List Line) (v : Verdict (List Line)) (ls : List Line) → prefix done v ≡ fine ls
+    → (rest : List Line) × (v ≡ fine rest) × (ls ≡ done ++ rest)
 prefix-fine done (refused r) ls e = fine-refused r ls e
 prefix-fine done (fine rest) ls e = (rest, refl, cc)
 
@@ -66,7 +67,8 @@ module _ (h : Head) where
       }
 
   -- how many lines there are, and how many C on each path
-  pub lines-counted : (n i : ℕ) (P : List Step) (s : List ℕ) (ls : List Line) → nodeLines h n i P s ≡ fine ls → (length ls ≡ n) × (greatest ls ≤ 4)
+  pub lines-counted : (n i : ℕ) (P : List Step) (s : List ℕ) (ls : List Line) → nodeLines h n i P s ≡ fine ls
+      → (length ls ≡ n) × (greatest ls ≤ 4)
   unfolding nodeLines greatest
   lines-counted zero i P s ls e =
       let f : [] ≡ ls = cc in
@@ -82,6 +84,7 @@ falling-more : (a b : ℕ) (P : List Step) → a ≤ b → Falling a P → Falli
 falling-more a b [] h f = tt
 falling-more a b (s ∷ P) h f = (le-trans (f .0) h, f .1)
 
+-- a kind's number is that of a leaf or of an inner kind
 data Coded (n : ℕ) : Type 0 where
   coded-leaf : n ≡ 0 → Coded n
   coded-inner : (k : Kind) → n ≡ codeOf k → Coded n
@@ -93,6 +96,7 @@ coded (suc (suc zero)) h = coded-inner MIN refl
 coded (suc (suc (suc zero))) h = coded-inner CHANCE refl
 coded (suc (suc (suc (suc n)))) h = absurd (omega arith)
 
+-- the number of the last step, and whether it is a leaf
 abbrev nodeOf : List Step → ℕ
 nodeOf [] = 0
 nodeOf (s ∷ P) = s .node
@@ -107,12 +111,13 @@ restOf end = end
 restOf (leaf n w v rest) = rest
 restOf (inner n w k under rest) = rest
 
-line-is : (l : Line) (n k p w : ℕ) (z : ℤ) (c : ℕ) → l .node ≡ n → l .kind ≡ k → l .parent ≡ p → l .weight ≡ w → l .utility ≡ z → l .chances ≡ c
+line-is : (l : Line) (n k p w : ℕ) (z : ℤ) (c : ℕ)
+    → l .node ≡ n → l .kind ≡ k → l .parent ≡ p → l .weight ≡ w → l .utility ≡ z → l .chances ≡ c
     → record { node = n; kind = k; parent = p; weight = w; utility = z; chances = c } ≡ l
 line-is l n k p w z c a b d e f g = sym (λ j. record { node = a j; kind = b j; parent = d j; weight = e j; utility = f j; chances = g j })
 
 module _ (h : Head) (K : ℕ) where
-  -- T stands below the path P, numbered from i on
+  -- the nodes T below the last step of the path P, numbered from i on; a leaf has none
   record Grown (P : List Step) (i : ℕ) (T : Forest ℤ) : Type 0 where
     numbered : Numbered i T
     proper : Proper (h .total) K (Within h) (length P) (chancesOf P) (atChance P) T
@@ -132,19 +137,24 @@ module _ (h : Head) (K : ℕ) where
     large : size top ≡ suc (size U + size T)
     last : restOf top ≡ T
 
-  topped : (i : ℕ) (R P : List Step) (p : Placed) (U T : Forest ℤ) → Read h i R P p → p .line .parent ≡ nodeOf P → atLeaf P ≡ false → p .line .chances ≤ K
+  topped : (i : ℕ) (R P : List Step) (p : Placed) (U T : Forest ℤ) → Read h i R P p
+      → p .line .parent ≡ nodeOf P → atLeaf P ≡ false → p .line .chances ≤ K
       → Grown (stepped i (p .line .kind) P) (suc i) U → Grown P (suc i + size U) T → Topped P i (p .line) U T
   unfolding flat
   topped i R P p U T r parent open-step few g f = go (coded (l .kind) (r .kind))
     where
       l : Line
       l = p .line
+
       below : (T : Forest ℤ) → atLeaf P ≡ true → T ≡ end
       below T e = absurd (true-ne-false (sym e ∙ open-step))
+
       short : length P < 64
       short = rw (ap length (r .steps)) at (r .short)
+
       chances : l .chances ≡ chancesOf P + cond (eqb (l .kind) 3) 1 0
       chances = r .chances ∙ ap chancesOf (r .steps)
+
       go : Coded (l .kind) → Topped P i l U T
       go (coded-leaf e) =
           let b : U ≡ end = g .barren (rw e) in
@@ -164,6 +174,7 @@ module _ (h : Head) (K : ℕ) where
           }
       go (coded-inner k e) =
           let c : l .chances ≡ chancesOf P + one k = chances ∙ rw (e, code-chance) in
+          let z : l .utility ≡ pos 0 = rw (e, code-inner k) at (r .utility) in
           let top : Forest ℤ = inner i (l .weight) k U T in
           record {
             top = top;
@@ -172,8 +183,7 @@ module _ (h : Head) (K : ℕ) where
               proper = (r .weight, short, omega (arith, c, few), rw (e, code-chance) at (g .proper), f .proper);
               barren = below top;
             };
-            lines = ap₂ _∷_ (line-is l i (codeOf k) (nodeOf P) (l .weight) (pos 0) (chancesOf P + one k) (r .node) e parent refl (rw (e, code-inner k) at (r .utility)) c)
-                (rw (e, code-chance));
+            lines = ap₂ _∷_ (line-is l i (codeOf k) (nodeOf P) (l .weight) (pos 0) (chancesOf P + one k) (r .node) e parent refl z c) (rw (e, code-chance));
             large = refl;
             last = refl;
           }
@@ -188,6 +198,7 @@ module _ (h : Head) (K : ℕ) where
   stacked-none [] i = refl
   stacked-none (s ∷ P) i = (end, grown-none (s ∷ P) i, [], refl, stacked-none P (i + 0))
 
+  -- nodes below a step further up stand behind none below the steps passed
   stacked-climb : (p i : ℕ) (R Q : List Step) (ls : List Line) → climb p R ≡ path Q → Stacked i Q ls → Stacked i R ls
   unfolding climb flat
   stacked-climb p i [] Q ls e S = path-wrong Q e
@@ -202,18 +213,17 @@ module _ (h : Head) (K : ℕ) where
   stacked-line : (i : ℕ) (R Q : List Step) (p : Placed) (ls : List Line) → Read h i R Q p → Headed (p .line .parent) Q → p .line .chances ≤ K
       → Stacked (suc i) (stepped i (p .line .kind) Q) ls → Stacked i Q (p .line ∷ ls)
   stacked-line i R [] p ls r d few S = absurd d
-  stacked-line i R (q ∷ Q) p ls r d few (U, g, rest, e, (T, f, rest2, e2, more)) =
-      let t = topped i R (q ∷ Q) p U T r (sym (d .0)) (d .1) few g f in
-      (
+  stacked-line i R (q ∷ Q) p ls r d few (U, g, rest, e, (T, f, rest′, e′, more)) =
+      let t = topped i R (q ∷ Q) p U T r (sym (d .0)) (d .1) few g f in (
         t .top,
         t .grown,
-        rest2,
-        rw (t .lines, append-assoc) (ap (λ (x : List Line). p .line ∷ x) (e ∙ rw e2)),
-        subst (λ (n : ℕ). Stacked n Q rest2) (omega (arith, t .large)) more
+        rest′,
+        rw (t .lines, append-assoc) (ap (λ (x : List Line). p .line ∷ x) (e ∙ rw e′)),
+        subst (λ (n : ℕ). Stacked n Q rest′) (omega (arith, t .large)) more,
       )
 
-  stacked : (n i : ℕ) (s : Step) (R : List Step) (t : List ℕ) (ls : List Line) → Falling i (s ∷ R) → greatest ls ≤ K → nodeLines h n i (s ∷ R) t ≡ fine ls
-      → Stacked i (s ∷ R) ls
+  stacked : (n i : ℕ) (s : Step) (R : List Step) (t : List ℕ) (ls : List Line) → Falling i (s ∷ R) → greatest ls ≤ K
+      → nodeLines h n i (s ∷ R) t ≡ fine ls → Stacked i (s ∷ R) ls
   unfolding nodeLines greatest
   stacked zero i s R t ls f g e =
       let z : [] ≡ ls = cc in
@@ -224,8 +234,9 @@ module _ (h : Head) (K : ℕ) where
       let P = F .above in
       let C = climbed (p .line .parent) i (s ∷ R) P f (F .read .climbs) in
       let m : max (p .line .chances) (greatest (F .rest)) ≤ K = rw (F .lines) at g in
-      let S = stacked n (suc i) (record { node = i; kind = p .line .kind; chances = chancesOf P + cond (eqb (p .line .kind) 3) 1 0 }) P (drop 25 t) (F .rest)
-          (omega arith, falling-more (suc (p .line .parent)) i P (C .below) (C .falls)) (omega arith) (rw (F .read .steps) at (F .more)) in
+      let here : Step = record { node = i; kind = p .line .kind; chances = chancesOf P + cond (eqb (p .line .kind) 3) 1 0 } in
+      let falls : Falling (suc i) (here ∷ P) = (omega arith, falling-more (suc (p .line .parent)) i P (C .below) (C .falls)) in
+      let S = stacked n (suc i) here P (drop 25 t) (F .rest) falls (omega arith) (rw (F .read .steps) at (F .more)) in
       rw (F .lines) (stacked-climb (p .line .parent) i (s ∷ R) P (p .line ∷ F .rest) (F .read .climbs)
       (stacked-line i (s ∷ R) P p (F .rest) (F .read) (C .headed) (omega arith) S))
 
@@ -266,6 +277,7 @@ module _ (h : Head) where
       let F = lines-first h n 0 [] t ls e in
       let p = F .placed in
       let r : Read h 0 [] [] p = subst (λ (Q : List Step). Read h 0 [] Q p) (F .read .climbs .1) (F .read) in
-      rw (F .lines) (whole-of p (F .rest) r (omega arith)
-      (stacked h (greatest (p .line ∷ F .rest)) n 1 (record { node = 0; kind = p .line .kind; chances = 0 + cond (eqb (p .line .kind) 3) 1 0 }) [] (drop 25 t) (F .rest)
-      (omega arith, tt) (omega arith) (rw (r .steps) at (F .more))))
+      let K : ℕ = greatest (p .line ∷ F .rest) in
+      let here : Step = record { node = 0; kind = p .line .kind; chances = 0 + cond (eqb (p .line .kind) 3) 1 0 } in
+      let S = stacked h K n 1 here [] (drop 25 t) (F .rest) (omega arith, tt) (omega arith) (rw (r .steps) at (F .more)) in
+      rw (F .lines) (whole-of p (F .rest) r (omega arith) S)

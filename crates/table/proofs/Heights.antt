@@ -5,15 +5,16 @@ use mathlib.Core.Bool.{Bool, true, false, cond}
 use mathlib.Core.List.{List, [], _∷_}
 use native.Mathlib.Omega.{arith}
 use borrow.Author.Tests.{ltb-false, le-ltb}
+use lib.ListN.{length}
 use lib.Dec.{eqb}
 use lib.IntN.{ℤ, pos, negsuc, subℕ, _+ℤ_, _-ℤ_, +ℤ-comm, -ℤ-+ℤ-cancel}
 use lib.Signed.{ltZ}
-use Rattle.table.specs.declared.Head.{Head}
 use Rattle.table.specs.declared.Line.{Line}
 use Rattle.table.specs.Tree.{Forest, end, leaf, inner, isChance, isEnd, kindOf, run, after, forest, weigh, leaves}
 use Rattle.table.specs.Line.{toNat}
-use Rattle.table.specs.Slices.{heightOf}
-use Rattle.table.specs.Accepted.{Within, one, Filled, Balanced, Proper, Rooted}
+use Rattle.table.specs.Table.{Table, tree}
+use Rattle.table.specs.Slices.{heightOf, heightTree}
+use Rattle.table.specs.Accepted.{one, Filled, Balanced, Proper, Rooted}
 use Rattle.table.proofs.Signs.{true-ne-false}
 
 -- ---- differences of integers
@@ -108,7 +109,8 @@ module _ (lo : ℤ) where
   above z = toNat (z -ℤ lo)
 
   grow-map : (l : Line) (b : Bool) (U T : Forest ℤ)
-      → cond b (leaf (l .node) (l .weight) (cond b (above (l .utility)) 0) (mapForest above T)) (inner (l .node) (l .weight) (kindOf (l .kind)) (mapForest above U) (mapForest above T))
+      → cond b (leaf (l .node) (l .weight) (cond b (above (l .utility)) 0) (mapForest above T))
+      (inner (l .node) (l .weight) (kindOf (l .kind)) (mapForest above U) (mapForest above T))
       ≡ mapForest above (cond b (leaf (l .node) (l .weight) (l .utility) T) (inner (l .node) (l .weight) (kindOf (l .kind)) U T))
   grow-map l true U T = refl
   grow-map l false U T = refl
@@ -118,9 +120,10 @@ module _ (lo : ℤ) where
   heights-forest zero ls = refl
   heights-forest (suc k) [] = refl
   heights-forest (suc k) (l ∷ ls) =
-      rw (heights-forest k (run (l .node) ls), heights-forest k (after (l .node) ls))
-      (grow-map l (eqb (l .kind) 0) (forest (λ (l : Line). l .utility) k (run (l .node) ls)) (forest (λ (l : Line). l .utility) k (after (l .node) ls)))
+      let under : Forest ℤ = forest (λ (l : Line). l .utility) k (run (l .node) ls) in
+      let rest : Forest ℤ = forest (λ (l : Line). l .utility) k (after (l .node) ls) in
+      rw (heights-forest k (run (l .node) ls), heights-forest k (after (l .node) ls)) (grow-map l (eqb (l .kind) 0) under rest)
 
--- a leaf's utility from its height
-pub whole-height : (h : Head) (l : Line) → Within h (l .utility) → l .kind ≡ 0 → h .lowest +ℤ pos (heightOf (h .lowest) l) ≡ l .utility
-whole-height h l w e = rw e (height-back (h .lowest) (l .utility) (w .0))
+-- for every table, accepted or not
+pub heights-map : (t : Table) → heightTree t ≡ mapForest (above (t .head .lowest)) (tree t)
+heights-map t = heights-forest (t .head .lowest) (length (t .lines)) (t .lines)

@@ -12,3 +12,5 @@ pub mod Grown
 pub mod Heights
 pub mod Spans
 pub mod Complete
+pub mod Known
+pub mod Accepted

@@ -105,7 +105,7 @@ module _ (n : ℕ) where
         append-assoc (flat m (c + one k) under) (flat p c rest) ls,
         run-flat m (c + one k) (suc i) under (flat p c rest ++ ls) (omega (arith, N .0)) (omega arith) (N .1),
         run-flat p c (suc i + size under) rest ls h (omega arith) (N .2),
-        append-assoc
+        append-assoc,
       )
 
   after-flat : (p c i : ℕ) (T : Forest ℤ) (ls : List Line) → n ≤ p → n ≤ i → Numbered i T → after n (flat p c T ++ ls) ≡ after n ls
@@ -117,7 +117,7 @@ module _ (n : ℕ) where
         le-leb n p h,
         append-assoc (flat m (c + one k) under) (flat p c rest) ls,
         after-flat m (c + one k) (suc i) under (flat p c rest ++ ls) (omega (arith, N .0)) (omega arith) (N .1),
-        after-flat p c (suc i + size under) rest ls h (omega arith) (N .2)
+        after-flat p c (suc i + size under) rest ls h (omega arith) (N .2),
       )
 
 -- the nodes under n, with other lines behind them

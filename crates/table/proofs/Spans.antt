@@ -53,18 +53,17 @@ module _ (t : Table) where
   unfolding flat Spans
   spans-leaf p c n w e v rest tail d o f =
       let l : Line = record { node = n; kind = 0; parent = p; weight = w; utility = v; chances = c } in
-      let ls : List Line = flat p c rest ++ tail in
-      (
+      let ls : List Line = flat p c rest ++ tail in (
         refl,
         map-at l ls (λ (l : Line). l .kind) (t .lines) n d,
         ends-at l ls (t .lines) n d ∙ rw (run-outside n ls o) (omega arith),
         map-at l ls (λ (l : Line). l .weight) (t .lines) n d,
         map-at l ls (heightOf (t .head .lowest)) (t .lines) n d,
-        f (drop-on (t .lines) n (l ∷ []) ls d)
+        f (drop-on (t .lines) n (l ∷ []) ls d),
       )
 
-  spans-inner : (p c n w e : ℕ) (k : Kind) (under rest : Forest ℤ) (tail : List Line) → Stands n p c (inner n w k under rest) tail → Numbered (suc n) under
-      → Outside n (flat p c rest ++ tail)
+  spans-inner : (p c n w e : ℕ) (k : Kind) (under rest : Forest ℤ) (tail : List Line) → Stands n p c (inner n w k under rest) tail
+      → Numbered (suc n) under → Outside n (flat p c rest ++ tail)
       → (Stands (n + 1) n (c + one k) under (flat p c rest ++ tail) → Spans (slicesOf t) (n + 1) (n + 1 + size under) (shown under))
       → (Stands (n + 1 + size under) p c rest tail → Spans (slicesOf t) (n + 1 + size under) e (shown rest))
       → Spans (slicesOf t) n e (shown (inner n w k under rest))
@@ -82,7 +81,7 @@ module _ (t : Table) where
         map-at l ls (λ (l : Line). l .kind) (t .lines) n d′,
         map-at l ls (λ (l : Line). l .weight) (t .lines) n d′,
         f on,
-        g (rw long at (drop-on (t .lines) (n + 1) (flat n (c + one k) under) more on))
+        g (rw long at (drop-on (t .lines) (n + 1) (flat n (c + one k) under) more on)),
       )
 
   spans : (p c i e : ℕ) (T : Forest ℤ) (tail : List Line) → Stands i p c T tail → Numbered i T → p < i → Outside i tail → e ≡ i + size T
@@ -100,8 +99,9 @@ module _ (t : Table) where
       let m = flat-outside n p c rest tail (omega arith) (rw a at o) in
       rw a (spans-inner p c n w e k under rest tail (rw a at d) (rw a at (N .1)) m
       (λ x. spans n (c + one k) (n + 1) (n + 1 + size under) under (flat p c rest ++ tail) x (rw b at (N .1)) (omega arith)
-          (outside-more n (n + 1) (flat p c rest ++ tail) (omega arith) m) refl)
-      (λ x. spans p c (n + 1 + size under) e rest tail x (rw b at (N .2)) (omega arith) (outside-more i (n + 1 + size under) tail (omega arith) o) (omega arith)))
+      (outside-more n (n + 1) (flat p c rest ++ tail) (omega arith) m) refl)
+      (λ x. spans p c (n + 1 + size under) e rest tail x (rw b at (N .2)) (omega arith)
+      (outside-more i (n + 1 + size under) tail (omega arith) o) (omega arith)))
 
   -- from the root
   pub spans-root : (T : Forest ℤ) → flat 0 0 T ≡ t .lines → Numbered 0 T → Rooted T → Spans (slicesOf t) 0 (size T) (shown T)

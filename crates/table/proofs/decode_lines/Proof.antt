@@ -11,7 +11,8 @@ use Rattle.table.specs.Refusal.{Verdict, refused, fine}
 use Rattle.table.specs.Table.{nodeLines, linesOf}
 use Rattle.table.specs.Slices.{ends, laid}
 use Rattle.table.specs.Inside.{Gathered}
-use Rattle.table.proofs.Complete.{Lined, gathered-lined, gathered-refusal, stops-are, few, has, decoded-all}
+use Rattle.table.proofs.Complete.{Lined, gathered-lined, gathered-refusal, stops-are, has, decoded-all}
+use Rattle.table.proofs.Grown.{lines-counted}
 use Rattle.table.proofs.Top.{decoded-refused}
 use borrow.Author.Needs.{needs}
 use Rattle.table.proofs.decode_lines.Statement.{statement}
@@ -101,7 +102,7 @@ completed-requires c κs =
       omega (arith, N .node-lines .kept .1 .1 .1 .1 .1 .0, p .0 .weights, p .2),
       p .2,
       p .4 .total,
-      rw (L .most-is) (few (a .h) (a .n) (drop 25 (now (a .text))) (L .lines) (L .verdict) (p .1)),
+      rw (L .most-is) (lines-counted (a .h) (a .n) 0 [] (drop 25 (now (a .text))) (L .lines) (L .verdict) .1),
       has (a .h) (a .n) (drop 25 (now (a .text))) (L .lines) (L .verdict) (p .1) (now (a .kind)) (now (a .stop)) (now (a .weight)) (now (a .height)) (N .node-lines .last .1 .1 .1 .0) (S .stops .last .1 .1 .0) (N .node-lines .last .1 .1 .1 .1 .1 .0) (N .node-lines .last .1 .1 .1 .1 .1 .1 .0) (L .kinds) (stopped S) (L .weights) (L .heights),
     )
 

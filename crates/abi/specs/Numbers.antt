@@ -1,0 +1,33 @@
+-- Answers as numbers, for callers in other languages.
+use Prim.Native.Nat.{ℕ, zero, suc, _<_, _^_}
+use mathlib.Core.List.{List, [], _∷_}
+use lib.ListN.{set}
+use lib.IntN.{ℤ, pos}
+use Rattle.table.specs.declared.Summary.{Summary}
+use Rattle.table.specs.declared.Reading.{Reading}
+use Rattle.table.specs.declared.Reading.the-variants.{Accepted, Refused}
+use Rattle.table.specs.Refusal.{numberOf, lineOf}
+
+-- 0, or document 01's number of the refusal
+abbrev pub codeOf : Reading → ℕ
+codeOf (Accepted t) = 0
+codeOf (Refused r) = numberOf r
+
+-- the table's numbers, or the refusal's line
+abbrev pub numbersOf : Reading → List ℤ
+numbersOf (Accepted t) =
+    pos (t .nodes) ∷ pos (t .total) ∷ t .lowest ∷ t .highest ∷ pos (t .chances) ∷ pos (t .grain) ∷ pos (t .leaves) ∷ []
+numbersOf (Refused r) = pos (lineOf r) ∷ []
+
+-- the list l with xs written from its entry i on, as far as it goes
+abbrev pub put : ℕ → List ℤ → List ℤ → List ℤ
+put i [] l = l
+put i (x ∷ xs) l = put (suc i) xs (set l i x)
+
+-- a table's counts fit a signed number
+pub record Small (t : Summary) : Type 0 where
+  pub nodes : t .nodes < 2 ^ 63
+  pub total : t .total < 2 ^ 63
+  pub chances : t .chances < 2 ^ 63
+  pub grain : t .grain < 2 ^ 63
+  pub leaves : t .leaves < 2 ^ 63

@@ -1,0 +1,76 @@
+// The calls for programs in C and Rust. Each writes its answer's numbers into a slice of the caller's, as many as it has room for, and
+// returns 0 or the number of a refusal.
+ghost use mathlib.Core.Path.{_≡_};
+ghost use Prim.Native.Nat.{_<_, _≤_, _^_};
+ghost use lib.ListN.{set};
+ghost use lib.IntN.{pos};
+ghost use Rattle.table.specs.Table.{readText, answer};
+ghost use Rattle.table.specs.Slices.{fitted, kindsOf, stopsOf, weightsOf, heightsOf, decoded};
+ghost use Rattle.abi.specs.Numbers.{codeOf, numbersOf, put, Small};
+use table::Reading;
+use table::Refusal;
+use table::Summary;
+
+fn put_at(numbers: &mut [i64], i: usize, z: i64)
+    ensures { λ _. ⌜ now (numbers .exit) ≡ set (now (numbers .entry)) i z ⌝ }
+{
+    if i < numbers.len() {
+        numbers[i] = z;
+    }
+}
+
+fn signed(n: u64) -> i64
+    requires { ⌜ n < 2 ^ 63 ⌝ }
+    ensures { λ r. ⌜ r ≡ pos n ⌝ }
+{
+    n as i64
+}
+
+fn put_table(t: Summary, numbers: &mut [i64])
+    requires { ⌜ Small t ⌝ }
+    ensures { λ _. ⌜ now (numbers .exit) ≡ put 0 (numbersOf (Reading.Accepted t)) (now (numbers .entry)) ⌝ }
+{
+    put_at(numbers, 0, signed(t.nodes as u64));
+    put_at(numbers, 1, signed(t.total));
+    put_at(numbers, 2, t.lowest);
+    put_at(numbers, 3, t.highest);
+    put_at(numbers, 4, signed(t.chances));
+    put_at(numbers, 5, signed(t.grain));
+    put_at(numbers, 6, signed(t.leaves as u64));
+}
+
+fn put_line(r: Refusal, numbers: &mut [i64])
+    ensures { λ _. ⌜ now (numbers .exit) ≡ put 0 (numbersOf (Reading.Refused r)) (now (numbers .entry)) ⌝ }
+{
+    put_at(numbers, 0, signed(table::refusal_line(r) as u64));
+}
+
+// An accepted table: its numbers of nodes, T, the lowest and the highest end, K, G and its number of leaves go to `numbers`, and its
+// nodes to the four slices, as `table::read` has them. A refused one: its line goes to `numbers`, and nothing else is written.
+#[no_mangle]
+pub extern "C" fn margin_read(
+    text: &[u8],
+    numbers: &mut [i64],
+    kind: &mut [u8],
+    stop: &mut [u16],
+    weight: &mut [u8],
+    height: &mut [u32],
+) -> u64
+    ensures code { λ r. ⌜ r ≡ codeOf (answer (readText (now (text .entry)))) ⌝ }
+    ensures numbers { λ _. ⌜ now (numbers .exit) ≡ put 0 (numbersOf (answer (readText (now (text .entry))))) (now (numbers .entry)) ⌝ }
+    ensures kinds { λ _. ⌜ now (kind .exit) ≡ fitted (decoded kindsOf (readText (now (text .entry)))) (now (kind .entry)) ⌝ }
+    ensures stops { λ _. ⌜ now (stop .exit) ≡ fitted (decoded stopsOf (readText (now (text .entry)))) (now (stop .entry)) ⌝ }
+    ensures weights { λ _. ⌜ now (weight .exit) ≡ fitted (decoded weightsOf (readText (now (text .entry)))) (now (weight .entry)) ⌝ }
+    ensures heights { λ _. ⌜ now (height .exit) ≡ fitted (decoded heightsOf (readText (now (text .entry)))) (now (height .entry)) ⌝ }
+{
+    match table::read(text, kind, stop, weight, height) {
+        Reading::Refused(r) => {
+            put_line(r, numbers);
+            table::refusal_number(r)
+        }
+        Reading::Accepted(t) => {
+            put_table(t, numbers);
+            0
+        }
+    }
+}

@@ -1,0 +1,174 @@
+-- What holds of every accepted table: its header, its size, its lines as one tree, and the decoded slices. Assumes nothing.
+use Prim.Native.Nat.{ℕ, _+_, _*_, _%_, _≤_, _<_}
+use mathlib.Core.Path.{_≡_, refl, sym, ap, subst, _∙_}
+use mathlib.Core.Bool.{Bool, true, false, not, _&&_, cond}
+use mathlib.Core.List.{List, [], _∷_, _++_, append-eq-nil-iff}
+use native.Mathlib.Omega.{arith}
+use borrow.Author.Tests.{eqb-true, ltb-false, not-false}
+use lib.ListN.{length, getD, take, drop}
+use lib.Dec.{eqb, ltb}
+use lib.IntN.{pos, _+ℤ_}
+use Rattle.table.specs.declared.Head.{Head}
+use Rattle.table.specs.declared.Line.{Line}
+use Rattle.table.specs.declared.Refusal.{Refusal}
+use Rattle.table.specs.declared.Refusal.the-variants.{Length, Childless, WrongSum}
+use Rattle.table.specs.Refusal.{Verdict, refused, fine, unlessAt, next}
+use Rattle.table.specs.Tree.{Kind, Forest, end, leaf, inner, isChance, isEnd, weigh, nodesWhere, childless, unbalanced, leaves}
+use Rattle.table.specs.Line.{header, headingOf}
+use Rattle.table.specs.Table.{Table, badLength, nodeLines, tree, complete, count, readText, greatest, leafLines}
+use Rattle.table.specs.Slices.{heightOf, Spans, heightTree, slicesOf}
+use Rattle.table.specs.Inside.{Ranged}
+use Rattle.table.specs.Accepted.{span, Within, flat, Sums, Filled, Balanced, Proper, Rooted}
+use Rattle.table.proofs.Signs.{true-ne-false}
+use Rattle.table.proofs.Fine.{nor9, header-ranged}
+use Rattle.table.proofs.Grown.{fine-refused, next-fine}
+use Rattle.table.proofs.Heights.{above, height-back, height-span, map-leaves, map-filled, map-balanced, map-rooted, map-proper, heights-map}
+use Rattle.table.proofs.Known.{read-length, read-few, read-flat, read-rooted, read-proper, read-leaves, read-spans}
+
+-- ---- nodes without a child, and sums
+
+flagged : (b : Bool) (n : ℕ) (x y : List ℕ) → cond b (n ∷ []) [] ++ (x ++ y) ≡ [] → (b ≡ false) × (x ≡ []) × (y ≡ [])
+flagged true n x y e = let z : _≡_ {A = ℕ} 0 1 = cc in absurd (omega arith)
+flagged false n x y e = let r = append-eq-nil-iff .0 e in (refl, r .0, r .1)
+
+summed : (k : Kind) (T n : ℕ) → (isChance k && not (eqb n T)) ≡ false → Sums k T n
+summed k T n e c = go (isChance k) (eqb n T) c refl e
+  where
+    go : (a b : Bool) → a ≡ true → eqb n T ≡ b → (a && not b) ≡ false → n ≡ T
+    go true true c f e = eqb-true n T f
+    go true false c f e = absurd (true-ne-false e)
+    go false b c f e = absurd (true-ne-false (sym c))
+
+module _ {A : Type 0} where
+  filled : (F : Forest A) → childless F ≡ [] → Filled F
+  unfolding nodesWhere
+  filled end e = tt
+  filled (leaf n w v rest) e = filled rest e
+  filled (inner n w k under rest) e =
+      let r = flagged (isEnd under) n (childless under) (childless rest) e in
+      (r .0, filled under (r .1), filled rest (r .2))
+
+  balanced : (T : ℕ) (F : Forest A) → unbalanced T F ≡ [] → Balanced T F
+  unfolding nodesWhere
+  balanced T end e = tt
+  balanced T (leaf n w v rest) e = balanced T rest e
+  balanced T (inner n w k under rest) e =
+      let r = flagged (isChance k && not (eqb (weigh under) T)) n (unbalanced T under) (unbalanced T rest) e in
+      (summed k T (weigh under) (r .0), balanced T under (r .1), balanced T rest (r .2))
+
+-- ---- what was checked
+
+unlessAt-fine : (gives : ℕ → Refusal) (ns : List ℕ) (a b : Table) → unlessAt gives ns a ≡ fine b → (ns ≡ []) × (a ≡ b)
+unfolding unlessAt
+unlessAt-fine gives [] a b e = (refl, cc)
+unlessAt-fine gives (n ∷ ns) a b e = fine-refused (gives n) b e
+
+record Checked (s : List ℕ) (t : Table) : Type 0 where
+  long : badLength (length s) ≡ false
+  head : header (count s) (take 25 s) ≡ fine (t .head)
+  lines : nodeLines (t .head) (count s) 0 [] (drop 25 s) ≡ fine (t .lines)
+  no-childless : childless (tree t) ≡ []
+  no-unbalanced : unbalanced (t .head .total) (tree t) ≡ []
+
+completed : (a t : Table) → complete a ≡ fine t → (a ≡ t) × (childless (tree t) ≡ []) × (unbalanced (t .head .total) (tree t) ≡ [])
+unfolding complete
+completed a t e =
+    let f : ℕ → Refusal = λ n. Childless (n + 1) in
+    let g : ℕ → Refusal = λ n. WrongSum (n + 1) in
+    let (b, p, q) = next-fine (unlessAt f (childless (tree a)) a) (λ (t : Table). unlessAt g (unbalanced (t .head .total) (tree t)) t) t e in
+    let (c, r) = unlessAt-fine f (childless (tree a)) a b p in
+    let (d, u) = unlessAt-fine g (unbalanced (b .head .total) (tree b)) b t q in (
+      r ∙ u,
+      subst (λ (x : Table). childless (tree x) ≡ []) (r ∙ u) c,
+      subst (λ (x : Table). unbalanced (x .head .total) (tree x) ≡ []) u d,
+    )
+
+checked : (s : List ℕ) (t : Table) → readText s ≡ fine t → Checked s t
+unfolding readText
+checked s t e = go (badLength (length s)) refl e
+  where
+    on : Head → Verdict Table
+    on h = next (nodeLines h (count s) 0 [] (drop 25 s)) (λ (ls : List Line). complete (record { head = h; lines = ls }))
+
+    go : (b : Bool) → badLength (length s) ≡ b → cond b (refused Length) (next (header (count s) (take 25 s)) on) ≡ fine t → Checked s t
+    go true long e = fine-refused Length t e
+    go false long e =
+        let (h, head, f) = next-fine (header (count s) (take 25 s)) on t e in
+        let (ls, lines, g) = next-fine (nodeLines h (count s) 0 [] (drop 25 s)) (λ (ls : List Line). complete (record { head = h; lines = ls })) t f in
+        let (r, c, u) = completed (record { head = h; lines = ls }) t g in
+        record {
+          long = long;
+          head = head ∙ ap (λ (x : Table). fine (x .head)) r;
+          lines = subst (λ (x : Table). nodeLines (x .head) (count s) 0 [] (drop 25 s) ≡ fine (x .lines)) r lines;
+          no-childless = c;
+          no-unbalanced = u;
+        }
+
+counted : (s : List ℕ) (n : ℕ) → badLength (length s) ≡ false → n ≡ count s → (0 < n) × (n ≤ 1024) × (length s ≡ 25 * n + 25)
+counted s n e q =
+    let w = nor9 false false false false false false (not (eqb (length s % 25) 0)) (ltb (length s) 50) (ltb 25625 (length s)) e in
+    let a : length s % 25 ≡ 0 = eqb-true (length s % 25) 0 (not-false (eqb (length s % 25) 0) (w .6)) in
+    let b : 50 ≤ length s = ltb-false (length s) 50 (w .7) in
+    let c : length s ≤ 25625 = ltb-false 25625 (length s) (w .8) in
+    (omega arith, omega arith, omega arith)
+
+-- ---- the theorems
+
+module _ (s : List ℕ) (t : Table) (h : readText s ≡ fine t) where
+  pub accepted-ranged : Ranged (t .head)
+  accepted-ranged = header-ranged (count s) (getD (take 25 s) 24 0) (headingOf (take 25 s)) (t .head) (checked s t h .head)
+
+  pub accepted-size : (0 < length (t .lines)) × (length (t .lines) ≤ 1024) × (length s ≡ 25 * length (t .lines) + 25)
+  accepted-size = counted s (length (t .lines)) (checked s t h .long) (read-length t (count s) (drop 25 s) (checked s t h .lines))
+
+  some : 0 < count s
+  some = counted s (count s) (checked s t h .long) refl .0
+
+  pub accepted-few : greatest (t .lines) ≤ 4
+  accepted-few = read-few t (count s) (drop 25 s) (checked s t h .lines)
+
+  -- the tree written out depth first is the list of lines
+  pub accepted-flat : flat 0 0 (tree t) ≡ t .lines
+  accepted-flat = read-flat t (count s) (drop 25 s) (checked s t h .lines) some
+
+  pub accepted-rooted : Rooted (tree t)
+  accepted-rooted = read-rooted t (count s) (drop 25 s) (checked s t h .lines) some
+
+  pub accepted-proper : Proper (t .head .total) (greatest (t .lines)) (Within (t .head)) 0 0 false (tree t)
+  accepted-proper = read-proper t (count s) (drop 25 s) (checked s t h .lines) some
+
+  pub accepted-filled : Filled (tree t)
+  accepted-filled = filled (tree t) (checked s t h .no-childless)
+
+  pub accepted-balanced : Balanced (t .head .total) (tree t)
+  accepted-balanced = balanced (t .head .total) (tree t) (checked s t h .no-unbalanced)
+
+  pub accepted-leaves : leaves (tree t) ≡ leafLines (t .lines)
+  accepted-leaves = read-leaves t (count s) (drop 25 s) (checked s t h .lines) some
+
+  -- the same of the tree of heights
+
+  pub heights-rooted : Rooted (heightTree t)
+  heights-rooted = rw (heights-map t) (map-rooted (above (t .head .lowest)) (tree t) accepted-rooted)
+
+  pub heights-proper : Proper (t .head .total) (greatest (t .lines)) (λ (x : ℕ). x ≤ span (t .head)) 0 0 false (heightTree t)
+  heights-proper =
+      rw (heights-map t) (map-proper (above (t .head .lowest)) (t .head .total) (greatest (t .lines)) (Within (t .head)) (λ (x : ℕ). x ≤ span (t .head))
+      (λ v w. height-span (t .head .lowest) (t .head .highest) v (w .0) (w .1)) 0 0 false (tree t) accepted-proper)
+
+  pub heights-filled : Filled (heightTree t)
+  heights-filled = rw (heights-map t) (map-filled (above (t .head .lowest)) (tree t) accepted-filled)
+
+  pub heights-balanced : Balanced (t .head .total) (heightTree t)
+  heights-balanced = rw (heights-map t) (map-balanced (above (t .head .lowest)) (t .head .total) (tree t) accepted-balanced)
+
+  pub heights-leaves : leaves (heightTree t) ≡ leafLines (t .lines)
+  heights-leaves = ap leaves (heights-map t) ∙ map-leaves (above (t .head .lowest)) (tree t) ∙ accepted-leaves
+
+  -- the decoded slices hold it
+  pub accepted-spans : Spans (slicesOf t) 0 (length (t .lines)) (heightTree t)
+  accepted-spans = read-spans t (count s) (drop 25 s) (checked s t h .lines) some
+
+-- a leaf's utility from its height
+pub whole-height : (h : Head) (l : Line) → Within h (l .utility) → l .kind ≡ 0 → h .lowest +ℤ pos (heightOf (h .lowest) l) ≡ l .utility
+whole-height h l w e = rw e (height-back (h .lowest) (l .utility) (w .0))
