@@ -1,5 +1,5 @@
 -- What holds of every accepted table: its header, its size, its lines as one tree, and the decoded slices. Assumes nothing.
-use Prim.Native.Nat.{ℕ, _+_, _*_, _%_, _≤_, _<_}
+use Prim.Native.Nat.{ℕ, suc, _+_, _*_, _%_, _≤_, _<_}
 use mathlib.Core.Path.{_≡_, refl, sym, ap, subst, _∙_}
 use mathlib.Core.Bool.{Bool, true, false, not, _&&_, cond}
 use mathlib.Core.List.{List, [], _∷_, _++_, append-eq-nil-iff}
@@ -15,14 +15,15 @@ use Rattle.table.specs.declared.Refusal.the-variants.{Length, Childless,
 use Rattle.table.specs.Refusal.{Verdict, refused, fine, unlessAt, next}
 use Rattle.table.specs.Tree.{Kind, Forest, end, leaf, inner, isChance, isEnd, weigh, nodesWhere, childless, unbalanced, leaves}
 use Rattle.table.specs.Line.{header, headingOf}
-use Rattle.table.specs.Table.{Table, badLength, nodeLines, tree, complete, count, readText, greatest, leafLines}
+use Rattle.table.specs.Table.{Table, badLength, nodeLines, tree, complete, count, readText, greatest, leafLines, grain}
 use Rattle.table.specs.Slices.{heightOf, Spans, heightTree, slicesOf}
 use Rattle.table.specs.Inside.{Ranged}
 use Rattle.table.specs.Accepted.{span, Within, flat, Sums, Filled, Balanced, Proper, Rooted}
 use Rattle.table.proofs.Signs.{true-ne-false}
-use Rattle.table.proofs.Fine.{nor9, header-ranged}
+use Rattle.table.proofs.Fine.{nor9, header-ranged, unlessAt-fine}
 use Rattle.table.proofs.Grown.{fine-refused, next-fine}
 use Rattle.table.proofs.Heights.{above, height-back, height-span, map-leaves, map-filled, map-balanced, map-rooted, map-proper, heights-map}
+use Rattle.table.proofs.Powers.{power-small}
 use Rattle.table.proofs.Known.{read-length, read-few, read-flat, read-rooted, read-proper, read-leaves, read-spans}
 
 -- ---- nodes without a child, and sums
@@ -56,12 +57,16 @@ module _ {A : Type 0} where
       let r = flagged (isChance k && not (eqb (weigh under) T)) n (unbalanced T under) (unbalanced T rest) e in
       (summed k T (weigh under) (r .0), balanced T under (r .1), balanced T rest (r .2))
 
--- ---- what was checked
+few-leaves : (ls : List Line) → leafLines ls ≤ length ls
+unfolding leafLines
+few-leaves [] = omega arith
+few-leaves (l ∷ ls) = go (few-leaves ls) (eqb (l .kind) 0)
+  where
+    go : leafLines ls ≤ length ls → (b : Bool) → cond b 1 0 + leafLines ls ≤ suc (length ls)
+    go ih true = omega arith
+    go ih false = omega arith
 
-unlessAt-fine : (gives : ℕ → Refusal) (ns : List ℕ) (a b : Table) → unlessAt gives ns a ≡ fine b → (ns ≡ []) × (a ≡ b)
-unfolding unlessAt
-unlessAt-fine gives [] a b e = (refl, cc)
-unlessAt-fine gives (n ∷ ns) a b e = fine-refused (gives n) b e
+-- ---- what was checked
 
 record Checked (s : List ℕ) (t : Table) : Type 0 where
   long : badLength (length s) ≡ false
@@ -145,6 +150,13 @@ module _ (s : List ℕ) (t : Table) (h : readText s ≡ fine t) where
 
   pub accepted-leaves : leaves (tree t) ≡ leafLines (t .lines)
   accepted-leaves = read-leaves t (count s) (drop 25 s) (checked s t h .lines) some
+
+  -- the grain count, and how many leaves there are at most
+  pub accepted-grain : grain t ≤ 16777216
+  accepted-grain = power-small (t .head .total) (greatest (t .lines)) (accepted-ranged .total) accepted-few
+
+  pub accepted-leaf-lines : leafLines (t .lines) ≤ length (t .lines)
+  accepted-leaf-lines = few-leaves (t .lines)
 
   -- the same of the tree of heights
 

@@ -28,6 +28,7 @@ use Rattle.table.proofs.Scan.{spans-le, scan-below, spans-where, bare-t
 use Rattle.table.proofs.Reach.{ends-length}
 use Rattle.table.proofs.Grown.{lines-counted, lines-first, next-fine}
 use Rattle.table.proofs.Heights.{mapForest, map-end, map-weigh, above, heights-map}
+use Rattle.table.proofs.Fine.{unlessAt-fine}
 use Rattle.table.proofs.Known.{read-length, read-spans}
 
 -- ---- what the node lines left
@@ -158,16 +159,11 @@ next-fine-same (refused r) a = refl
 next-fine-same (fine t) a = refl
 
 -- a table that is complete is the table
-unless-same : (gives : ℕ → Refusal) (xs : List ℕ) (t t′ : Table) → unlessAt gives xs t ≡ fine t′ → t′ ≡ t
-unfolding unlessAt
-unless-same gives [] t t′ e = cc
-unless-same gives (x ∷ xs) t t′ e = let z : _≡_ {A = ℕ} 0 1 = cc in absurd (omega arith)
-
 complete-same : (t t′ : Table) → complete t ≡ fine t′ → t′ ≡ t
 unfolding complete
 complete-same t t′ e =
     let (u, p, q) = next-fine (unlessAt (λ (n : ℕ). Childless (n + 1)) (childless (tree t)) t) (λ (t : Table). unlessAt (λ (n : ℕ). WrongSum (n + 1)) (unbalanced (t .head .total) (tree t)) t) t′ e in
-    unless-same _ (unbalanced (u .head .total) (tree u)) u t′ q ∙ unless-same _ (childless (tree t)) t u p
+    sym (unlessAt-fine (λ (n : ℕ). Childless (n + 1)) (childless (tree t)) t u p .1 ∙ unlessAt-fine (λ (n : ℕ). WrongSum (n + 1)) (unbalanced (u .head .total) (tree u)) u t′ q .1)
 
 module _ (h : Head) (n : ℕ) (s : List ℕ) (ls : List Line) (e : nodeLines h n 0 [] s ≡ fine ls) (some : 0 < n) where
   abbrev t : Table

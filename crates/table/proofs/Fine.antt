@@ -16,7 +16,8 @@ use Rattle.table.specs.declared.Head.{Head}
 use Rattle.table.specs.declared.Heading.{Heading}
 use Rattle.table.specs.declared.Entry.{Entry}
 use Rattle.table.specs.declared.Line.{Line}
-use Rattle.table.specs.Refusal.{Verdict, refused, fine, Check, unless}
+use Rattle.table.specs.declared.Refusal.{Refusal}
+use Rattle.table.specs.Refusal.{Verdict, refused, fine, Check, unless, unlessAt}
 use Rattle.table.specs.Line.{isIll, isBlank, holds, outside, valueOf, toNat, countOf, illHeading, wideHeading, headOf, headerChecks, headerFor, letterCode, Step, Above, wrong, path, climb, climbTo, ancestors, isWrong, stepsOf, chancesOf, atChance, illEntry, deep, misfilled, wideEntry, stepped, Placed, lineSaid, placed, lineChecks, placeOf}
 use Rattle.table.specs.Inside.{Ranged, Sized}
 use Rattle.table.specs.Accepted.{Weighs, Within}
@@ -29,10 +30,6 @@ Passed [] = Unit {0}
 Passed (c ∷ cs) = (c .holds ≡ false) × Passed cs
 
 module _ {A : Type 0} where
-  isFine : Verdict A → ℕ
-  isFine (refused r) = 0
-  isFine (fine a) = 1
-
   pub unless-fine : (cs : List Check) (a b : A) → unless cs a ≡ fine b → Passed cs × (a ≡ b)
   unfolding unless
   unless-fine [] a b e = (tt, cc)
@@ -41,6 +38,11 @@ module _ {A : Type 0} where
       go : (unless cs a ≡ fine b → Passed cs × (a ≡ b)) → (t : Bool) → c .holds ≡ t → cond t (refused (c .gives)) (unless cs a) ≡ fine b → ((c .holds ≡ false) × Passed cs) × (a ≡ b)
       go ih true h e = let z : _≡_ {A = ℕ} 0 1 = cc in absurd (omega arith)
       go ih false h e = let r = ih e in ((h, r .0), r .1)
+
+  pub unlessAt-fine : (gives : ℕ → Refusal) (ns : List ℕ) (a b : A) → unlessAt gives ns a ≡ fine b → (ns ≡ []) × (a ≡ b)
+  unfolding unlessAt
+  unlessAt-fine gives [] a b e = (refl, cc)
+  unlessAt-fine gives (n ∷ ns) a b e = let z : _≡_ {A = ℕ} 0 1 = cc in absurd (omega arith)
 
 -- ---- numbers within bounds
 
@@ -103,10 +105,6 @@ header-ranged n last g h e =
 abbrev pub Climbs : List Step → ℕ → List Step → Type 0
 Climbs [] p Q = (p ≡ 0) × (Q ≡ [])
 Climbs (s ∷ P) p Q = climb p (s ∷ P) ≡ path Q
-
-isPath : Above → ℕ
-isPath wrong = 0
-isPath (path P) = 1
 
 wrong-path : (P : Type 0) (Q : List Step) → wrong ≡ path Q → P
 wrong-path P Q e = let z : _≡_ {A = ℕ} 0 1 = cc in absurd (omega arith)

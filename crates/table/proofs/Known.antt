@@ -11,7 +11,7 @@ use Rattle.table.specs.Tree.{forest, leaves}
 use Rattle.table.specs.Table.{Table, nodeLines, tree, greatest, leafLines}
 use Rattle.table.specs.Slices.{Spans, heightTree, slicesOf}
 use Rattle.table.specs.Accepted.{Within, flat, Proper, Rooted}
-use Rattle.table.proofs.Runs.{size, flat-length, flat-leaves, regrow-root}
+use Rattle.table.proofs.Runs.{size, Numbered, flat-length, flat-leaves, regrow-root}
 use Rattle.table.proofs.Grown.{lines-counted, Whole, whole}
 use Rattle.table.proofs.Heights.{heights-map}
 use Rattle.table.proofs.Spans.{spans-root}
@@ -34,6 +34,12 @@ module _ (t : Table) (n : ℕ) (b : List ℕ) (e : nodeLines (t .head) n 0 [] b 
     tree-is =
         sym (regrow-root (length (t .lines)) (grown .tree) (grown .numbered) (grown .rooted) (omega (arith, size-is)))
         ∙ ap (forest (λ (l : Line). l .utility) (length (t .lines))) (grown .lines)
+
+    pub read-numbered : Numbered 0 (tree t)
+    read-numbered = subst (Numbered 0) tree-is (grown .numbered)
+
+    pub read-size : size (tree t) ≡ n
+    read-size = sym (ap size tree-is) ∙ size-is ∙ read-length
 
     pub read-flat : flat 0 0 (tree t) ≡ t .lines
     read-flat = ap (flat 0 0) (sym tree-is) ∙ grown .lines

@@ -1,4 +1,5 @@
 pub mod Signs
+pub mod Powers
 pub mod Path
 pub mod Checks
 pub mod Fine
@@ -14,3 +15,4 @@ pub mod Spans
 pub mod Complete
 pub mod Known
 pub mod Accepted
+pub mod Places

@@ -2,9 +2,9 @@ use Prim.Native.Nat.{ℕ, _+_, _-_, _*_, _^_, _≤_, _<_}
 use mathlib.Core.Path.{_≡_, refl, sym, ap, _∙_}
 use native.Mathlib.Omega.{arith}
 use native.Mathlib.Numerals.{add-one}
-use native.Mathlib.Nat.{pow-zero, pow-suc, mul-le-mul, pow-le-pow-left, pow-le-pow-right, le-trans}
+use native.Mathlib.Nat.{pow-zero, pow-suc, mul-le-mul}
 use borrow.Author.Needs.{needs}
-use lib.Dec.{lit<}
+use Rattle.table.proofs.Powers.{power-small}
 use Rattle.table.proofs.power.Statement.{statement}
 use Rattle.table.proofs.power.Tie as tie
 use Rattle.table.proofs.power.Reads as reads
@@ -15,9 +15,6 @@ Inv-loop base k p₀ j₀ p j = (j ≤ k) × (base ≤ 64) × (k ≤ 4) × (p �
 
 abbrev μ-loop : tie.MeasureT-loop
 μ-loop base k p₀ j₀ p j = k - j
-
-power-small : (b j : ℕ) → b ≤ 64 → j ≤ 4 → b ^ j ≤ 16777216
-power-small b j h k = le-trans (pow-le-pow-left h j) (pow-le-pow-right {n = 64} (lit< tt) k)
 
 -- src/lib.rt:689:5
 loop-holds : tie.Need-loop-holds Inv-loop μ-loop
