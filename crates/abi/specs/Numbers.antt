@@ -6,7 +6,7 @@ use lib.IntN.{ℤ, pos}
 use Rattle.table.specs.declared.Summary.{Summary}
 use Rattle.table.specs.declared.Reading.{Reading}
 use Rattle.table.specs.declared.Reading.the-variants.{Accepted, Refused}
-use Rattle.table.specs.Refusal.{numberOf, lineOf}
+use Rattle.line.specs.Refusal.{numberOf, lineOf}
 
 -- 0, or document 01's number of the refusal
 abbrev pub codeOf : Reading → ℕ

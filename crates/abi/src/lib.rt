@@ -4,11 +4,12 @@ ghost use mathlib.Core.Path.{_≡_};
 ghost use Prim.Native.Nat.{_<_, _≤_, _^_};
 ghost use lib.ListN.{set};
 ghost use lib.IntN.{pos};
+ghost use Rattle.line.specs.Refusal.{lineOf};
 ghost use Rattle.table.specs.Table.{readText, answer};
 ghost use Rattle.table.specs.Slices.{fitted, kindsOf, stopsOf, weightsOf, heightsOf, decoded};
 ghost use Rattle.abi.specs.Numbers.{codeOf, numbersOf, put, Small};
 use table::Reading;
-use table::Refusal;
+use line::Refusal;
 use table::Summary;
 
 fn put_at(numbers: &mut [i64], i: usize, z: i64)
@@ -40,9 +41,10 @@ fn put_table(t: Summary, numbers: &mut [i64])
 }
 
 fn put_line(r: Refusal, numbers: &mut [i64])
+    requires { ⌜ lineOf r ≤ 1024 ⌝ }
     ensures { λ _. ⌜ now (numbers .exit) ≡ put 0 (numbersOf (Reading.Refused r)) (now (numbers .entry)) ⌝ }
 {
-    put_at(numbers, 0, signed(table::refusal_line(r) as u64));
+    put_at(numbers, 0, signed(line::refusal_line(r) as u64));
 }
 
 // An accepted table: its numbers of nodes, T, the lowest and the highest end, K, G and its number of leaves go to `numbers`, and its
@@ -66,7 +68,7 @@ pub extern "C" fn margin_read(
     match table::read(text, kind, stop, weight, height) {
         Reading::Refused(r) => {
             put_line(r, numbers);
-            table::refusal_number(r)
+            line::refusal_number(r)
         }
         Reading::Accepted(t) => {
             put_table(t, numbers);

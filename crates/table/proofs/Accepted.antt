@@ -8,19 +8,20 @@ use borrow.Author.Tests.{eqb-true, ltb-false, not-false}
 use lib.ListN.{length, getD, take, drop}
 use lib.Dec.{eqb, ltb}
 use lib.IntN.{pos, _+ℤ_}
-use Rattle.table.specs.declared.Head.{Head}
-use Rattle.table.specs.declared.Line.{Line}
-use Rattle.table.specs.declared.Refusal.{Refusal}
-use Rattle.table.specs.declared.Refusal.the-variants.{Length, Childless, WrongSum}
-use Rattle.table.specs.Refusal.{Verdict, refused, fine, unlessAt, next}
+use Rattle.line.specs.declared.Head.{Head}
+use Rattle.line.specs.declared.Line.{Line}
+use Rattle.line.specs.declared.Refusal.{Refusal}
+use Rattle.line.specs.declared.Refusal.the-variants.{Length, Childless, WrongSum}
+use Rattle.line.specs.Refusal.{Verdict, refused, fine, unlessAt, next}
 use Rattle.table.specs.Tree.{Kind, Forest, end, leaf, inner, isChance, isEnd, weigh, nodesWhere, childless, unbalanced, leaves}
-use Rattle.table.specs.Line.{header, headingOf}
+use Rattle.line.specs.Line.{header, headingOf}
 use Rattle.table.specs.Table.{Table, badLength, nodeLines, tree, complete, count, readText, greatest, leafLines, grain}
 use Rattle.table.specs.Slices.{heightOf, Spans, heightTree, slicesOf}
-use Rattle.table.specs.Inside.{Ranged}
-use Rattle.table.specs.Accepted.{span, Within, flat, Sums, Filled, Balanced, Proper, Rooted}
-use Rattle.table.proofs.Signs.{true-ne-false}
-use Rattle.table.proofs.Fine.{nor9, header-ranged, unlessAt-fine}
+use Rattle.line.specs.Inside.{Ranged}
+use Rattle.line.specs.Line.{Within}
+use Rattle.table.specs.Accepted.{span, flat, Sums, Filled, Balanced, Proper, Rooted}
+use Rattle.line.proofs.Signs.{true-ne-false}
+use Rattle.line.proofs.Fine.{nor9, header-ranged, unlessAt-fine}
 use Rattle.table.proofs.Grown.{fine-refused, next-fine}
 use Rattle.table.proofs.Heights.{above, height-back, height-span, map-leaves, map-filled, map-balanced, map-rooted, map-proper, heights-map}
 use Rattle.table.proofs.Powers.{power-small}

@@ -10,17 +10,17 @@ use lib.ListN.{length, getD, take, drop, length-map, length-append, List·getD-a
 use lib.Seq.{take-append-seam}
 use lib.Dec.{eqb, ltb, leb}
 use lib.IntN.{ℤ}
-use Rattle.table.specs.declared.Head.{Head}
-use Rattle.table.specs.declared.Line.{Line}
+use Rattle.line.specs.declared.Head.{Head}
+use Rattle.line.specs.declared.Line.{Line}
 use Rattle.table.specs.declared.Lines
 use Rattle.table.specs.declared.Lines.{Lines}
-use Rattle.table.specs.declared.Refusal.{Refusal}
-use Rattle.table.specs.declared.Refusal.the-variants.{Childless, WrongSum}
+use Rattle.line.specs.declared.Refusal.{Refusal}
+use Rattle.line.specs.declared.Refusal.the-variants.{Childless, WrongSum}
 use Rattle.table.specs.declared.Reading.{Reading}
 use Rattle.table.specs.declared.Reading.the-variants.{Accepted, Refused}
-use Rattle.table.specs.Refusal.{Verdict, refused, fine, unlessAt, next}
+use Rattle.line.specs.Refusal.{Verdict, refused, fine, unlessAt, next}
 use Rattle.table.specs.Tree.{Kind, Forest, end, leaf, inner, isEnd, isChance, run, weigh, nodesWhere, childless, unbalanced}
-use Rattle.table.specs.Line.{Step}
+use Rattle.line.specs.Line.{Step}
 use Rattle.table.specs.Table.{Table, nodeLines, linesOf, tree, complete, greatest, leafLines, summary, answer}
 use Rattle.table.specs.Slices.{Slices, Spans, slicesOf, heightOf, heightTree, ends, laid, kindsOf, weightsOf, heightsOf, stopsOf}
 use Rattle.table.specs.Inside.{Gathered, reach, endsFrom, scanFrom, firstOr, bareAt, oddAt, Has, summaryOf, refuseAt, completeAt, Decoded}
@@ -28,7 +28,7 @@ use Rattle.table.proofs.Scan.{spans-le, scan-below, spans-where, bare-t
 use Rattle.table.proofs.Reach.{ends-length}
 use Rattle.table.proofs.Grown.{lines-counted, lines-first, next-fine}
 use Rattle.table.proofs.Heights.{mapForest, map-end, map-weigh, above, heights-map}
-use Rattle.table.proofs.Fine.{unlessAt-fine}
+use Rattle.line.proofs.Fine.{unlessAt-fine}
 use Rattle.table.proofs.Known.{read-length, read-spans}
 
 -- ---- what the node lines left

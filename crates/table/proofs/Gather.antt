@@ -10,17 +10,18 @@ use lib.ListN.{length, replicate, getD, set, take, drop, length-append, length-s
 use lib.Seq.{getD-set-same, getD-set-other, set-append-seam, drop-cons, drop-drop, drop-length}
 use lib.Dec.{eqb}
 use lib.IntN.{ℤ}
-use Rattle.table.specs.declared.Head.{Head}
-use Rattle.table.specs.declared.Line.{Line}
+use Rattle.line.specs.declared.Head.{Head}
+use Rattle.line.specs.declared.Line.{Line}
 use Rattle.table.specs.declared.Lines
 use Rattle.table.specs.declared.Lines.{Lines}
-use Rattle.table.specs.declared.Refusal.{Refusal}
-use Rattle.table.specs.Refusal.{Verdict, refused, fine, next}
-use Rattle.table.specs.Line.{Step, Placed, ancestors, stepsOf, stepped, chancesOf, entryOf, nodeLine}
+use Rattle.line.specs.declared.Refusal.{Refusal}
+use Rattle.line.specs.Refusal.{Verdict, refused, fine, next}
+use Rattle.line.specs.Line.{Step, Placed, ancestors, stepsOf, stepped, chancesOf, entryOf, nodeLine}
 use Rattle.table.specs.Table.{prefix, nodeLines, greatest, leafLines}
 use Rattle.table.specs.Slices.{heightOf, laid}
-use Rattle.table.specs.Inside.{pathOf, Bounded, Ranged, Sized, Roomed, Gathered}
-use Rattle.table.proofs.Fine.{Falling, Climbs, climbed, Read, line-read, read-sized}
+use Rattle.line.specs.Inside.{pathOf, Bounded, Ranged, Sized}
+use Rattle.table.specs.Inside.{Roomed, Gathered}
+use Rattle.line.proofs.Fine.{Falling, Climbs, climbed, Read, line-read, read-sized}
 
 -- ---- one step more on the path
 

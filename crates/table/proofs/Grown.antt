@@ -8,16 +8,17 @@ use native.Mathlib.Nat.{le-trans, add-zero}
 use lib.ListN.{length, getD, take, drop}
 use lib.Dec.{eqb}
 use lib.IntN.{ℤ, pos}
-use Rattle.table.specs.declared.Head.{Head}
-use Rattle.table.specs.declared.Line.{Line}
-use Rattle.table.specs.declared.Refusal.{Refusal}
-use Rattle.table.specs.Refusal.{Verdict, refused, fine, next}
+use Rattle.line.specs.declared.Head.{Head}
+use Rattle.line.specs.declared.Line.{Line}
+use Rattle.line.specs.declared.Refusal.{Refusal}
+use Rattle.line.specs.Refusal.{Verdict, refused, fine, next}
 use Rattle.table.specs.Tree.{Kind, MAX, MIN, CHANCE, Forest, end, leaf, inner, codeOf}
-use Rattle.table.specs.Line.{Step, wrong, path, climb, ancestors, stepsOf, chancesOf, atChance, stepped, Placed, entryOf, nodeLine}
+use Rattle.line.specs.Line.{Step, wrong, path, climb, ancestors, stepsOf, chancesOf, atChance, stepped, Placed, entryOf, nodeLine}
 use Rattle.table.specs.Table.{prefix, nodeLines, greatest}
-use Rattle.table.specs.Accepted.{Within, Proper, Rooted, flat, one}
-use Rattle.table.proofs.Signs.{true-ne-false}
-use Rattle.table.proofs.Fine.{Falling, Headed, climbed, Valued, Read, line-read}
+use Rattle.line.specs.Line.{Within}
+use Rattle.table.specs.Accepted.{Proper, Rooted, flat, one}
+use Rattle.line.proofs.Signs.{true-ne-false}
+use Rattle.line.proofs.Fine.{Falling, Headed, climbed, Valued, Read, line-read}
 use Rattle.table.proofs.Runs.{size, Numbered, code-inner, code-chance}
 
 -- ---- verdicts

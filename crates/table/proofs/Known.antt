@@ -5,12 +5,13 @@ use mathlib.Core.Bool.{false}
 use mathlib.Core.List.{List, []}
 use native.Mathlib.Omega.{arith}
 use lib.ListN.{length}
-use Rattle.table.specs.declared.Line.{Line}
-use Rattle.table.specs.Refusal.{fine}
+use Rattle.line.specs.declared.Line.{Line}
+use Rattle.line.specs.Refusal.{fine}
 use Rattle.table.specs.Tree.{forest, leaves}
 use Rattle.table.specs.Table.{Table, nodeLines, tree, greatest, leafLines}
 use Rattle.table.specs.Slices.{Spans, heightTree, slicesOf}
-use Rattle.table.specs.Accepted.{Within, flat, Proper, Rooted}
+use Rattle.line.specs.Line.{Within}
+use Rattle.table.specs.Accepted.{flat, Proper, Rooted}
 use Rattle.table.proofs.Runs.{size, Numbered, flat-length, flat-leaves, regrow-root}
 use Rattle.table.proofs.Grown.{lines-counted, Whole, whole}
 use Rattle.table.proofs.Heights.{heights-map}

@@ -1,8 +1,4 @@
-pub mod Signs
 pub mod Powers
-pub mod Path
-pub mod Checks
-pub mod Fine
 pub mod Gather
 pub mod Reach
 pub mod Scan

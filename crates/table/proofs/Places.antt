@@ -6,17 +6,17 @@ use mathlib.Core.List.{List, [], _∷_, _++_}
 use native.Mathlib.Omega.{arith}
 use lib.ListN.{length, take, drop, getD}
 use lib.IntN.{ℤ}
-use Rattle.table.specs.declared.Head.{Head}
-use Rattle.table.specs.declared.Line.{Line}
-use Rattle.table.specs.declared.Refusal.{Refusal}
-use Rattle.table.specs.declared.Refusal.the-variants.{Length, Childless, WrongSum}
-use Rattle.table.specs.Refusal.{Verdict, refused, fine, Check, unless, unlessAt, next, lineOf}
+use Rattle.line.specs.declared.Head.{Head}
+use Rattle.line.specs.declared.Line.{Line}
+use Rattle.line.specs.declared.Refusal.{Refusal}
+use Rattle.line.specs.declared.Refusal.the-variants.{Length, Childless, WrongSum}
+use Rattle.line.specs.Refusal.{Verdict, refused, fine, Check, unless, unlessAt, next, lineOf}
 use Rattle.table.specs.Tree.{Kind, Forest, end, leaf, inner, nodesWhere, childless, unbalanced}
-use Rattle.table.specs.Line.{Step, Placed, ancestors, stepped, stepsOf, placed, letterCode, entryOf, headingOf, headOf, header, headerChecks, lineChecks, nodeLine}
+use Rattle.line.specs.Line.{Step, Placed, ancestors, stepped, stepsOf, placed, letterCode, entryOf, headingOf, headOf, header, headerChecks, lineChecks, nodeLine}
 use Rattle.table.specs.Table.{Table, prefix, nodeLines, tree, complete, badLength, count, linesOf, readText}
 use Rattle.table.proofs.Runs.{size, Numbered}
 use Rattle.table.proofs.Top.{good-length, read-length, read-header}
-use Rattle.table.proofs.Fine.{unlessAt-fine}
+use Rattle.line.proofs.Fine.{unlessAt-fine}
 use Rattle.table.proofs.Known.{read-numbered, read-size}
 
 -- ---- checks

@@ -9,7 +9,7 @@ use borrow.Author.Tests.{le-leb, lt-leb}
 use lib.ListN.{length, length-append}
 use lib.Dec.{eqb}
 use lib.IntN.{ℤ}
-use Rattle.table.specs.declared.Line.{Line}
+use Rattle.line.specs.declared.Line.{Line}
 use Rattle.table.specs.Tree.{Kind, MAX, MIN, CHANCE, Forest, end, leaf, inner, codeOf, kindOf, isChance, run, after, forest, leaves}
 use Rattle.table.specs.Table.{leafLines}
 use Rattle.table.specs.Accepted.{flat, one, Rooted}

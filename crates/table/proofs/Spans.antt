@@ -6,7 +6,7 @@ use native.Mathlib.Omega.{arith}
 use lib.ListN.{length, getD, drop}
 use lib.Seq.{drop-drop, drop-append-seam, drop-nil}
 use lib.IntN.{ℤ, pos}
-use Rattle.table.specs.declared.Line.{Line}
+use Rattle.line.specs.declared.Line.{Line}
 use Rattle.table.specs.Tree.{Kind, Forest, end, leaf, inner, codeOf, run}
 use Rattle.table.specs.Table.{Table}
 use Rattle.table.specs.Slices.{heightOf, ends, Spans, slicesOf}

@@ -8,21 +8,22 @@ use borrow.Author.Tests.{ltb-false, eqb-true, not-false}
 use lib.ListN.{length, take, drop, length-append, length-map}
 use lib.Seq.{take-append-seam, take-nil}
 use lib.Dec.{eqb, ltb}
-use Rattle.table.specs.declared.Head.{Head}
-use Rattle.table.specs.declared.Line.{Line}
+use Rattle.line.specs.declared.Head.{Head}
+use Rattle.line.specs.declared.Line.{Line}
 use Rattle.table.specs.declared.Summary.{Summary}
-use Rattle.table.specs.declared.HeadRead
-use Rattle.table.specs.declared.HeadRead.{HeadRead}
-use Rattle.table.specs.declared.Refusal.{Refusal}
-use Rattle.table.specs.declared.Refusal.the-variants.{Length}
+use Rattle.line.specs.declared.HeadRead
+use Rattle.line.specs.declared.HeadRead.{HeadRead}
+use Rattle.line.specs.declared.Refusal.{Refusal}
+use Rattle.line.specs.declared.Refusal.the-variants.{Length}
 use Rattle.table.specs.declared.Reading.{Reading}
 use Rattle.table.specs.declared.Reading.the-variants.{Accepted, Refused}
-use Rattle.table.specs.Refusal.{Verdict, refused, fine, next}
-use Rattle.table.specs.Line.{header}
+use Rattle.line.specs.Refusal.{Verdict, refused, fine, next}
+use Rattle.line.specs.Line.{header}
 use Rattle.table.specs.Table.{Table, badLength, count, linesOf, readText, summary}
 use Rattle.table.specs.Slices.{heightOf, kindsOf, stopsOf, weightsOf, heightsOf, ends, laid, fitted, decoded}
-use Rattle.table.specs.Inside.{Decoded, headShown}
-use Rattle.table.proofs.Checks.{or-left, or-right}
+use Rattle.line.specs.Inside.{headShown}
+use Rattle.table.specs.Inside.{Decoded}
+use Rattle.line.proofs.Checks.{or-left, or-right}
 use Rattle.table.proofs.Complete.{ends-long}
 
 -- a good length is that of 1 to 1,024 node lines after the header

@@ -4,24 +4,14 @@ use mathlib.Core.Path.{_≡_}
 use mathlib.Core.Bool.{Bool, true, false, cond}
 use mathlib.Core.List.{List, [], _∷_, _++_}
 use lib.IntN.{ℤ, pos, _-ℤ_}
-use lib.Signed.{ltZ}
-use Rattle.table.specs.declared.Head.{Head}
-use Rattle.table.specs.declared.Line.{Line}
+use Rattle.line.specs.declared.Head.{Head}
+use Rattle.line.specs.declared.Line.{Line}
 use Rattle.table.specs.Tree.{Kind, Forest, end, leaf, inner, codeOf, isChance, isEnd, weigh}
-use Rattle.table.specs.Line.{toNat}
+use Rattle.line.specs.Line.{toNat, Weighs}
 
 -- how many points the ends are apart
 abbrev pub span : Head → ℕ
 span h = toNat (h .highest -ℤ h .lowest)
-
--- "utilities within the ends"
-abbrev pub Within : Head → ℤ → Type 0
-Within h z = (ltZ z (h .lowest) ≡ false) × (ltZ (h .highest) z ≡ false)
-
--- "weights 1 to T" under a C, and none elsewhere
-abbrev pub Weighs : Bool → ℕ → ℕ → Type 0
-Weighs true T w = (0 < w) × (w ≤ T)
-Weighs false T w = w ≡ 0
 
 -- 1 for a C
 abbrev pub one : Kind → ℕ

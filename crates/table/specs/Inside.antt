@@ -7,73 +7,19 @@ use lib.ListN.{length, getD, take, drop, set}
 use lib.IntN.{ℤ}
 use lib.Dec.{leb, ltb, eqb}
 use lib.Signed.{mag, ltZ}
-use Rattle.table.specs.declared.Head.{Head}
-use Rattle.table.specs.declared.Line.{Line}
-use Rattle.table.specs.declared.HeadRead
-use Rattle.table.specs.declared.HeadRead.{HeadRead}
-use Rattle.table.specs.declared.Found.{Found}
-use Rattle.table.specs.declared.Found.the-variants.{At, Nowhere}
-use Rattle.table.specs.declared.Placing
-use Rattle.table.specs.declared.Placing.{Placing}
+use Rattle.line.specs.declared.Head.{Head}
+use Rattle.line.specs.declared.Line.{Line}
 use Rattle.table.specs.declared.Lines
 use Rattle.table.specs.declared.Lines.{Lines}
 use Rattle.table.specs.declared.Summary.{Summary}
-use Rattle.table.specs.declared.Refusal.{Refusal}
-use Rattle.table.specs.declared.Refusal.the-variants.{Childless, WrongSum}
+use Rattle.line.specs.declared.Refusal.{Refusal}
+use Rattle.line.specs.declared.Refusal.the-variants.{Childless, WrongSum}
 use Rattle.table.specs.declared.Reading.{Reading}
 use Rattle.table.specs.declared.Reading.the-variants.{Accepted, Refused}
-use Rattle.table.specs.Refusal.{Verdict, refused, fine}
-use Rattle.table.specs.Line.{Step, Above, wrong, path, Placed}
+use Rattle.line.specs.Refusal.{Verdict, refused, fine}
 use Rattle.table.specs.Tree.{Forest}
 use Rattle.table.specs.Slices.{heightOf, laid, kindsOf, stopsOf, weightsOf, heightsOf, Spans}
 use Rattle.table.specs.Table.{Table, greatest, leafLines, summary}
-
-abbrev pub headShown : HeadRead → Verdict Head
-headShown (HeadRead.the-variants.Refused r) = refused r
-headShown (HeadRead.the-variants.Fine h) = fine h
-
--- the total and the ends are in range
-pub record Ranged (h : Head) : Type 0 where
-  pub some : 0 < h .total
-  pub total : h .total ≤ 64
-  pub lowest : mag (h .lowest) ≤ 1000000
-  pub highest : mag (h .highest) ≤ 1000000
-  pub order : ltZ (h .highest) (h .lowest) ≡ false
-
--- a line's numbers fit the slices
-pub record Sized (l : Line) : Type 0 where
-  pub parent : l .parent < 1024
-  pub weight : l .weight ≤ 64
-  pub utility : mag (l .utility) ≤ 1000000
-
--- the path that the first d entries of three slices hold, the last entry first
-unfoldable pub pathOf : List ℕ → List ℕ → List ℕ → ℕ → List Step
-pathOf ns ks cs zero = []
-pathOf ns ks cs (suc d) = record { node = getD ns d 0; kind = getD ks d 0; chances = getD cs d 0 } ∷ pathOf ns ks cs d
-
-module _ (ns ks cs : List ℕ) where
-  abbrev pub aboveShown : Found → Above
-  aboveShown Nowhere = wrong
-  aboveShown (At d) = path (pathOf ns ks cs d)
-
-  abbrev pub placingShown : Placing → Verdict Placed
-  placingShown (Placing.the-variants.Refused r) = refused r
-  placingShown (Placing.the-variants.At l d) =
-      fine (record { line = l; steps = record { node = l .node; kind = l .kind; chances = l .chances } ∷ pathOf ns ks cs d })
-
--- small enough to add 1 to each
-abbrev pub Bounded : List ℕ → Type 0
-Bounded cs = (d : ℕ) → getD cs d 0 ≤ 4
-
--- a depth that was found is at most d
-abbrev pub Upto : ℕ → Found → Type 0
-Upto d Nowhere = Unit {0}
-Upto d (At e) = e ≤ d
-
--- a line has room at its depth
-abbrev pub Roomy : Placing → Type 0
-Roomy (Placing.the-variants.Refused r) = Unit {0}
-Roomy (Placing.the-variants.At l d) = d < 64
 
 -- each of four slices has an entry i
 pub record Roomed (i : ℕ) (k u w h : List ℕ) : Type 0 where

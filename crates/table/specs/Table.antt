@@ -5,15 +5,15 @@ use mathlib.Core.List.{List, [], _∷_, _++_, map}
 use lib.ListN.{length, take, drop}
 use lib.Dec.{eqb, ltb}
 use lib.IntN.{ℤ, natAbs, _-ℤ_}
-use Rattle.table.specs.declared.Head.{Head}
-use Rattle.table.specs.declared.Line.{Line}
+use Rattle.line.specs.declared.Head.{Head}
+use Rattle.line.specs.declared.Line.{Line}
 use Rattle.table.specs.declared.Summary.{Summary}
-use Rattle.table.specs.declared.Refusal.the-variants.{Length, Childless, WrongSum}
+use Rattle.line.specs.declared.Refusal.the-variants.{Length, Childless, WrongSum}
 use Rattle.table.specs.declared.Reading.{Reading}
 use Rattle.table.specs.declared.Reading.the-variants.{Accepted, Refused}
-use Rattle.table.specs.Refusal.{Verdict, refused, fine, unlessAt, next}
+use Rattle.line.specs.Refusal.{Verdict, refused, fine, unlessAt, next}
 use Rattle.table.specs.Tree.{Forest, forest, run, childless, unbalanced}
-use Rattle.table.specs.Line.{header, Step, Placed, nodeLine}
+use Rattle.line.specs.Line.{header, Step, Placed, nodeLine}
 
 -- an accepted table: its header and its node lines
 pub record Table : Type 0 where

@@ -3,7 +3,7 @@ use Prim.Native.Nat.{ℕ, zero, suc, _+_}
 use mathlib.Core.Bool.{Bool, true, false, not, _&&_, cond}
 use mathlib.Core.List.{List, [], _∷_, _++_}
 use lib.Dec.{eqb, leb}
-use Rattle.table.specs.declared.Line.{Line}
+use Rattle.line.specs.declared.Line.{Line}
 
 -- "Kinds: M (MAX), N (MIN), C (chance)": those that have children
 pub data Kind : Type 0 where

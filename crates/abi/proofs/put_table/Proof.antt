@@ -1,3 +1,10 @@
+use Prim.Native.Nat.{ℕ}
+use mathlib.Core.Path.{_≡_, refl, ap₂, _∙_}
+use mathlib.Core.List.{List}
+use lib.ListN.{set}
+use lib.IntN.{ℤ}
+use mir.Syntax.{w64}
+use mir.Val.{toZ, ofZ}
 use borrow.Author.Needs.{needs}
 use Rattle.abi.proofs.put_table.Statement.{statement}
 use Rattle.abi.proofs.put_table.Tie as tie
@@ -5,6 +12,15 @@ use Rattle.abi.proofs.put_table.Reads as reads
 use Rattle.abi.proofs.put_table.Lts as lts
 use Rattle.abi.proofs.put_at.Reads as put-at-reads
 use Rattle.abi.proofs.signed.Reads as signed-reads
+
+lowest-back : (s : tie.Start) → toZ w64 (ofZ w64 (s .args .t .lowest)) ≡ s .args .t .lowest
+lowest-back s = search needs
+
+highest-back : (s : tie.Start) → toZ w64 (ofZ w64 (s .args .t .highest)) ≡ s .args .t .highest
+highest-back s = search needs
+
+stored : {a b b′ : List ℤ} {z z′ : ℤ} (i : ℕ) → a ≡ set b i z → b ≡ b′ → z ≡ z′ → a ≡ set b′ i z′
+stored i p q r = p ∙ ap₂ (λ (x : List ℤ) (y : ℤ). set x i y) q r
 
 -- src/lib.rt:33:24
 signed-requires : tie.Need-signed-requires
@@ -48,7 +64,10 @@ put-at-requires-6 c κs = search needs
 
 -- src/lib.rt:39:24
 signed-requires-5 : tie.Need-signed-requires-5
-signed-requires-5 c κs = ?
+signed-requires-5 c κs =
+    let P6 = c .before .before in
+    let P3 = P6 .before .before .before .before .before .before .before .before .before .before .before .before in
+    P3 .before .before .before .before .before .before .before .before .before .before .before .pre .leaves
 
 -- src/lib.rt:39:5
 put-at-requires-7 : tie.Need-put-at-requires-7
@@ -60,7 +79,29 @@ same-length c = search needs
 
 -- src/lib.rt:29:1
 returns : tie.Need-returns
-returns c = ?
+returns c =
+    let P7 = c .before in
+    let P6 = P7 .before .before .before .before in
+    let P5 = P6 .before .before .before .before in
+    let P4 = P5 .before .before .before .before in
+    let P3 = P4 .before .before .before .before in
+    let P2 = P3 .before .before .before .before in
+    let P1 = P2 .before .before .before .before in
+    let s = P1 .before .before .before in
+    let b1 : toZ w64 (ofZ w64 (P1 .before .signed .result)) ≡ P1 .before .signed .result = search needs in
+    let b2 : toZ w64 (ofZ w64 (P2 .before .signed2 .result)) ≡ P2 .before .signed2 .result = search needs in
+    let b5 : toZ w64 (ofZ w64 (P5 .before .signed3 .result)) ≡ P5 .before .signed3 .result = search needs in
+    let b6 : toZ w64 (ofZ w64 (P6 .before .signed4 .result)) ≡ P6 .before .signed4 .result = search needs in
+    let b7 : toZ w64 (ofZ w64 (P7 .before .signed5 .result)) ≡ P7 .before .signed5 .result = search needs in
+    stored 6 (P7 .put-at7 .ensures)
+    (stored 5 (P6 .put-at6 .ensures)
+    (stored 4 (P5 .put-at5 .ensures)
+    (stored 3 (P4 .put-at4 .ensures)
+    (stored 2 (P3 .put-at3 .ensures) (stored 1 (P2 .put-at2 .ensures) (stored 0 (P1 .put-at .ensures) refl (b1 ∙ P1 .before .signed .ensures)) (b2 ∙ P2 .before .signed2 .ensures)) (lowest-back s))
+    (highest-back s))
+    (b5 ∙ P5 .before .signed3 .ensures))
+    (b6 ∙ P6 .before .signed4 .ensures))
+    (b7 ∙ P7 .before .signed5 .ensures)
 
 pub put-table-spec : {M : Type 1} → statement M
 put-table-spec =

@@ -5,13 +5,13 @@ use mathlib.Core.List.{List}
 use native.Mathlib.Omega.{arith}
 use denote.Ref.{now}
 use lib.ListN.{length, take, drop, getD}
-use Rattle.table.specs.declared.HeadRead
-use Rattle.table.specs.declared.HeadRead.{HeadRead}
-use Rattle.table.specs.declared.Refusal.the-variants.{Length}
-use Rattle.table.specs.Line.{headingOf, header}
+use Rattle.line.specs.declared.HeadRead
+use Rattle.line.specs.declared.HeadRead.{HeadRead}
+use Rattle.line.specs.declared.Refusal.the-variants.{Length}
+use Rattle.line.specs.Line.{headingOf, header}
 use Rattle.table.specs.Table.{badLength, count, linesOf, readText}
-use Rattle.table.specs.Inside.{headShown}
-use Rattle.table.proofs.Fine.{header-ranged}
+use Rattle.line.specs.Inside.{headShown}
+use Rattle.line.proofs.Fine.{header-ranged}
 use Rattle.table.proofs.Top.{good-length, read-length, read-refused, read-lines, decoded-refused}
 use borrow.Author.Needs.{needs}
 use Rattle.table.proofs.decode.Statement.{statement}
@@ -19,7 +19,7 @@ use Rattle.table.proofs.decode.Tie as tie
 use Rattle.table.proofs.decode.Reads as reads
 use Rattle.table.proofs.decode.Lts as lts
 use Rattle.table.proofs.decode_lines.Reads as decode-lines-reads
-use Rattle.table.proofs.header.Reads as header-reads
+use Rattle.line.proofs.header.Reads as header-reads
 use Rattle.table.proofs.is_bad_length.Reads as is-bad-length-reads
 
 abbrev start : tie.After-is-bad-length → tie.Start

@@ -4,10 +4,10 @@ use mathlib.Core.List.{List, []}
 use native.Mathlib.Omega.{arith}
 use denote.Ref.{now}
 use lib.ListN.{length, drop, replicate}
-use Rattle.table.specs.declared.Line.{Line}
+use Rattle.line.specs.declared.Line.{Line}
 use Rattle.table.specs.declared.Lines
 use Rattle.table.specs.declared.Lines.{Lines}
-use Rattle.table.specs.Refusal.{Verdict, refused, fine}
+use Rattle.line.specs.Refusal.{Verdict, refused, fine}
 use Rattle.table.specs.Table.{nodeLines, linesOf}
 use Rattle.table.specs.Slices.{ends, laid}
 use Rattle.table.specs.Inside.{Gathered}

@@ -7,14 +7,14 @@ use lib.IntN.{ℤ, _-ℤ_}
 use mir.Syntax.{w64}
 use mir.Val.{toZ, ofZ}
 use mir.ValLaws.{toZ-ofZ}
-use Rattle.table.specs.Line.{toNat}
-use Rattle.table.proofs.Signs.{mag-diff, nat-mag}
+use Rattle.line.specs.Line.{toNat}
+use Rattle.line.proofs.Signs.{mag-diff, nat-mag}
 use borrow.Author.Needs.{needs}
 use Rattle.table.proofs.height_of.Statement.{statement}
 use Rattle.table.proofs.height_of.Tie as tie
 use Rattle.table.proofs.height_of.Reads as reads
 use Rattle.table.proofs.height_of.Lts as lts
-use Rattle.table.proofs.natural.Reads as natural-reads
+use Rattle.line.proofs.natural.Reads as natural-reads
 
 -- src/lib.rt:522:24
 back : (s : tie.Start)

@@ -4,10 +4,10 @@ use mathlib.Core.Bool.{Bool, true, false, cond}
 use lib.Dec.{eqb}
 use lib.IntN.{ℤ}
 use lib.Seq.{drop-drop}
-use Rattle.table.specs.declared.Line.{Line}
-use Rattle.table.specs.declared.Placing
-use Rattle.table.specs.declared.Placing.{Placing}
-use Rattle.table.specs.Line.{nodeLine}
+use Rattle.line.specs.declared.Line.{Line}
+use Rattle.line.specs.declared.Placing
+use Rattle.line.specs.declared.Placing.{Placing}
+use Rattle.line.specs.Line.{nodeLine}
 use Rattle.table.specs.Slices.{heightOf}
 use mathlib.Core.Path.{_≡_, refl, sym, ap, subst, _∙_}
 use native.Mathlib.Omega.{arith}
@@ -18,15 +18,15 @@ use mir.Syntax.{w64}
 use mir.Val.{toZ, ofZ}
 use mir.ValLaws.{toZ-ofZ}
 use lib.ListN.{length, replicate, drop, take, set, length-take, length-drop}
-use Rattle.table.specs.Inside.{pathOf, placingShown, Ranged, Sized, Roomy}
+use Rattle.line.specs.Inside.{pathOf, placingShown, Ranged, Sized, Roomy}
 use Rattle.table.proofs.Gather.{bounded-zeros, Gathering, Kept, gathering-kept, gathering-none, gathering-more, gathering-as, sized-here, reading-refused, gathered-refused, gathered-done}
 use Rattle.table.proofs.node_lines.Statement.{statement}
 use Rattle.table.proofs.node_lines.Tie as tie
 use Rattle.table.proofs.node_lines.Reads as reads
 use Rattle.table.proofs.node_lines.Lts as lts
 use Rattle.table.proofs.max_of.Reads as max-of-reads
-use Rattle.table.proofs.node_line.Reads as node-line-reads
-use Rattle.table.proofs.one_if.Reads as one-if-reads
+use Rattle.line.proofs.node_line.Reads as node-line-reads
+use Rattle.line.proofs.one_if.Reads as one-if-reads
 use Rattle.table.proofs.store.Reads as store-reads
 
 abbrev Inv-loop : tie.InvT-loop

@@ -6,7 +6,7 @@ use denote.Ref.{now}
 use lib.ListN.{length, replicate}
 use Rattle.table.specs.declared.Reading.{Reading}
 use Rattle.table.specs.declared.Reading.the-variants.{Accepted, Refused}
-use Rattle.table.specs.Refusal.{refused}
+use Rattle.line.specs.Refusal.{refused}
 use Rattle.table.specs.Table.{readText, answer}
 use Rattle.table.specs.Slices.{kindsOf, stopsOf, weightsOf, heightsOf}
 use Rattle.table.specs.Inside.{Decoded}

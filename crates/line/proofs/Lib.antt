@@ -1,0 +1,4 @@
+pub mod Signs
+pub mod Path
+pub mod Checks
+pub mod Fine

@@ -1,0 +1,58 @@
+-- Refusals of a table. Document 01, 'Refused tables and calls', numbers 1 to 10.
+use Prim.Native.Nat.{ℕ}
+use mathlib.Core.Bool.{Bool, cond}
+use mathlib.Core.List.{List, [], _∷_, _++_}
+use Rattle.line.specs.declared.Refusal.{Refusal}
+use Rattle.line.specs.declared.Refusal.the-variants.{Length, IllWritten, OutOfRange, Misnumbered, UnknownKind, WrongParent, Misfilled, Childless, WrongSum, TooDeep}
+
+-- "Returned": the number and the line of every refusal
+abbrev pub numberOf : Refusal → ℕ
+numberOf Length = 1
+numberOf (IllWritten line) = 2
+numberOf (OutOfRange line) = 3
+numberOf (Misnumbered line) = 4
+numberOf (UnknownKind line) = 5
+numberOf (WrongParent line) = 6
+numberOf (Misfilled line) = 7
+numberOf (Childless line) = 8
+numberOf (WrongSum line) = 9
+numberOf (TooDeep line) = 10
+
+abbrev pub lineOf : Refusal → ℕ
+lineOf Length = 0
+lineOf (IllWritten line) = line
+lineOf (OutOfRange line) = line
+lineOf (Misnumbered line) = line
+lineOf (UnknownKind line) = line
+lineOf (WrongParent line) = line
+lineOf (Misfilled line) = line
+lineOf (Childless line) = line
+lineOf (WrongSum line) = line
+lineOf (TooDeep line) = line
+
+-- what a step of the reading gives: a refusal, or what it read
+pub data Verdict (A : Type 0) : Type 0 where
+  refused : Refusal → Verdict A
+  fine : A → Verdict A
+
+-- a condition, and the refusal that is given where it holds
+pub record Check : Type 0 where
+  pub holds : Bool
+  pub gives : Refusal
+
+module _ {A : Type 0} where
+  -- the conditions in their sequence: the first that holds refuses
+  unfoldable pub unless : List Check → A → Verdict A
+  unless [] a = fine a
+  unless (c ∷ cs) a = cond (c .holds) (refused (c .gives)) (unless cs a)
+
+  -- the same for the nodes that meet a condition, in the order of their lines: the lowest-numbered one refuses
+  unfoldable pub unlessAt : (ℕ → Refusal) → List ℕ → A → Verdict A
+  unlessAt gives [] a = fine a
+  unlessAt gives (n ∷ ns) a = refused (gives n)
+
+module _ {A B : Type 0} where
+  -- one step after another
+  abbrev pub next : Verdict A → (A → Verdict B) → Verdict B
+  next (refused r) f = refused r
+  next (fine a) f = f a
