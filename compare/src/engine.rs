@@ -5,17 +5,20 @@
 use crate::second::MOST_NODES;
 
 mod abi {
-    use super::MOST_NODES;
-
     extern "C" {
         pub fn margin_read(
             text: *const u8,
             text_len: usize,
-            numbers: *mut [i64; 8],
-            kind: *mut [u8; MOST_NODES],
-            stop: *mut [u16; MOST_NODES],
-            weight: *mut [u8; MOST_NODES],
-            height: *mut [u32; MOST_NODES],
+            numbers: *mut i64,
+            numbers_len: usize,
+            kind: *mut u8,
+            kind_len: usize,
+            stop: *mut u16,
+            stop_len: usize,
+            weight: *mut u8,
+            weight_len: usize,
+            height: *mut u32,
+            height_len: usize,
         ) -> u64;
     }
 }
@@ -58,18 +61,22 @@ pub fn read(text: &[u8], lent: &mut Lent) -> u64 {
 /// benchmark, which must not time the filling.
 #[allow(unsafe_code)]
 pub fn call(text: &[u8], lent: &mut Lent) -> u64 {
-    // Sound: the text is readable for its whole length, and the five arrays are
-    // of the sizes that the interface names, apart from each other and lent for
-    // the length of the call.
+    // Sound: each pointer stands with the length of what it points to, and the
+    // five arrays are apart from each other and lent for the length of the call.
     unsafe {
         abi::margin_read(
             text.as_ptr(),
             text.len(),
-            &mut lent.numbers,
-            &mut lent.kind,
-            &mut lent.stop,
-            &mut lent.weight,
-            &mut lent.height,
+            lent.numbers.as_mut_ptr(),
+            lent.numbers.len(),
+            lent.kind.as_mut_ptr(),
+            lent.kind.len(),
+            lent.stop.as_mut_ptr(),
+            lent.stop.len(),
+            lent.weight.as_mut_ptr(),
+            lent.weight.len(),
+            lent.height.as_mut_ptr(),
+            lent.height.len(),
         )
     }
 }

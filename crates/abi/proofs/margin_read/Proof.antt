@@ -2,6 +2,7 @@ use Prim.Native.Nat.{ℕ}
 use mathlib.Core.Path.{_≡_, sym, ap, _∙_}
 use mathlib.Core.List.{List}
 use denote.Ref.{now}
+use lib.IntN.{ℤ}
 use Rattle.table.specs.declared.Reading.{Reading}
 use Rattle.table.specs.declared.Reading.the-variants.{Accepted, Refused}
 use Rattle.table.specs.Table.{readText, answer}
@@ -20,6 +21,9 @@ use Rattle.table.proofs.read.Reads as read-reads
 
 abbrev text-of : tie.After-read → List ℕ
 text-of c = now (c .before .before .before .before .before .before .before .before .before .before .args .text)
+
+abbrev numbers-of : tie.After-read → List ℤ
+numbers-of c = now (c .before .before .before .before .before .before .before .before .before .before .args .numbers)
 
 -- what the reading gave
 said : (c : tie.After-read) (r : Reading) → c .read .result ≡ r → answer (readText (text-of c)) ≡ r
@@ -82,7 +86,7 @@ returns c =
     let r = L .before .before .before .r .given in
     let R = L .before .before .before .before .before .before .before .before .before .before .before .before .before in
     let e = said R (Refused (r .0 .0)) (r .1) in
-    (c .refusal-number .ensures ∙ sym (ap codeOf e), (L .put-line .ensures ∙ sym (ap (λ (x : Reading). put 0 (numbersOf x) _) e), R .read .ensures .1))
+    (c .refusal-number .ensures ∙ sym (ap codeOf e), (L .put-line .ensures ∙ sym (ap (λ (x : Reading). put 0 (numbersOf x) (numbers-of R)) e), R .read .ensures .1))
 
 -- src/lib.rt:52:1
 same-length-6 : tie.Need-same-length-6
@@ -111,7 +115,7 @@ returns-2 c =
     let t = T .before .before .before .t .given in
     let R = T .before .before .before .before .before .before .before .before .before .before .before .before .before in
     let e = said R (Accepted (t .0 .0)) (t .1) in
-    (sym (ap codeOf e), (T .put-table .ensures ∙ sym (ap (λ (x : Reading). put 0 (numbersOf x) _) e), R .read .ensures .1))
+    (sym (ap codeOf e), (T .put-table .ensures ∙ sym (ap (λ (x : Reading). put 0 (numbersOf x) (numbers-of R)) e), R .read .ensures .1))
 
 pub margin-read-spec : {M : Type 1} → statement M
 margin-read-spec =

@@ -1,3 +1,4 @@
+use denote.Ref.{now}
 use Prim.Native.Nat.{ℕ}
 use mathlib.Core.Path.{_≡_, refl, ap₂, _∙_}
 use mathlib.Core.List.{List}
@@ -97,7 +98,7 @@ returns c =
     (stored 5 (P6 .put-at6 .ensures)
     (stored 4 (P5 .put-at5 .ensures)
     (stored 3 (P4 .put-at4 .ensures)
-    (stored 2 (P3 .put-at3 .ensures) (stored 1 (P2 .put-at2 .ensures) (stored 0 (P1 .put-at .ensures) refl (b1 ∙ P1 .before .signed .ensures)) (b2 ∙ P2 .before .signed2 .ensures)) (lowest-back s))
+    (stored 2 (P3 .put-at3 .ensures) (stored 1 (P2 .put-at2 .ensures) (stored {b = now (s .args .numbers)} 0 (P1 .put-at .ensures) refl (b1 ∙ P1 .before .signed .ensures)) (b2 ∙ P2 .before .signed2 .ensures)) (lowest-back s))
     (highest-back s))
     (b5 ∙ P5 .before .signed3 .ensures))
     (b6 ∙ P6 .before .signed4 .ensures))
