@@ -8,8 +8,8 @@ ghost use Rattle.line.specs.Refusal.{lineOf};
 ghost use Rattle.table.specs.Table.{readText, answer};
 ghost use Rattle.table.specs.Slices.{fitted, kindsOf, stopsOf, weightsOf, heightsOf, decoded};
 ghost use Rattle.abi.specs.Numbers.{codeOf, numbersOf, put, Small};
-use table::Reading;
 use line::Refusal;
+use table::Reading;
 use table::Summary;
 
 fn put_at(numbers: &mut [i64], i: usize, z: i64)

@@ -1,18 +1,17 @@
 -- A list of checks: where it refuses, and what is known where it does not. Assumes nothing.
-use Prim.Native.Nat.{ℕ, zero, suc, _+_, _≤_, _<_}
+use Prim.Native.Nat.{ℕ, _+_}
 use mathlib.Core.Path.{_≡_, refl, sym, ap, _∙_}
 use mathlib.Core.Bool.{Bool, true, false, not, _||_, cond}
-use mathlib.Core.List.{List, [], _∷_, _++_}
-use native.Mathlib.Omega.{arith}
+use mathlib.Core.List.{List, [], _∷_}
 use lib.ListN.{length, drop}
 use lib.Dec.{leb, ltb, eqb, leb·suc-suc}
 use borrow.Author.Tests.{eq-eqb, ne-eqb}
-use Rattle.line.specs.Refusal.{Verdict, refused, fine, Check, unless}
+use Rattle.line.specs.Refusal.{refused, fine, Check, unless}
 use Rattle.line.specs.declared.Head.{Head}
 use Rattle.line.specs.declared.Entry.{Entry}
 use Rattle.line.specs.declared.Heading.{Heading}
 use Rattle.line.specs.declared.Refusal.the-variants.{TooDeep, Misfilled, OutOfRange, IllWritten, Misnumbered, UnknownKind, WrongParent}
-use Rattle.line.specs.Line.{Step, Placed, Above, wrong, path, ancestors, stepsOf, isWrong, illEntry, holds, letterCode, placeOf, illHeading, wideHeading, headOf, headerFor, chancesOf, atChance, stepped, deep, misfilled, wideEntry, lineSaid, lateChecks, placed, placingOf}
+use Rattle.line.specs.Line.{Step, Above, wrong, path, ancestors, stepsOf, isWrong, illEntry, holds, letterCode, placeOf, illHeading, wideHeading, headOf, headerFor, chancesOf, atChance, stepped, deep, misfilled, wideEntry, lineSaid, lateChecks, placed, placingOf}
 use Rattle.line.specs.Inside.{pathOf}
 use Rattle.line.proofs.Path.{path-length}
 use Rattle.line.proofs.Signs.{true-ne-false}

@@ -1,13 +1,13 @@
 -- What is known of a header and of a node line that was not refused. Assumes nothing.
-use Prim.Native.Nat.{ℕ, zero, suc, _+_, _≤_, _<_}
-use mathlib.Core.Path.{_≡_, refl, sym, ap, subst, _∙_}
+use Prim.Native.Nat.{ℕ, suc, _≤_, _<_}
+use mathlib.Core.Path.{_≡_, refl, sym, ap, subst}
 use mathlib.Core.Bool.{Bool, true, false, not, _||_, cond}
-use mathlib.Core.List.{List, [], _∷_, _++_}
+use mathlib.Core.List.{List, [], _∷_}
 use native.Mathlib.Omega.{arith}
 use native.Mathlib.Nat.{le-trans}
-use borrow.Author.Tests.{eqb-true, eqb-false, ltb-true, ltb-false, leb-false, not-false}
+use borrow.Author.Tests.{eqb-true, ltb-false, not-false}
 use lib.ListN.{length}
-use lib.Dec.{leb, ltb, eqb, leb·suc-suc}
+use lib.Dec.{ltb, eqb}
 use lib.IntN.{ℤ, pos, negsuc}
 use lib.Signed.{mag, ltZ}
 use Rattle.field.specs.declared.Field.{Field}
@@ -15,13 +15,12 @@ use Rattle.field.specs.declared.Field.the-variants.{Blank, Ill, Number}
 use Rattle.line.specs.declared.Head.{Head}
 use Rattle.line.specs.declared.Heading.{Heading}
 use Rattle.line.specs.declared.Entry.{Entry}
-use Rattle.line.specs.declared.Line.{Line}
 use Rattle.line.specs.declared.Refusal.{Refusal}
-use Rattle.line.specs.Refusal.{Verdict, refused, fine, Check, unless, unlessAt}
-use Rattle.line.specs.Line.{isIll, isBlank, holds, outside, valueOf, toNat, countOf, illHeading, wideHeading, headOf, headerChecks, headerFor, letterCode, Step, Above, wrong, path, climb, climbTo, ancestors, isWrong, stepsOf, chancesOf, atChance, illEntry, deep, misfilled, wideEntry, stepped, Placed, lineSaid, placed, lineChecks, placeOf}
+use Rattle.line.specs.Refusal.{refused, fine, Check, unless, unlessAt}
+use Rattle.line.specs.Line.{isIll, isBlank, holds, outside, valueOf, toNat, countOf, headOf, headerChecks, headerFor, letterCode, Step, Above, wrong, path, climb, ancestors, isWrong, stepsOf, chancesOf, atChance, stepped, Placed, placed, lineChecks, placeOf}
 use Rattle.line.specs.Inside.{Ranged, Sized}
 use Rattle.line.specs.Line.{Weighs, Within}
-use Rattle.line.proofs.Signs.{true-ne-false, no-neg, no-pos}
+use Rattle.line.proofs.Signs.{true-ne-false}
 use Rattle.line.proofs.Checks.{or-left, or-right}
 
 -- no check of the list holds

@@ -1,21 +1,19 @@
 -- The path in three slices, step by step. Assumes nothing.
-use Prim.Native.Nat.{ℕ, zero, suc, _+_, _-_, _≤_, _<_}
-use mathlib.Core.Path.{_≡_, refl, sym, ap, _∙_}
-use mathlib.Core.Bool.{Bool, true, false, cond}
-use mathlib.Core.List.{List, [], _∷_}
-use native.Mathlib.Numerals.{sub-one}
+use Prim.Native.Nat.{ℕ, zero, suc, _-_, _≤_, _<_}
+use mathlib.Core.Path.{_≡_, refl, ap}
+use mathlib.Core.Bool.{true, false}
+use mathlib.Core.List.{List}
 use native.Mathlib.Omega.{arith}
-use lib.ListN.{length, getD, set}
-use lib.Seq.{getD-set-same, getD-set-other}
+use lib.ListN.{length, getD}
 use lib.Dec.{eqb}
 use lib.IntN.{ℤ, pos, negsuc}
 use lib.Signed.{ltZ}
 use borrow.Author.Tests.{eq-eqb, ne-eqb}
 use Rattle.field.specs.declared.Field.{Field}
-use Rattle.field.specs.declared.Field.the-variants.{Blank, Ill, Number}
-use Rattle.line.specs.Line.{Step, Above, wrong, path, climb, climbTo, ancestors, isBlank, toNat, chancesOf, atChance}
+use Rattle.field.specs.declared.Field.the-variants.{Number}
+use Rattle.line.specs.Line.{Step, wrong, path, climb, climbTo, ancestors, isBlank, toNat, chancesOf, atChance}
 use Rattle.line.specs.Inside.{pathOf, Bounded}
-use Rattle.line.proofs.Signs.{true-ne-false, no-neg, no-pos}
+use Rattle.line.proofs.Signs.{no-neg, no-pos}
 
 module _ (ns ks cs : List ℕ) (p : ℕ) where
   -- the last of d steps

@@ -157,13 +157,7 @@ fn is_number(n: u64, f: Field) -> bool
     match f {
         Field::Blank => false,
         Field::Ill => false,
-        Field::Number(z) => {
-            if z < 0 {
-                false
-            } else {
-                natural(z) == n
-            }
-        }
+        Field::Number(z) => { if z < 0 { false } else { natural(z) == n } }
     }
 }
 
@@ -388,7 +382,15 @@ fn line_of(i: usize, kind: u8, chances: u64, e: Entry) -> Line
 }
 
 // A node line below d steps of the path: 10, 7, 3.
-fn place_below(e: Entry, i: usize, h: Head, kind: u8, kinds: &[u8; 64], chances: &[u64; 64], d: usize) -> Placing
+fn place_below(
+    e: Entry,
+    i: usize,
+    h: Head,
+    kind: u8,
+    kinds: &[u8; 64],
+    chances: &[u64; 64],
+    d: usize,
+) -> Placing
     requires { ⌜ (d ≤ 64) × (i < 1024) × (h .total ≤ 64) × Bounded (now chances) ⌝ }
     ensures shown { λ r. ⌜ ((ns : List ℕ) → placingShown ns (now (kinds .entry)) (now (chances .entry)) r ≡ placingOf h i kind e (pathOf ns (now (kinds .entry)) (now (chances .entry)) d)) ⌝ }
     ensures roomy { λ r. ⌜ Roomy r ⌝ }
@@ -459,7 +461,17 @@ pub fn node_line(
     ensures shown { λ r. ⌜ placingShown (now (nodes .entry)) (now (kinds .entry)) (now (chances .entry)) r ≡ nodeLine h i (pathOf (now (nodes .entry)) (now (kinds .entry)) (now (chances .entry)) depth) (now (line .entry)) ⌝ }
     ensures roomy { λ r. ⌜ Roomy r ⌝ }
 {
-    place(read_entry(line), line[4], line[24], i, h, nodes, kinds, chances, depth)
+    place(
+        read_entry(line),
+        line[4],
+        line[24],
+        i,
+        h,
+        nodes,
+        kinds,
+        chances,
+        depth,
+    )
 }
 
 // The header of a table of n node lines: 2, 3, 4.

@@ -1,14 +1,13 @@
 -- From decoded node lines to the whole verdict: 8, 9, and the numbers of an accepted table. Assumes nothing.
-use Prim.Native.Nat.{ℕ, zero, suc, _+_, _-_, _*_, _^_, _≤_, _<_}
-use mathlib.Core.Path.{_≡_, refl, sym, ap, ap₂, subst, _∙_}
+use Prim.Native.Nat.{ℕ, zero, suc, _+_, _-_, _≤_, _<_}
+use mathlib.Core.Path.{_≡_, refl, sym, ap, subst, _∙_}
 use mathlib.Core.Bool.{Bool, true, false, not, _&&_, cond}
-use mathlib.Core.List.{List, [], _∷_, _++_, map}
+use mathlib.Core.List.{List, [], _∷_, map}
 use native.Mathlib.Omega.{arith}
-use native.Mathlib.Numerals.{add-one}
 use borrow.Author.Tests.{lt-ltb, le-ltb}
-use lib.ListN.{length, getD, take, drop, length-map, length-append, List·getD-append}
+use lib.ListN.{length, getD, take, drop, length-map, List·getD-append}
 use lib.Seq.{take-append-seam}
-use lib.Dec.{eqb, ltb, leb}
+use lib.Dec.{eqb, leb}
 use lib.IntN.{ℤ}
 use Rattle.line.specs.declared.Head.{Head}
 use Rattle.line.specs.declared.Line.{Line}
@@ -21,11 +20,10 @@ use Rattle.table.specs.declared.Reading.the-variants.{Accepted, Refused}
 use Rattle.line.specs.Refusal.{Verdict, refused, fine, unlessAt, next}
 use Rattle.table.specs.Tree.{Kind, Forest, end, leaf, inner, isEnd, isChance, run, weigh, nodesWhere, childless, unbalanced}
 use Rattle.line.specs.Line.{Step}
-use Rattle.table.specs.Table.{Table, nodeLines, linesOf, tree, complete, greatest, leafLines, summary, answer}
+use Rattle.table.specs.Table.{Table, nodeLines, linesOf, tree, complete, greatest, leafLines, answer}
 use Rattle.table.specs.Slices.{Slices, Spans, slicesOf, heightOf, heightTree, ends, laid, kindsOf, weightsOf, heightsOf, stopsOf}
 use Rattle.table.specs.Inside.{Gathered, reach, endsFrom, scanFrom, firstOr, bareAt, oddAt, Has, summaryOf, refuseAt, completeAt, Decoded}
 use Rattle.table.proofs.Scan.{spans-le, scan-below, spans-where, bare-tests, odd-tests}
-use Rattle.table.proofs.Reach.{ends-length}
 use Rattle.table.proofs.Grown.{lines-counted, lines-first, next-fine}
 use Rattle.table.proofs.Heights.{mapForest, map-end, map-weigh, above, heights-map}
 use Rattle.line.proofs.Fine.{unlessAt-fine}
@@ -179,11 +177,12 @@ module _ (h : Head) (n : ℕ) (s : List ℕ) (ls : List Line) (e : nodeLines h n
     spans : Spans S 0 n (heightTree t)
     spans =
         spans-same (slicesOf t) S n
-        (λ i l.
-          (laid-at (kindsOf t) k k′ n i pk (length-map ls (λ (l : Line). l .kind) ∙ counted) l,
+        (λ i l. (
+          laid-at (kindsOf t) k k′ n i pk (length-map ls (λ (l : Line). l .kind) ∙ counted) l,
           laid-at (stopsOf t) st st′ n i ps (ends-long ls ∙ counted) l,
           laid-at (weightsOf t) w w′ n i pw (length-map ls (λ (l : Line). l .weight) ∙ counted) l,
-          laid-at (heightsOf t) g g′ n i pg (length-map ls (heightOf (h .lowest)) ∙ counted) l))
+          laid-at (heightsOf t) g g′ n i pg (length-map ls (heightOf (h .lowest)) ∙ counted) l,
+        ))
         0 n (heightTree t) (omega arith) (subst (λ (m : ℕ). Spans (slicesOf t) 0 m (heightTree t)) counted (read-spans t n s e some))
 
     pub has : Has k′ st′ w′ 0 n

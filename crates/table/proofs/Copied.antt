@@ -1,10 +1,10 @@
 -- Entries copied to the front of a slice, as many as it has room for. Assumes nothing.
-use Prim.Native.Nat.{ℕ, zero, suc, _+_, _≤_, _<_}
-use mathlib.Core.Path.{_≡_, refl, sym, ap, _∙_}
-use mathlib.Core.List.{List, [], _∷_, _++_}
+use Prim.Native.Nat.{ℕ, _+_, _≤_, _<_}
+use mathlib.Core.Path.{_≡_, refl, ap, _∙_}
+use mathlib.Core.List.{List}
 use native.Mathlib.Omega.{arith}
 use native.Mathlib.Numerals.{add-one}
-use lib.ListN.{length, getD, set, take, drop, length-take, length-set}
+use lib.ListN.{length, getD, set, take, length-set}
 use lib.Seq.{take-suc, take-take, take-all, length-take-le}
 use Rattle.table.specs.Slices.{laid, fitted}
 use Rattle.table.proofs.Gather.{laid-more}

@@ -7,16 +7,15 @@ use native.Mathlib.Omega.{arith}
 use native.Mathlib.Nat.{le-trans}
 use native.Mathlib.Numerals.{add-one}
 use lib.ListN.{length, replicate, getD, set, take, drop, length-append, length-set, length-map, length-drop}
-use lib.Seq.{getD-set-same, getD-set-other, set-append-seam, drop-cons, drop-drop, drop-length}
+use lib.Seq.{getD-set-same, getD-set-other, set-append-seam, drop-cons, drop-drop}
 use lib.Dec.{eqb}
-use lib.IntN.{ℤ}
 use Rattle.line.specs.declared.Head.{Head}
 use Rattle.line.specs.declared.Line.{Line}
 use Rattle.table.specs.declared.Lines
 use Rattle.table.specs.declared.Lines.{Lines}
 use Rattle.line.specs.declared.Refusal.{Refusal}
 use Rattle.line.specs.Refusal.{Verdict, refused, fine, next}
-use Rattle.line.specs.Line.{Step, Placed, ancestors, stepsOf, stepped, chancesOf, entryOf, nodeLine}
+use Rattle.line.specs.Line.{Step, Placed, ancestors, stepsOf, entryOf, nodeLine}
 use Rattle.table.specs.Table.{prefix, nodeLines, greatest, leafLines}
 use Rattle.table.specs.Slices.{heightOf, laid}
 use Rattle.line.specs.Inside.{pathOf, Bounded, Ranged, Sized}

@@ -1,15 +1,14 @@
 -- A refusal names a line of the table. Assumes nothing.
-use Prim.Native.Nat.{ℕ, zero, suc, _+_, _-_, _*_, _/_, _≤_, _<_}
-use mathlib.Core.Path.{_≡_, refl, sym, ap, subst, _∙_}
+use Prim.Native.Nat.{ℕ, zero, suc, _+_, _-_, _≤_, _<_}
+use mathlib.Core.Path.{_≡_, refl, subst}
 use mathlib.Core.Bool.{Bool, true, false, cond}
 use mathlib.Core.List.{List, [], _∷_, _++_}
 use native.Mathlib.Omega.{arith}
 use lib.ListN.{length, take, drop, getD}
-use lib.IntN.{ℤ}
 use Rattle.line.specs.declared.Head.{Head}
 use Rattle.line.specs.declared.Line.{Line}
 use Rattle.line.specs.declared.Refusal.{Refusal}
-use Rattle.line.specs.declared.Refusal.the-variants.{Length, Childless, WrongSum}
+use Rattle.line.specs.declared.Refusal.the-variants.{Childless, WrongSum}
 use Rattle.line.specs.Refusal.{Verdict, refused, fine, Check, unless, unlessAt, next, lineOf}
 use Rattle.table.specs.Tree.{Kind, Forest, end, leaf, inner, nodesWhere, childless, unbalanced}
 use Rattle.line.specs.Line.{Step, Placed, ancestors, stepped, stepsOf, placed, letterCode, entryOf, headingOf, headOf, header, headerChecks, lineChecks, nodeLine}
@@ -94,9 +93,9 @@ complete-upto m t N l =
     next-upto m (unlessAt (λ (n : ℕ). Childless (n + 1)) (childless (tree t)) t) (λ (t : Table). unlessAt (λ (n : ℕ). WrongSum (n + 1)) (unbalanced (t .head .total) (tree t)) t)
     (unless-at m (λ (n : ℕ). Childless (n + 1)) (childless (tree t)) t (λ x h. omega arith) (where-below _ m 0 (tree t) N (omega arith)))
     (λ t′ e.
-      let z : t ≡ t′ = unlessAt-fine (λ (n : ℕ). Childless (n + 1)) (childless (tree t)) t t′ e .1 in
-      subst (λ (y : Table). Upto m (unlessAt (λ (n : ℕ). WrongSum (n + 1)) (unbalanced (y .head .total) (tree y)) y)) z
-      (unless-at m (λ (n : ℕ). WrongSum (n + 1)) (unbalanced (t .head .total) (tree t)) t (λ x h. omega arith) (where-below _ m 0 (tree t) N (omega arith))))
+    let z : t ≡ t′ = unlessAt-fine (λ (n : ℕ). Childless (n + 1)) (childless (tree t)) t t′ e .1 in
+    subst (λ (y : Table). Upto m (unlessAt (λ (n : ℕ). WrongSum (n + 1)) (unbalanced (y .head .total) (tree y)) y)) z
+    (unless-at m (λ (n : ℕ). WrongSum (n + 1)) (unbalanced (t .head .total) (tree t)) t (λ x h. omega arith) (where-below _ m 0 (tree t) N (omega arith))))
 
 -- ---- the whole text
 
@@ -109,10 +108,10 @@ read-upto s false e =
     (next-upto 1024 (header n (take 25 s)) (λ (h : Head). linesOf h n (drop 25 s))
     (unless-upto 1024 (headerChecks n (getD (take 25 s) 24 0) (headingOf (take 25 s))) (headOf (headingOf (take 25 s))) (omega arith, (omega arith, (omega arith, tt))))
     (λ h p.
-      next-upto 1024 (nodeLines h n 0 [] (drop 25 s)) (λ (ls : List Line). complete (record { head = h; lines = ls })) (lines-upto h 1024 n 0 [] (drop 25 s) (omega (arith, g .2)))
-      (λ ls q.
-        let t : Table = record { head = h; lines = ls } in
-        complete-upto 1024 t (read-numbered t n (drop 25 s) q (g .1)) (omega (arith, read-size t n (drop 25 s) q (g .1), g .2)))))
+    next-upto 1024 (nodeLines h n 0 [] (drop 25 s)) (λ (ls : List Line). complete (record { head = h; lines = ls })) (lines-upto h 1024 n 0 [] (drop 25 s) (omega (arith, g .2)))
+    (λ ls q.
+    let t : Table = record { head = h; lines = ls } in
+    complete-upto 1024 t (read-numbered t n (drop 25 s) q (g .1)) (omega (arith, read-size t n (drop 25 s) q (g .1), g .2)))))
 
 pub refused-line : (s : List ℕ) (r : Refusal) → readText s ≡ refused r → lineOf r ≤ 1024
 refused-line s r e = subst (Upto 1024) e (read-upto s (badLength (length s)) refl)

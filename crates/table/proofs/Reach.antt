@@ -1,15 +1,15 @@
 -- Runs by the parents' numbers: from child to child, and all of them in a slice. Assumes nothing.
-use Prim.Native.Nat.{ℕ, zero, suc, _+_, _-_, _*_, _≤_, _<_}
-use mathlib.Core.Path.{_≡_, refl, sym, ap, subst, _∙_}
+use Prim.Native.Nat.{ℕ, zero, suc, _+_, _-_, _≤_, _<_}
+use mathlib.Core.Path.{_≡_, refl, sym, ap, _∙_}
 use mathlib.Core.Bool.{Bool, true, false, cond}
-use mathlib.Core.List.{List, [], _∷_, _++_, map}
+use mathlib.Core.List.{List, [], _∷_}
 use native.Mathlib.Omega.{arith}
 use native.Mathlib.Nat.{le-trans}
 use native.Mathlib.Numerals.{add-one}
-use borrow.Author.Tests.{leb-true, leb-false, le-leb, lt-leb}
-use lib.ListN.{length, getD, set, take, drop, length-set, length-drop, length-take, length-append, take-append-drop}
-use lib.Seq.{drop-cons, drop-drop, ext-getD, getD-drop, getD-take, getD-set-same, getD-set-other, drop-set-lt, length-take-le, take-at, drop-at}
-use lib.ListN.{drop-of-length-le, List·getD-append}
+use borrow.Author.Tests.{leb-true, le-leb, lt-leb}
+use lib.ListN.{length, getD, set, take, drop, length-drop, take-append-drop}
+use lib.Seq.{drop-cons, drop-drop, ext-getD, getD-take, getD-set-same, getD-set-other, length-take-le}
+use lib.ListN.{drop-of-length-le}
 use lib.Dec.{leb}
 use native.Mathlib.Decide.{decLe}
 use Rattle.table.specs.Slices.{laid}
@@ -87,9 +87,9 @@ ended-laid U st st₀ E l m d =
     let front : take (length U) st ≡ endsFrom 0 U =
     ext-getD 0 (take (length U) st) (endsFrom 0 U) (length-take-le (length U) st (omega arith) ∙ sym (ends-length 0 U))
     (λ i h.
-      let k : i < length U = omega (arith, length-take-le (length U) st (omega arith)) in
-      let z : 0 + i ≡ i = omega arith in
-      getD-take (length U) st i 0 k ∙ E i (omega arith) k ∙ sym (rw z at (ends-at 0 U i k))) in
+    let k : i < length U = omega (arith, length-take-le (length U) st (omega arith)) in
+    let z : 0 + i ≡ i = omega arith in
+    getD-take (length U) st i 0 k ∙ E i (omega arith) k ∙ sym (rw z at (ends-at 0 U i k))) in
     sym (take-append-drop (length U) st) ∙ rw (front, d, ends-length 0 U)
 
 pub ended-more : (U st : List ℕ) (i e : ℕ) → Ended U st (i + 1) → e ≡ endOf U i → i < length st → Ended U (set st i e) i

@@ -1,8 +1,8 @@
 -- The first steps of the reading: the length and the header. Assumes nothing.
-use Prim.Native.Nat.{ℕ, zero, suc, _+_, _-_, _*_, _/_, _%_, _≤_, _<_}
-use mathlib.Core.Path.{_≡_, refl, sym, ap, subst, _∙_}
-use mathlib.Core.Bool.{Bool, true, false, not, _||_, cond}
-use mathlib.Core.List.{List, [], _∷_, _++_}
+use Prim.Native.Nat.{ℕ, _+_, _-_, _*_, _/_, _%_, _≤_, _<_}
+use mathlib.Core.Path.{_≡_, refl, sym, ap, _∙_}
+use mathlib.Core.Bool.{true, false, not, _||_}
+use mathlib.Core.List.{List}
 use native.Mathlib.Omega.{arith}
 use borrow.Author.Tests.{ltb-false, eqb-true, not-false}
 use lib.ListN.{length, take, drop, length-append, length-map}
@@ -12,7 +12,6 @@ use Rattle.line.specs.declared.Head.{Head}
 use Rattle.line.specs.declared.Line.{Line}
 use Rattle.table.specs.declared.Summary.{Summary}
 use Rattle.line.specs.declared.HeadRead
-use Rattle.line.specs.declared.HeadRead.{HeadRead}
 use Rattle.line.specs.declared.Refusal.{Refusal}
 use Rattle.line.specs.declared.Refusal.the-variants.{Length}
 use Rattle.table.specs.declared.Reading.{Reading}
@@ -20,8 +19,7 @@ use Rattle.table.specs.declared.Reading.the-variants.{Accepted, Refused}
 use Rattle.line.specs.Refusal.{Verdict, refused, fine, next}
 use Rattle.line.specs.Line.{header}
 use Rattle.table.specs.Table.{Table, badLength, count, linesOf, readText, summary}
-use Rattle.table.specs.Slices.{heightOf, kindsOf, stopsOf, weightsOf, heightsOf, ends, laid, fitted, decoded}
-use Rattle.line.specs.Inside.{headShown}
+use Rattle.table.specs.Slices.{heightOf, kindsOf, stopsOf, weightsOf, heightsOf, laid, fitted, decoded}
 use Rattle.table.specs.Inside.{Decoded}
 use Rattle.line.proofs.Checks.{or-left, or-right}
 use Rattle.table.proofs.Complete.{ends-long}

@@ -1,5 +1,5 @@
 -- What holds of every accepted table: the shape and the ranges of document 01, 'The table on paper'. proofs/Accepted.antt has the theorems.
-use Prim.Native.Nat.{ℕ, zero, suc, _+_, _≤_, _<_}
+use Prim.Native.Nat.{ℕ, suc, _+_, _≤_, _<_}
 use mathlib.Core.Path.{_≡_}
 use mathlib.Core.Bool.{Bool, true, false, cond}
 use mathlib.Core.List.{List, [], _∷_, _++_}

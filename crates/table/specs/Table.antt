@@ -1,10 +1,10 @@
 -- A table's text as a whole. Document 01, 'The table on paper', 'Grains' and the sequence of 'Refused tables and calls'.
-use Prim.Native.Nat.{ℕ, zero, suc, _+_, _-_, _*_, _/_, _%_, _^_, max}
+use Prim.Native.Nat.{ℕ, zero, suc, _+_, _-_, _/_, _%_, _^_, max}
 use mathlib.Core.Bool.{Bool, not, _||_, cond}
-use mathlib.Core.List.{List, [], _∷_, _++_, map}
+use mathlib.Core.List.{List, [], _∷_, _++_}
 use lib.ListN.{length, take, drop}
 use lib.Dec.{eqb, ltb}
-use lib.IntN.{ℤ, natAbs, _-ℤ_}
+use lib.IntN.{ℤ}
 use Rattle.line.specs.declared.Head.{Head}
 use Rattle.line.specs.declared.Line.{Line}
 use Rattle.table.specs.declared.Summary.{Summary}
@@ -12,7 +12,7 @@ use Rattle.line.specs.declared.Refusal.the-variants.{Length, Childless, WrongSu
 use Rattle.table.specs.declared.Reading.{Reading}
 use Rattle.table.specs.declared.Reading.the-variants.{Accepted, Refused}
 use Rattle.line.specs.Refusal.{Verdict, refused, fine, unlessAt, next}
-use Rattle.table.specs.Tree.{Forest, forest, run, childless, unbalanced}
+use Rattle.table.specs.Tree.{Forest, forest, childless, unbalanced}
 use Rattle.line.specs.Line.{header, Step, Placed, nodeLine}
 
 -- an accepted table: its header and its node lines

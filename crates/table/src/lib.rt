@@ -226,7 +226,15 @@ fn power(base: u64, k: u64) -> u64
 }
 
 // A table whose node lines are decoded: 8, then 9, then accepted.
-fn completed(h: Head, most: u64, leaves: usize, kind: &[u8], stop: &[u16], weight: &[u8], n: usize) -> Reading
+fn completed(
+    h: Head,
+    most: u64,
+    leaves: usize,
+    kind: &[u8],
+    stop: &[u16],
+    weight: &[u8],
+    n: usize,
+) -> Reading
     requires { ⌜ (n ≤ length (now kind)) × (n ≤ length (now stop)) × (n ≤ length (now weight)) × (n ≤ 1024) × (h .total ≤ 64) × (most ≤ 4) × Has (now kind) (now stop) (now weight) 0 n ⌝ }
     ensures { λ r. ⌜ r ≡ completeAt (now (kind .entry)) (now (stop .entry)) (now (weight .entry)) n h most leaves ⌝ }
 {

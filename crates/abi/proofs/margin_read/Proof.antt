@@ -1,23 +1,18 @@
+-- `abi::margin_read` meets its contract. Assumes nothing.
 use Prim.Native.Nat.{ℕ}
 use mathlib.Core.Path.{_≡_, sym, ap, _∙_}
 use mathlib.Core.List.{List}
+use borrow.Author.Needs.{needs}
 use denote.Ref.{now}
 use lib.IntN.{ℤ}
 use Rattle.table.specs.declared.Reading.{Reading}
 use Rattle.table.specs.declared.Reading.the-variants.{Accepted, Refused}
 use Rattle.table.specs.Table.{readText, answer}
-use Rattle.table.proofs.Places.{refused-line}
 use Rattle.abi.specs.Numbers.{codeOf, numbersOf, put}
+use Rattle.table.proofs.Places.{refused-line}
 use Rattle.abi.proofs.Answers.{answer-refused, small}
-use borrow.Author.Needs.{needs}
 use Rattle.abi.proofs.margin_read.Statement.{statement}
 use Rattle.abi.proofs.margin_read.Tie as tie
-use Rattle.abi.proofs.margin_read.Reads as reads
-use Rattle.abi.proofs.margin_read.Lts as lts
-use Rattle.abi.proofs.put_line.Reads as put-line-reads
-use Rattle.abi.proofs.put_table.Reads as put-table-reads
-use Rattle.line.proofs.refusal_number.Reads as refusal-number-reads
-use Rattle.table.proofs.read.Reads as read-reads
 
 abbrev text-of : tie.After-read → List ℕ
 text-of c = now (c .before .before .before .before .before .before .before .before .before .before .args .text)
@@ -29,57 +24,45 @@ numbers-of c = now (c .before .before .before .before .before .before .before .b
 said : (c : tie.After-read) (r : Reading) → c .read .result ≡ r → answer (readText (text-of c)) ≡ r
 said c r e = sym (c .read .ensures .0) ∙ e
 
--- src/lib.rt:68:11
 read-requires : tie.Need-read-requires
 read-requires c κs = search needs
 
--- src/lib.rt:69:26
 enum-known-r : tie.Need-enum-known-r
 enum-known-r c = search needs
 
--- src/lib.rt:70:13
 put-line-requires : tie.Need-put-line-requires
 put-line-requires c κs =
     let R = c .before .before .before .before .before .before .before .before .before .before .before .before in
     let r = c .before .before .r .given in
     refused-line (text-of R) (r .0 .0) (answer-refused (readText (text-of R)) (r .0 .0) (said R (Refused (r .0 .0)) (r .1)))
 
--- src/lib.rt:71:13
 refusal-number-requires : tie.Need-refusal-number-requires
 refusal-number-requires c κs = search needs
 
--- src/lib.rt:73:27
 enum-known-t : tie.Need-enum-known-t
 enum-known-t c = search needs
 
--- src/lib.rt:74:13
 put-table-requires : tie.Need-put-table-requires
 put-table-requires c κs =
     let R = c .before .before .before .before .before .before .before .before .before .before .before .before in
     let t = c .before .before .t .given in
     small (text-of R) (t .0 .0) (said R (Accepted (t .0 .0)) (t .1))
 
--- src/lib.rt:52:1
 same-length : tie.Need-same-length
 same-length c = search needs
 
--- src/lib.rt:52:1
 same-length-2 : tie.Need-same-length-2
 same-length-2 c = search needs
 
--- src/lib.rt:52:1
 same-length-3 : tie.Need-same-length-3
 same-length-3 c = search needs
 
--- src/lib.rt:52:1
 same-length-4 : tie.Need-same-length-4
 same-length-4 c = search needs
 
--- src/lib.rt:52:1
 same-length-5 : tie.Need-same-length-5
 same-length-5 c = search needs
 
--- src/lib.rt:52:1
 returns : tie.Need-returns
 returns c =
     let L = c .before .before in
@@ -88,27 +71,21 @@ returns c =
     let e = said R (Refused (r .0 .0)) (r .1) in
     (c .refusal-number .ensures ∙ sym (ap codeOf e), (L .put-line .ensures ∙ sym (ap (λ (x : Reading). put 0 (numbersOf x) (numbers-of R)) e), R .read .ensures .1))
 
--- src/lib.rt:52:1
 same-length-6 : tie.Need-same-length-6
 same-length-6 c = search needs
 
--- src/lib.rt:52:1
 same-length-7 : tie.Need-same-length-7
 same-length-7 c = search needs
 
--- src/lib.rt:52:1
 same-length-8 : tie.Need-same-length-8
 same-length-8 c = search needs
 
--- src/lib.rt:52:1
 same-length-9 : tie.Need-same-length-9
 same-length-9 c = search needs
 
--- src/lib.rt:52:1
 same-length-10 : tie.Need-same-length-10
 same-length-10 c = search needs
 
--- src/lib.rt:52:1
 returns-2 : tie.Need-returns-2
 returns-2 c =
     let T = c .before in

@@ -1,29 +1,23 @@
+-- `abi::put_at` meets its contract. Assumes nothing.
 use mathlib.Core.Path.{sym}
+use borrow.Author.Needs.{needs}
 use denote.Ref.{now}
 use lib.Seq.{set-out}
-use borrow.Author.Needs.{needs}
 use Rattle.abi.proofs.put_at.Statement.{statement}
 use Rattle.abi.proofs.put_at.Tie as tie
-use Rattle.abi.proofs.put_at.Reads as reads
-use Rattle.abi.proofs.put_at.Lts as lts
 
--- src/lib.rt:17:9
 mul-z : tie.Need-mul-z
 mul-z c = search needs
 
--- src/lib.rt:17:9
 slice-set-from-z : tie.Need-slice-set-from-z
 slice-set-from-z c = search needs
 
--- src/lib.rt:13:1
 same-length : tie.Need-same-length
 same-length c = search needs
 
--- src/lib.rt:13:1
 returns : tie.Need-returns
 returns c = search needs
 
--- src/lib.rt:13:1
 returns-2 : tie.Need-returns-2
 returns-2 c = sym (set-out (now (c .before .args .numbers)) (c .before .args .i) (c .before .args .z) (c .if1 .left))
 

@@ -1,18 +1,15 @@
-use denote.Ref.{now}
+-- `abi::put_table` meets its contract. Assumes nothing.
 use Prim.Native.Nat.{ℕ}
 use mathlib.Core.Path.{_≡_, refl, ap₂, _∙_}
 use mathlib.Core.List.{List}
+use borrow.Author.Needs.{needs}
+use denote.Ref.{now}
 use lib.ListN.{set}
 use lib.IntN.{ℤ}
 use mir.Syntax.{w64}
 use mir.Val.{toZ, ofZ}
-use borrow.Author.Needs.{needs}
 use Rattle.abi.proofs.put_table.Statement.{statement}
 use Rattle.abi.proofs.put_table.Tie as tie
-use Rattle.abi.proofs.put_table.Reads as reads
-use Rattle.abi.proofs.put_table.Lts as lts
-use Rattle.abi.proofs.put_at.Reads as put-at-reads
-use Rattle.abi.proofs.signed.Reads as signed-reads
 
 lowest-back : (s : tie.Start) → toZ w64 (ofZ w64 (s .args .t .lowest)) ≡ s .args .t .lowest
 lowest-back s = search needs
@@ -23,62 +20,48 @@ highest-back s = search needs
 stored : {a b b′ : List ℤ} {z z′ : ℤ} (i : ℕ) → a ≡ set b i z → b ≡ b′ → z ≡ z′ → a ≡ set b′ i z′
 stored i p q r = p ∙ ap₂ (λ (x : List ℤ) (y : ℤ). set x i y) q r
 
--- src/lib.rt:33:24
 signed-requires : tie.Need-signed-requires
 signed-requires c κs = search needs
 
--- src/lib.rt:33:5
 put-at-requires : tie.Need-put-at-requires
 put-at-requires c κs = search needs
 
--- src/lib.rt:34:24
 signed-requires-2 : tie.Need-signed-requires-2
 signed-requires-2 c κs = search needs
 
--- src/lib.rt:34:5
 put-at-requires-2 : tie.Need-put-at-requires-2
 put-at-requires-2 c κs = search needs
 
--- src/lib.rt:35:5
 put-at-requires-3 : tie.Need-put-at-requires-3
 put-at-requires-3 c κs = search needs
 
--- src/lib.rt:36:5
 put-at-requires-4 : tie.Need-put-at-requires-4
 put-at-requires-4 c κs = search needs
 
--- src/lib.rt:37:24
 signed-requires-3 : tie.Need-signed-requires-3
 signed-requires-3 c κs = search needs
 
--- src/lib.rt:37:5
 put-at-requires-5 : tie.Need-put-at-requires-5
 put-at-requires-5 c κs = search needs
 
--- src/lib.rt:38:24
 signed-requires-4 : tie.Need-signed-requires-4
 signed-requires-4 c κs = search needs
 
--- src/lib.rt:38:5
 put-at-requires-6 : tie.Need-put-at-requires-6
 put-at-requires-6 c κs = search needs
 
--- src/lib.rt:39:24
 signed-requires-5 : tie.Need-signed-requires-5
 signed-requires-5 c κs =
     let P6 = c .before .before in
     let P3 = P6 .before .before .before .before .before .before .before .before .before .before .before .before in
     P3 .before .before .before .before .before .before .before .before .before .before .before .pre .leaves
 
--- src/lib.rt:39:5
 put-at-requires-7 : tie.Need-put-at-requires-7
 put-at-requires-7 c κs = search needs
 
--- src/lib.rt:29:1
 same-length : tie.Need-same-length
 same-length c = search needs
 
--- src/lib.rt:29:1
 returns : tie.Need-returns
 returns c =
     let P7 = c .before in

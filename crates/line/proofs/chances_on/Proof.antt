@@ -1,28 +1,22 @@
+-- `line::chances_on` meets its contract. Assumes nothing.
+use borrow.Author.Needs.{needs}
 use denote.Ref.{now}
 use Rattle.line.proofs.Path.{chances-none, chances-last}
-use borrow.Author.Needs.{needs}
 use Rattle.line.proofs.chances_on.Statement.{statement}
 use Rattle.line.proofs.chances_on.Tie as tie
-use Rattle.line.proofs.chances_on.Reads as reads
-use Rattle.line.proofs.chances_on.Lts as lts
 
--- src/lib.rt:343:9
 returns : tie.Need-returns
 returns c ns ks = chances-none ns ks (now (c .before .args .chances)) (c .before .args .d) (c .if1 .taken)
 
--- src/lib.rt:345:13
 sub-result : tie.Need-sub-result
 sub-result c = search needs
 
--- src/lib.rt:345:5
 mul-result : tie.Need-mul-result
 mul-result c = search needs
 
--- src/lib.rt:345:5
 element-copy-out-result : tie.Need-element-copy-out-result
 element-copy-out-result c = search needs
 
--- src/lib.rt:338:1
 returns-2 : tie.Need-returns-2
 returns-2 c ns ks = chances-last ns ks (now (c .before .before .args .chances)) (c .before .before .args .d) (c .before .if1 .left)
 

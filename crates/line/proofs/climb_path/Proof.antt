@@ -1,15 +1,14 @@
-use denote.Ref.{now}
+-- `line::climb_path` meets its contract. Assumes nothing.
 use Prim.Native.Nat.{ℕ, _≤_}
 use mathlib.Core.Path.{_≡_, refl, sym, _∙_}
 use mathlib.Core.List.{List}
 use native.Mathlib.Omega.{arith}
+use denote.Ref.{now}
 use Rattle.line.specs.Line.{climb}
 use Rattle.line.specs.Inside.{pathOf}
 use Rattle.line.proofs.Path.{climb-leaf, climb-here, climb-on, climb-none}
 use Rattle.line.proofs.climb_path.Statement.{statement}
 use Rattle.line.proofs.climb_path.Tie as tie
-use Rattle.line.proofs.climb_path.Reads as reads
-use Rattle.line.proofs.climb_path.Lts as lts
 
 abbrev Inv-loop : tie.InvT-loop
 Inv-loop nodes kinds depth parent d₀ d =
@@ -18,60 +17,48 @@ Inv-loop nodes kinds depth parent d₀ d =
 abbrev μ-loop : tie.MeasureT-loop
 μ-loop nodes kinds depth parent d₀ d = d
 
--- src/lib.rt:303:5
 loop-holds : tie.Need-loop-holds Inv-loop μ-loop
 loop-holds c = (omega arith, omega arith, λ cs. refl)
 
--- src/lib.rt:304:18
 sub-if1 : tie.Need-sub-if1 Inv-loop μ-loop
 sub-if1 c = omega arith
 
--- src/lib.rt:304:12
 mul-if1 : tie.Need-mul-if1 Inv-loop μ-loop
 mul-if1 c = omega arith
 
--- src/lib.rt:304:12
 element-copy-out-if1 : tie.Need-element-copy-out-if1 Inv-loop μ-loop
 element-copy-out-if1 c = omega arith
 
--- src/lib.rt:305:22
 sub-if2 : tie.Need-sub-if2 Inv-loop μ-loop
 sub-if2 c = omega arith
 
--- src/lib.rt:305:16
 element-copy-out-if2 : tie.Need-element-copy-out-if2 Inv-loop μ-loop
 element-copy-out-if2 c = omega arith
 
--- src/lib.rt:306:17
 returns : tie.Need-returns Inv-loop μ-loop
 returns c =
     let l = c .before .before .before .before .before in
     let a = l .before .args in
     (λ cs. sym (l .loop .inv .2 cs ∙ climb-leaf (now (a .nodes)) (now (a .kinds)) cs (a .parent) (l .loop .d) (omega arith) (c .before .before .if1 .taken) (c .if2 .taken)), tt)
 
--- src/lib.rt:308:13
 returns-2 : tie.Need-returns-2 Inv-loop μ-loop
 returns-2 c =
     let l = c .before .before .before .before .before in
     let a = l .before .args in
     (λ cs. sym (l .loop .inv .2 cs ∙ climb-here (now (a .nodes)) (now (a .kinds)) cs (a .parent) (l .loop .d) (omega arith) (c .before .before .if1 .taken) (c .if2 .left)), omega arith)
 
--- src/lib.rt:310:9
 sub-d : tie.Need-sub-d Inv-loop μ-loop
 sub-d c = omega arith
 
--- src/lib.rt:303:5
 loop-less : tie.Need-loop-less Inv-loop μ-loop
 loop-less c = omega arith
 
--- src/lib.rt:303:5
 loop-again : tie.Need-loop-again Inv-loop μ-loop
 loop-again c =
     let l = c .before .before .before in
     let a = l .before .args in
     (omega arith, omega arith, λ cs. l .loop .inv .2 cs ∙ climb-on (now (a .nodes)) (now (a .kinds)) cs (a .parent) (l .loop .d) (omega arith) (c .if1 .left))
 
--- src/lib.rt:297:1
 returns-3 : tie.Need-returns-3 Inv-loop μ-loop
 returns-3 c =
     let l = c .before in

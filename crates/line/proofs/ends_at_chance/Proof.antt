@@ -1,24 +1,19 @@
+-- `line::ends_at_chance` meets its contract. Assumes nothing.
+use borrow.Author.Needs.{needs}
 use denote.Ref.{now}
 use Rattle.line.proofs.Path.{chance-none, chance-last}
-use borrow.Author.Needs.{needs}
 use Rattle.line.proofs.ends_at_chance.Statement.{statement}
 use Rattle.line.proofs.ends_at_chance.Tie as tie
-use Rattle.line.proofs.ends_at_chance.Reads as reads
-use Rattle.line.proofs.ends_at_chance.Lts as lts
 
--- src/lib.rt:354:9
 returns : tie.Need-returns
 returns c ns cs = chance-none ns (now (c .before .args .kinds)) cs (c .before .args .d) (c .if1 .taken)
 
--- src/lib.rt:356:11
 sub-result : tie.Need-sub-result
 sub-result c = search needs
 
--- src/lib.rt:356:5
 element-copy-out-result : tie.Need-element-copy-out-result
 element-copy-out-result c = search needs
 
--- src/lib.rt:349:1
 returns-2 : tie.Need-returns-2
 returns-2 c ns cs = chance-last ns (now (c .before .before .args .kinds)) cs (c .before .before .args .d) (c .before .if1 .left)
 

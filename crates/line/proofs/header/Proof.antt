@@ -1,29 +1,18 @@
+-- `line::header` meets its contract. Assumes nothing.
 use Prim.Native.Nat.{ℕ}
-use mathlib.Core.Path.{_≡_, refl, sym, ap, _∙_}
-use mathlib.Core.Bool.{Bool, true, false}
+use mathlib.Core.Path.{_≡_, sym, ap, _∙_}
+use borrow.Author.Tests.{not-true, not-false}
+use borrow.Author.Needs.{needs}
 use denote.Ref.{now}
 use lib.ListN.{getD}
-use borrow.Author.Tests.{not-true, not-false}
-use Rattle.line.specs.declared.Heading.{Heading}
 use mir.Syntax.{w64}
 use mir.Val.{toZ, ofZ}
-use Rattle.line.specs.declared.Head.{Head}
-use Rattle.line.specs.Refusal.{Verdict}
+use Rattle.line.specs.declared.Heading.{Heading}
 use Rattle.line.specs.Line.{headerFor, header}
 use Rattle.line.proofs.Checks.{head-ill, head-wide, head-count, head-fine}
-use borrow.Author.Needs.{needs}
 use Rattle.line.proofs.header.Statement.{statement}
 use Rattle.line.proofs.header.Tie as tie
-use Rattle.line.proofs.header.Reads as reads
-use Rattle.line.proofs.header.Lts as lts
-use Rattle.line.proofs.is_ill_heading.Reads as is-ill-heading-reads
-use Rattle.line.proofs.is_number.Reads as is-number-reads
-use Rattle.line.proofs.is_wide_heading.Reads as is-wide-heading-reads
-use Rattle.line.proofs.natural.Reads as natural-reads
-use Rattle.line.proofs.read_heading.Reads as read-heading-reads
-use Rattle.line.proofs.value.Reads as value-reads
 
--- src/lib.rt:495:9
 abbrev heads : tie.After-is-ill-heading → Heading
 heads i = i .before .before .read-heading .result
 
@@ -40,36 +29,29 @@ same i = ap (headerFor (lines-of i) (last-of i)) (i .before .before .read-headin
 read-heading-requires : tie.Need-read-heading-requires
 read-heading-requires c κs = search needs
 
--- src/lib.rt:496:23
 shared-slice-read-is-ill-heading : tie.Need-shared-slice-read-is-ill-heading
 shared-slice-read-is-ill-heading c = search needs
 
--- src/lib.rt:496:8
 is-ill-heading-requires : tie.Need-is-ill-heading-requires
 is-ill-heading-requires c κs = search needs
 
--- src/lib.rt:497:9
 returns : tie.Need-returns
 returns c =
     let i = c .before in
     head-ill (lines-of i) (last-of i) (heads i) (sym (i .is-ill-heading .ensures) ∙ c .if1 .taken) ∙ same i
 
--- src/lib.rt:499:8
 is-wide-heading-requires : tie.Need-is-wide-heading-requires
 is-wide-heading-requires c κs = search needs
 
--- src/lib.rt:500:9
 returns-2 : tie.Need-returns-2
 returns-2 c =
     let w = c .before in
     let i = w .before .before in
     head-wide (lines-of i) (last-of i) (heads i) (sym (i .is-ill-heading .ensures) ∙ w .before .if1 .left) (sym (w .is-wide-heading .ensures) ∙ c .if2 .taken) ∙ same i
 
--- src/lib.rt:503:9
 is-number-requires : tie.Need-is-number-requires
 is-number-requires c κs = search needs
 
--- src/lib.rt:504:9
 returns-3 : tie.Need-returns-3
 returns-3 c =
     let n = c .before in
@@ -79,23 +61,18 @@ returns-3 c =
     (sym (n .is-number .ensures) ∙ not-true (n .is-number .result) (c .if3 .taken))
     ∙ same i
 
--- src/lib.rt:510:24
 value-requires : tie.Need-value-requires
 value-requires c κs = search needs
 
--- src/lib.rt:510:16
 natural-requires : tie.Need-natural-requires
 natural-requires c κs = search needs
 
--- src/lib.rt:511:17
 value-requires-2 : tie.Need-value-requires-2
 value-requires-2 c κs = search needs
 
--- src/lib.rt:512:18
 value-requires-3 : tie.Need-value-requires-3
 value-requires-3 c κs = search needs
 
--- src/lib.rt:491:1
 returns-4 : tie.Need-returns-4
 returns-4 c =
     let hi = c .value3 in

@@ -1,44 +1,32 @@
+-- `line::is_ill_heading` meets its contract. Assumes nothing.
 use borrow.Author.Needs.{needs}
 use Rattle.line.proofs.is_ill_heading.Statement.{statement}
 use Rattle.line.proofs.is_ill_heading.Tie as tie
-use Rattle.line.proofs.is_ill_heading.Reads as reads
-use Rattle.line.proofs.is_ill_heading.Lts as lts
-use Rattle.line.proofs.is_blank.Reads as is-blank-reads
-use Rattle.line.proofs.is_ill.Reads as is-ill-reads
 
--- src/lib.rt:233:11
 is-ill-requires : tie.Need-is-ill-requires
 is-ill-requires c κs = search needs
 
--- src/lib.rt:234:11
 is-ill-requires-2 : tie.Need-is-ill-requires-2
 is-ill-requires-2 c κs = search needs
 
--- src/lib.rt:235:11
 is-ill-requires-3 : tie.Need-is-ill-requires-3
 is-ill-requires-3 c κs = search needs
 
--- src/lib.rt:236:11
 is-ill-requires-4 : tie.Need-is-ill-requires-4
 is-ill-requires-4 c κs = search needs
 
--- src/lib.rt:237:11
 is-blank-requires : tie.Need-is-blank-requires
 is-blank-requires c κs = search needs
 
--- src/lib.rt:238:11
 is-blank-requires-2 : tie.Need-is-blank-requires-2
 is-blank-requires-2 c κs = search needs
 
--- src/lib.rt:239:11
 is-blank-requires-3 : tie.Need-is-blank-requires-3
 is-blank-requires-3 c κs = search needs
 
--- src/lib.rt:240:11
 is-blank-requires-4 : tie.Need-is-blank-requires-4
 is-blank-requires-4 c κs = search needs
 
--- src/lib.rt:225:1
 returns : tie.Need-returns
 returns c = cc
 

@@ -1,3 +1,4 @@
+-- `line::is_number` meets its contract. Assumes nothing.
 use Prim.Native.Nat.{ℕ}
 use mathlib.Core.Path.{_≡_, _∙_, ap, sym}
 use borrow.Author.Needs.{needs}
@@ -8,35 +9,25 @@ use Rattle.line.specs.Line.{holds, toNat}
 use Rattle.line.proofs.Signs.{holds-neg, holds-nat}
 use Rattle.line.proofs.is_number.Statement.{statement}
 use Rattle.line.proofs.is_number.Tie as tie
-use Rattle.line.proofs.is_number.Reads as reads
-use Rattle.line.proofs.is_number.Lts as lts
-use Rattle.line.proofs.natural.Reads as natural-reads
 
--- src/lib.rt:183:25
 enum-told : tie.Need-enum-told
 enum-told c = search needs
 
--- src/lib.rt:184:23
 enum-told-2 : tie.Need-enum-told-2
 enum-told-2 c = search needs
 
--- src/lib.rt:185:23
 enum-known-f : tie.Need-enum-known-f
 enum-known-f c = search needs
 
--- src/lib.rt:189:17
 natural-requires : tie.Need-natural-requires
 natural-requires c κs = search needs
 
--- src/lib.rt:179:1
 returns : tie.Need-returns
 returns c = search needs
 
--- src/lib.rt:179:1
 returns-2 : tie.Need-returns-2
 returns-2 c = search needs
 
--- src/lib.rt:179:1
 returns-3 : tie.Need-returns-3
 returns-3 c =
     let z = c .before .before .f .given .0 .0 in
@@ -44,7 +35,6 @@ returns-3 c =
     let n = c .before .before .before .before .args .n in
     holds-neg n z (rw back at (c .if1 .taken)) ∙ sym (ap (holds n) (c .before .before .f .given .1))
 
--- src/lib.rt:179:1
 returns-4 : tie.Need-returns-4
 returns-4 c =
     let z = c .before .before .before .f .given .0 .0 in

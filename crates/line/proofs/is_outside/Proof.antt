@@ -1,35 +1,28 @@
+-- `line::is_outside` meets its contract. Assumes nothing.
 use mathlib.Core.Path.{_≡_, ap, sym}
+use borrow.Author.Needs.{needs}
 use mir.Syntax.{w64}
 use mir.Val.{toZ, ofZ}
 use mir.ValLaws.{toZ-ofZ}
 use Rattle.line.specs.Line.{outside}
-use borrow.Author.Needs.{needs}
 use Rattle.line.proofs.is_outside.Statement.{statement}
 use Rattle.line.proofs.is_outside.Tie as tie
-use Rattle.line.proofs.is_outside.Reads as reads
-use Rattle.line.proofs.is_outside.Lts as lts
 
--- src/lib.rt:201:25
 enum-told : tie.Need-enum-told
 enum-told c = search needs
 
--- src/lib.rt:202:23
 enum-told-2 : tie.Need-enum-told-2
 enum-told-2 c = search needs
 
--- src/lib.rt:203:23
 enum-known-f : tie.Need-enum-known-f
 enum-known-f c = search needs
 
--- src/lib.rt:197:1
 returns : tie.Need-returns
 returns c = search needs
 
--- src/lib.rt:197:1
 returns-2 : tie.Need-returns-2
 returns-2 c = search needs
 
--- src/lib.rt:197:1
 returns-3 : tie.Need-returns-3
 returns-3 c =
     let a = c .before .before .before in

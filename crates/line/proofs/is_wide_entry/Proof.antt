@@ -1,30 +1,23 @@
+-- `line::is_wide_entry` meets its contract. Assumes nothing.
 use mathlib.Core.Path.{_≡_}
 use native.Mathlib.Omega.{arith}
+use borrow.Author.Needs.{sfits-of, needs}
 use lib.IntN.{pos}
-use borrow.Author.Needs.{sfits-of}
 use mir.Syntax.{w64}
 use mir.Val.{toZ, ofZ}
 use mir.ValLaws.{toZ-ofZ}
-use borrow.Author.Needs.{needs}
 use Rattle.line.proofs.is_wide_entry.Statement.{statement}
 use Rattle.line.proofs.is_wide_entry.Tie as tie
-use Rattle.line.proofs.is_wide_entry.Reads as reads
-use Rattle.line.proofs.is_wide_entry.Lts as lts
-use Rattle.line.proofs.is_outside.Reads as is-outside-reads
 
--- src/lib.rt:293:19
 cast-is-outside : tie.Need-cast-is-outside
 cast-is-outside c = search needs
 
--- src/lib.rt:293:5
 is-outside-requires : tie.Need-is-outside-requires
 is-outside-requires c κs = search needs
 
--- src/lib.rt:293:45
 is-outside-requires-2 : tie.Need-is-outside-requires-2
 is-outside-requires-2 c κs = search needs
 
--- src/lib.rt:287:1
 returns : tie.Need-returns
 returns c =
     let h = c .before .before .before .before .before .args .h in

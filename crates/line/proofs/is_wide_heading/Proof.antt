@@ -1,35 +1,26 @@
+-- `line::is_wide_heading` meets its contract. Assumes nothing.
 use mathlib.Core.Path.{_≡_}
+use borrow.Author.Needs.{needs}
 use mir.Syntax.{w64}
 use mir.Val.{toZ, ofZ}
-use borrow.Author.Needs.{needs}
 use Rattle.line.proofs.is_wide_heading.Statement.{statement}
 use Rattle.line.proofs.is_wide_heading.Tie as tie
-use Rattle.line.proofs.is_wide_heading.Reads as reads
-use Rattle.line.proofs.is_wide_heading.Lts as lts
-use Rattle.line.proofs.is_outside.Reads as is-outside-reads
-use Rattle.line.proofs.value.Reads as value-reads
 
--- src/lib.rt:249:5
 is-outside-requires : tie.Need-is-outside-requires
 is-outside-requires c κs = search needs
 
--- src/lib.rt:250:11
 is-outside-requires-2 : tie.Need-is-outside-requires-2
 is-outside-requires-2 c κs = search needs
 
--- src/lib.rt:251:11
 is-outside-requires-3 : tie.Need-is-outside-requires-3
 is-outside-requires-3 c κs = search needs
 
--- src/lib.rt:252:12
 value-requires : tie.Need-value-requires
 value-requires c κs = search needs
 
--- src/lib.rt:252:29
 value-requires-2 : tie.Need-value-requires-2
 value-requires-2 c κs = search needs
 
--- src/lib.rt:243:1
 returns : tie.Need-returns
 returns c =
     let hi = c .before .value in

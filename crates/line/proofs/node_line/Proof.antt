@@ -1,39 +1,33 @@
-use mathlib.Core.Path.{_≡_, refl, ap, _∙_}
+-- `line::node_line` meets its contract. Assumes nothing.
+use mathlib.Core.Path.{ap, _∙_}
+use borrow.Author.Needs.{needs}
 use denote.Ref.{now}
 use lib.ListN.{getD}
 use Rattle.line.specs.declared.Entry.{Entry}
 use Rattle.line.specs.Line.{placeOf}
 use Rattle.line.specs.Inside.{pathOf}
-use borrow.Author.Needs.{needs}
 use Rattle.line.proofs.node_line.Statement.{statement}
 use Rattle.line.proofs.node_line.Tie as tie
-use Rattle.line.proofs.node_line.Reads as reads
-use Rattle.line.proofs.node_line.Lts as lts
-use Rattle.line.proofs.place.Reads as place-reads
-use Rattle.line.proofs.read_entry.Reads as read-entry-reads
 
--- src/lib.rt:487:11
 read-entry-requires : tie.Need-read-entry-requires
 read-entry-requires c κs = search needs
 
--- src/lib.rt:487:29
 shared-slice-read-place : tie.Need-shared-slice-read-place
 shared-slice-read-place c = search needs
 
--- src/lib.rt:487:38
 shared-slice-read-place-2 : tie.Need-shared-slice-read-place-2
 shared-slice-read-place-2 c = search needs
 
--- src/lib.rt:487:5
 place-requires : tie.Need-place-requires
 place-requires c κs = search needs
 
--- src/lib.rt:474:1
 returns : tie.Need-returns
 returns c =
-    let a = c .before .before .before .before .before .args in
-    (c .place .ensures .0
-    ∙ ap (λ (e : Entry). placeOf (a .h) (a .i) e (getD (now (a .line)) 4 0) (getD (now (a .line)) 24 0) (pathOf (now (a .nodes)) (now (a .kinds)) (now (a .chances)) (a .depth))) (c .before .before .before .read-entry .ensures), c .place .ensures .1)
+    let a = c .before .before .before .before .before .args in (
+      c .place .ensures .0
+          ∙ ap (λ (e : Entry). placeOf (a .h) (a .i) e (getD (now (a .line)) 4 0) (getD (now (a .line)) 24 0) (pathOf (now (a .nodes)) (now (a .kinds)) (now (a .chances)) (a .depth))) (c .before .before .before .read-entry .ensures),
+      c .place .ensures .1,
+    )
 
 pub node-line-spec : {M : Type 1} → statement M
 node-line-spec =

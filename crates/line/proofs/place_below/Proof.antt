@@ -1,32 +1,23 @@
+-- `line::place_below` meets its contract. Assumes nothing.
 use Prim.Native.Nat.{ℕ, _+_, _≤_, _<_}
-use mathlib.Core.Path.{_≡_, refl, sym, ap, ap₂, _∙_}
+use mathlib.Core.Path.{_≡_, sym, ap, ap₂, _∙_}
 use mathlib.Core.Bool.{Bool, true, false, _||_, cond}
 use mathlib.Core.List.{List, []}
 use native.Mathlib.Omega.{arith}
-use denote.Ref.{now}
 use borrow.Author.Tests.{leb-false}
+use borrow.Author.Needs.{needs}
+use denote.Ref.{now}
 use lib.Dec.{eqb, leb, ltb}
 use Rattle.line.specs.Line.{chancesOf, atChance, misfilled}
 use Rattle.line.specs.Inside.{pathOf}
 use Rattle.line.proofs.Path.{chances-bounded}
 use Rattle.line.proofs.Checks.{or-left, below-deep, below-misfilled, below-wide, below-fine}
-use borrow.Author.Needs.{needs}
 use Rattle.line.proofs.place_below.Statement.{statement}
 use Rattle.line.proofs.place_below.Tie as tie
-use Rattle.line.proofs.place_below.Reads as reads
-use Rattle.line.proofs.place_below.Lts as lts
-use Rattle.line.proofs.chances_on.Reads as chances-on-reads
-use Rattle.line.proofs.ends_at_chance.Reads as ends-at-chance-reads
-use Rattle.line.proofs.is_misfilled.Reads as is-misfilled-reads
-use Rattle.line.proofs.is_wide_entry.Reads as is-wide-entry-reads
-use Rattle.line.proofs.line_of.Reads as line-of-reads
-use Rattle.line.proofs.one_if.Reads as one-if-reads
 
--- src/lib.rt:388:13
 chances-on-requires : tie.Need-chances-on-requires
 chances-on-requires c κs = search needs
 
--- src/lib.rt:388:38
 one-if-requires : tie.Need-one-if-requires
 one-if-requires c κs = search needs
 
@@ -51,17 +42,14 @@ add-c c =
 add-t14 : tie.Need-add-t14
 add-t14 c = search needs
 
--- src/lib.rt:390:9
 returns : tie.Need-returns
 returns c =
     let a = c .before .before .before .args in
     (λ ns. below-deep (a .h) (a .i) (a .kind) (a .e) ns (now (a .kinds)) (now (a .chances)) (a .d) _ (sum-is (c .before) ns) (c .if1 .taken), tt)
 
--- src/lib.rt:392:21
 ends-at-chance-requires : tie.Need-ends-at-chance-requires
 ends-at-chance-requires c κs = search needs
 
--- src/lib.rt:392:8
 is-misfilled-requires : tie.Need-is-misfilled-requires
 is-misfilled-requires c κs = search needs
 
@@ -72,26 +60,21 @@ misfilled-is c ns =
     let a = c .before .before .before .before .before .args in
     c .is-misfilled .ensures ∙ ap (λ (b : Bool). misfilled b (eqb (a .kind) 0) (a .e)) (c .before .ends-at-chance .ensures ns (now (a .chances)))
 
--- src/lib.rt:393:52
 add-t17 : tie.Need-add-t17
 add-t17 c = search needs
 
--- src/lib.rt:393:9
 returns-2 : tie.Need-returns-2
 returns-2 c =
     let d = c .before .before .before in
     let a = d .before .before .before .args in
     (λ ns. below-misfilled (a .h) (a .i) (a .kind) (a .e) ns (now (a .kinds)) (now (a .chances)) (a .d) _ (sum-is (d .before) ns) (d .if1 .left) (sym (misfilled-is (c .before) ns) ∙ c .if2 .taken), tt)
 
--- src/lib.rt:395:8
 is-wide-entry-requires : tie.Need-is-wide-entry-requires
 is-wide-entry-requires c κs = search needs
 
--- src/lib.rt:396:53
 add-t20 : tie.Need-add-t20
 add-t20 c = search needs
 
--- src/lib.rt:396:9
 returns-3 : tie.Need-returns-3
 returns-3 c =
     let m = c .before .before in
@@ -99,20 +82,20 @@ returns-3 c =
     let a = d .before .before .before .args in
     (λ ns. below-wide (a .h) (a .i) (a .kind) (a .e) ns (now (a .kinds)) (now (a .chances)) (a .d) _ (sum-is (d .before) ns) (d .if1 .left) (sym (misfilled-is (m .before) ns) ∙ m .if2 .left) (sym (c .before .is-wide-entry .ensures) ∙ c .if3 .taken), tt)
 
--- src/lib.rt:398:17
 line-of-requires : tie.Need-line-of-requires
 line-of-requires c κs = search needs
 
--- src/lib.rt:383:1
 returns-4 : tie.Need-returns-4
 returns-4 c =
     let w = c .before in
     let m = w .before .before in
     let d = m .before .before .before in
-    let a = d .before .before .before .args in
-    (λ ns.
-      rw (c .line-of .ensures)
-      (below-fine (a .h) (a .i) (a .kind) (a .e) ns (now (a .kinds)) (now (a .chances)) (a .d) _ (sum-is (d .before) ns) (d .if1 .left) (sym (misfilled-is (m .before) ns) ∙ m .if2 .left) (sym (w .before .is-wide-entry .ensures) ∙ w .if3 .left)), shallow (a .d) (d .before .before .chances-on .result + d .before .one-if .result) (d .if1 .left))
+    let a = d .before .before .before .args in (
+      λ ns.
+          rw (c .line-of .ensures)
+          (below-fine (a .h) (a .i) (a .kind) (a .e) ns (now (a .kinds)) (now (a .chances)) (a .d) _ (sum-is (d .before) ns) (d .if1 .left) (sym (misfilled-is (m .before) ns) ∙ m .if2 .left) (sym (w .before .is-wide-entry .ensures) ∙ w .if3 .left)),
+      shallow (a .d) (d .before .before .chances-on .result + d .before .one-if .result) (d .if1 .left),
+    )
 
 pub place-below-spec : {M : Type 1} → statement M
 place-below-spec =

@@ -1,31 +1,23 @@
+-- `line::read_entry` meets its contract. Assumes nothing.
 use borrow.Author.Needs.{needs}
 use Rattle.line.proofs.read_entry.Statement.{statement}
 use Rattle.line.proofs.read_entry.Tie as tie
-use Rattle.line.proofs.read_entry.Reads as reads
-use Rattle.line.proofs.read_entry.Lts as lts
-use Rattle.field.proofs.read.Reads as read-reads
 
--- src/lib.rt:273:9
 read-requires : tie.Need-read-requires
 read-requires c κs = search needs
 
--- src/lib.rt:274:9
 read-requires-2 : tie.Need-read-requires-2
 read-requires-2 c κs = search needs
 
--- src/lib.rt:275:9
 read-requires-3 : tie.Need-read-requires-3
 read-requires-3 c κs = search needs
 
--- src/lib.rt:276:9
 read-requires-4 : tie.Need-read-requires-4
 read-requires-4 c κs = search needs
 
--- src/lib.rt:279:17
 shared-slice-read-t7 : tie.Need-shared-slice-read-t7
 shared-slice-read-t7 c = search needs
 
--- src/lib.rt:269:1
 returns : tie.Need-returns
 returns c =
     rw (c .before .before .before .before .read .ensures, c .before .before .before .read2 .ensures, c .before .before .read3 .ensures, c .before .read4 .ensures)

@@ -1,27 +1,20 @@
+-- `line::read_heading` meets its contract. Assumes nothing.
 use borrow.Author.Needs.{needs}
 use Rattle.line.proofs.read_heading.Statement.{statement}
 use Rattle.line.proofs.read_heading.Tie as tie
-use Rattle.line.proofs.read_heading.Reads as reads
-use Rattle.line.proofs.read_heading.Lts as lts
-use Rattle.field.proofs.read.Reads as read-reads
 
--- src/lib.rt:227:9
 read-requires : tie.Need-read-requires
 read-requires c κs = search needs
 
--- src/lib.rt:228:9
 read-requires-2 : tie.Need-read-requires-2
 read-requires-2 c κs = search needs
 
--- src/lib.rt:229:9
 read-requires-3 : tie.Need-read-requires-3
 read-requires-3 c κs = search needs
 
--- src/lib.rt:230:9
 read-requires-4 : tie.Need-read-requires-4
 read-requires-4 c κs = search needs
 
--- src/lib.rt:223:1
 returns : tie.Need-returns
 returns c = rw (c .before .before .before .read .ensures, c .before .before .read2 .ensures, c .before .read3 .ensures, c .read4 .ensures)
 

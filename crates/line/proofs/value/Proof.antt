@@ -1,34 +1,27 @@
+-- `line::value` meets its contract. Assumes nothing.
 use mathlib.Core.Path.{_≡_, ap, sym, _∙_}
+use borrow.Author.Needs.{needs}
 use mir.Syntax.{w64}
 use mir.Val.{toZ, ofZ}
 use Rattle.line.specs.Line.{valueOf}
-use borrow.Author.Needs.{needs}
 use Rattle.line.proofs.value.Statement.{statement}
 use Rattle.line.proofs.value.Tie as tie
-use Rattle.line.proofs.value.Reads as reads
-use Rattle.line.proofs.value.Lts as lts
 
--- src/lib.rt:163:25
 enum-told : tie.Need-enum-told
 enum-told c = search needs
 
--- src/lib.rt:164:23
 enum-told-2 : tie.Need-enum-told-2
 enum-told-2 c = search needs
 
--- src/lib.rt:165:23
 enum-known-f : tie.Need-enum-known-f
 enum-known-f c = search needs
 
--- src/lib.rt:159:1
 returns : tie.Need-returns
 returns c = sym (ap valueOf (c .enum-told .given .1))
 
--- src/lib.rt:159:1
 returns-2 : tie.Need-returns-2
 returns-2 c = sym (ap valueOf (c .enum-told2 .given .1))
 
--- src/lib.rt:159:1
 returns-3 : tie.Need-returns-3
 returns-3 c =
     let z = c .before .f .given .0 .0 in

@@ -1,47 +1,35 @@
+-- `table::completed` meets its contract. Assumes nothing.
 use mathlib.Core.Path.{_≡_}
-use mir.Syntax.{w64}
-use mir.Val.{toZ, ofZ}
 use borrow.Author.Tests.{lt-ltb, le-ltb}
 use borrow.Author.Needs.{needs}
+use mir.Syntax.{w64}
+use mir.Val.{toZ, ofZ}
 use Rattle.table.proofs.completed.Statement.{statement}
 use Rattle.table.proofs.completed.Tie as tie
-use Rattle.table.proofs.completed.Reads as reads
-use Rattle.table.proofs.completed.Lts as lts
-use Rattle.table.proofs.first_childless.Reads as first-childless-reads
-use Rattle.table.proofs.first_unbalanced.Reads as first-unbalanced-reads
-use Rattle.table.proofs.power.Reads as power-reads
 
--- src/lib.rt:710:9
 first-childless-requires : tie.Need-first-childless-requires
 first-childless-requires c κs = search needs
 
--- src/lib.rt:712:52
 add-t11 : tie.Need-add-t11
 add-t11 c = search needs
 
--- src/lib.rt:712:9
 returns : tie.Need-returns
 returns c = rw (← c .before .first-childless .ensures, lt-ltb (c .before .first-childless .result) _ (c .if1 .taken))
 
--- src/lib.rt:714:9
 first-unbalanced-requires : tie.Need-first-unbalanced-requires
 first-unbalanced-requires c κs = search needs
 
--- src/lib.rt:716:51
 add-t13 : tie.Need-add-t13
 add-t13 c = search needs
 
--- src/lib.rt:716:9
 returns-2 : tie.Need-returns-2
 returns-2 c =
     let b = c .before .before .before in
     rw (← b .first-childless .ensures, le-ltb (b .first-childless .result) _ (c .before .before .if1 .left), ← c .before .first-unbalanced .ensures, lt-ltb (c .before .first-unbalanced .result) _ (c .if2 .taken))
 
--- src/lib.rt:724:16
 power-requires : tie.Need-power-requires
 power-requires c κs = search needs
 
--- src/lib.rt:706:1
 returns-3 : tie.Need-returns-3
 returns-3 c =
     let u = c .before .before .before in

@@ -1,26 +1,22 @@
+-- `table::decode` meets its contract. Assumes nothing.
 use Prim.Native.Nat.{ℕ, _-_, _/_, _≤_}
-use mathlib.Core.Path.{_≡_, refl, sym, ap, subst, _∙_}
-use mathlib.Core.Bool.{Bool, false}
+use mathlib.Core.Path.{_≡_, sym, ap, _∙_}
+use mathlib.Core.Bool.{false}
 use mathlib.Core.List.{List}
 use native.Mathlib.Omega.{arith}
+use borrow.Author.Needs.{needs}
 use denote.Ref.{now}
-use lib.ListN.{length, take, drop, getD}
+use lib.ListN.{length, take, getD}
 use Rattle.line.specs.declared.HeadRead
 use Rattle.line.specs.declared.HeadRead.{HeadRead}
 use Rattle.line.specs.declared.Refusal.the-variants.{Length}
 use Rattle.line.specs.Line.{headingOf, header}
-use Rattle.table.specs.Table.{badLength, count, linesOf, readText}
+use Rattle.table.specs.Table.{badLength, count, readText}
 use Rattle.line.specs.Inside.{headShown}
 use Rattle.line.proofs.Fine.{header-ranged}
 use Rattle.table.proofs.Top.{good-length, read-length, read-refused, read-lines, decoded-refused}
-use borrow.Author.Needs.{needs}
 use Rattle.table.proofs.decode.Statement.{statement}
 use Rattle.table.proofs.decode.Tie as tie
-use Rattle.table.proofs.decode.Reads as reads
-use Rattle.table.proofs.decode.Lts as lts
-use Rattle.table.proofs.decode_lines.Reads as decode-lines-reads
-use Rattle.line.proofs.header.Reads as header-reads
-use Rattle.table.proofs.is_bad_length.Reads as is-bad-length-reads
 
 abbrev start : tie.After-is-bad-length → tie.Start
 start c = c .before .before .before .before .before .before
@@ -36,45 +32,35 @@ said : (c : tie.After-header) (r : HeadRead) → c .header .result ≡ r
     → header (count (text-of (c .before .before .before))) (take 25 (text-of (c .before .before .before))) ≡ headShown r
 said c r e = sym (c .header .ensures) ∙ ap headShown e
 
--- src/lib.rt:811:8
 is-bad-length-requires : tie.Need-is-bad-length-requires
 is-bad-length-requires c κs = search needs
 
--- src/lib.rt:812:9
 returns : tie.Need-returns
 returns c =
     let s = text-of (c .before) in
     decoded-refused (readText s) Length _ _ _ _ _ _ _ _ (read-length s (sym (c .before .is-bad-length .ensures) ∙ c .if1 .taken))
 
--- src/lib.rt:814:13
 sub-n : tie.Need-sub-n
 sub-n c = omega (arith, good-length (length (text-of (c .before))) (good c) .0)
 
--- src/lib.rt:815:18
 sub-header : tie.Need-sub-header
 sub-header c = search needs
 
--- src/lib.rt:815:18
 part-header-start : tie.Need-part-header-start
 part-header-start c = search needs
 
--- src/lib.rt:815:18
 part-header-end : tie.Need-part-header-end
 part-header-end c = let l : 50 ≤ length (text-of (c .before)) = good-length (length (text-of (c .before))) (good c) .0 in omega arith
 
--- src/lib.rt:815:11
 header-requires : tie.Need-header-requires
 header-requires c κs = search needs
 
--- src/lib.rt:816:27
 enum-known-r : tie.Need-enum-known-r
 enum-known-r c = search needs
 
--- src/lib.rt:817:24
 enum-known-h : tie.Need-enum-known-h
 enum-known-h c = search needs
 
--- src/lib.rt:817:30
 decode-lines-requires : tie.Need-decode-lines-requires
 decode-lines-requires c κs =
     let H = c .before .before .before .before .before .before .before in
@@ -84,7 +70,6 @@ decode-lines-requires c κs =
     let h = c .before .before .before .before .before .h .given in
     (start (e .before) .pre, l .1, l .2, l .3, header-ranged (count s) (getD (take 25 s) 24 0) (headingOf (take 25 s)) (h .0 .0) (said H (HeadRead.the-variants.Fine (h .0 .0)) (h .1)))
 
--- src/lib.rt:801:1
 returns-2 : tie.Need-returns-2
 returns-2 c =
     let H = c .before .before .before in
@@ -93,23 +78,18 @@ returns-2 c =
     let r = c .before .r .given in
     decoded-refused (readText s) (r .0 .0) _ _ _ _ _ _ _ _ (read-refused s (good e) (r .0 .0) (said H (HeadRead.the-variants.Refused (r .0 .0)) (r .1)))
 
--- src/lib.rt:801:1
 same-length : tie.Need-same-length
 same-length c = search needs
 
--- src/lib.rt:801:1
 same-length-2 : tie.Need-same-length-2
 same-length-2 c = search needs
 
--- src/lib.rt:801:1
 same-length-3 : tie.Need-same-length-3
 same-length-3 c = search needs
 
--- src/lib.rt:801:1
 same-length-4 : tie.Need-same-length-4
 same-length-4 c = search needs
 
--- src/lib.rt:801:1
 returns-3 : tie.Need-returns-3
 returns-3 c =
     let D = c .before .before .before .before .before .before .before .before in

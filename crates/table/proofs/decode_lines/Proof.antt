@@ -1,27 +1,22 @@
-use Prim.Native.Nat.{ℕ, _≤_, _<_}
-use mathlib.Core.Path.{_≡_, refl, sym, ap, subst, _∙_}
+-- `table::decode_lines` meets its contract. Assumes nothing.
+use mathlib.Core.Path.{_≡_, subst}
 use mathlib.Core.List.{List, []}
 use native.Mathlib.Omega.{arith}
+use borrow.Author.Needs.{needs}
 use denote.Ref.{now}
-use lib.ListN.{length, drop, replicate}
+use lib.ListN.{drop, replicate}
 use Rattle.line.specs.declared.Line.{Line}
 use Rattle.table.specs.declared.Lines
 use Rattle.table.specs.declared.Lines.{Lines}
-use Rattle.line.specs.Refusal.{Verdict, refused, fine}
+use Rattle.line.specs.Refusal.{Verdict, refused}
 use Rattle.table.specs.Table.{nodeLines, linesOf}
 use Rattle.table.specs.Slices.{ends, laid}
 use Rattle.table.specs.Inside.{Gathered}
 use Rattle.table.proofs.Complete.{Lined, gathered-lined, gathered-refusal, stops-are, has, decoded-all}
 use Rattle.table.proofs.Grown.{lines-counted}
 use Rattle.table.proofs.Top.{decoded-refused}
-use borrow.Author.Needs.{needs}
 use Rattle.table.proofs.decode_lines.Statement.{statement}
 use Rattle.table.proofs.decode_lines.Tie as tie
-use Rattle.table.proofs.decode_lines.Reads as reads
-use Rattle.table.proofs.decode_lines.Lts as lts
-use Rattle.table.proofs.completed.Reads as completed-reads
-use Rattle.table.proofs.node_lines.Reads as node-lines-reads
-use Rattle.table.proofs.stops.Reads as stops-reads
 
 abbrev start : tie.After-node-lines → tie.Start
 start c = c .before .before .before .before .before .before .before .before .before .before
@@ -62,31 +57,24 @@ stopped c =
     let a = start N .args in
     stops-are (a .h) (a .n) (drop 25 (now (a .text))) (lined M .lines) (replicate 1024 0) (N .node-lines .last .1 .1 .1 .1 .0) (now (a .stop)) (c .stops .last .1 .1 .0) (lined M .verdict) (lined M .ups) (c .stops .ensures)
 
--- src/lib.rt:786:40
 slice-aggregate-node-lines : tie.Need-slice-aggregate-node-lines
 slice-aggregate-node-lines c = search needs
 
--- src/lib.rt:786:11
 node-lines-requires : tie.Need-node-lines-requires
 node-lines-requires c κs = search needs
 
--- src/lib.rt:787:24
 enum-known-r : tie.Need-enum-known-r
 enum-known-r c = search needs
 
--- src/lib.rt:788:21
 enum-known-most : tie.Need-enum-known-most
 enum-known-most c = search needs
 
--- src/lib.rt:789:19
 slice-aggregate-stops : tie.Need-slice-aggregate-stops
 slice-aggregate-stops c = search needs
 
--- src/lib.rt:789:13
 stops-requires : tie.Need-stops-requires
 stops-requires c κs = search needs
 
--- src/lib.rt:790:13
 completed-requires : tie.Need-completed-requires
 completed-requires c κs =
     let S = c .before .before .before .before .before in
@@ -95,8 +83,7 @@ completed-requires c κs =
     let b = start N in
     let a = b .args in
     let p = b .pre in
-    let L = lined M in
-    (
+    let L = lined M in (
       omega (arith, N .node-lines .kept .1 .1 .1 .0, p .0 .kinds, p .2),
       omega (arith, S .stops .kept .1 .1 .0, p .0 .ups, p .2),
       omega (arith, N .node-lines .kept .1 .1 .1 .1 .1 .0, p .0 .weights, p .2),
@@ -106,19 +93,15 @@ completed-requires c κs =
       has (a .h) (a .n) (drop 25 (now (a .text))) (L .lines) (L .verdict) (p .1) (now (a .kind)) (now (a .stop)) (now (a .weight)) (now (a .height)) (N .node-lines .last .1 .1 .1 .0) (S .stops .last .1 .1 .0) (N .node-lines .last .1 .1 .1 .1 .1 .0) (N .node-lines .last .1 .1 .1 .1 .1 .1 .0) (L .kinds) (stopped S) (L .weights) (L .heights),
     )
 
--- src/lib.rt:773:1
 same-length : tie.Need-same-length
 same-length c = search needs
 
--- src/lib.rt:773:1
 same-length-2 : tie.Need-same-length-2
 same-length-2 c = search needs
 
--- src/lib.rt:773:1
 same-length-3 : tie.Need-same-length-3
 same-length-3 c = search needs
 
--- src/lib.rt:773:1
 returns : tie.Need-returns
 returns c =
     let N = c .before .before .before .before .before .before .before .before .before .before in
@@ -126,23 +109,18 @@ returns c =
     let e : verdict-of N ≡ refused r = gathered-refusal (start N .args .h .lowest) (verdict-of N) r _ _ _ _ _ _ _ _ (gathers N (Lines.the-variants.Refused r) (c .before .r .given .1)) in
     decoded-refused (linesOf (start N .args .h) (start N .args .n) (drop 25 (now (start N .args .text)))) r _ _ _ _ _ _ _ _ (rw e)
 
--- src/lib.rt:773:1
 same-length-4 : tie.Need-same-length-4
 same-length-4 c = search needs
 
--- src/lib.rt:773:1
 same-length-5 : tie.Need-same-length-5
 same-length-5 c = search needs
 
--- src/lib.rt:773:1
 same-length-6 : tie.Need-same-length-6
 same-length-6 c = search needs
 
--- src/lib.rt:773:1
 same-length-7 : tie.Need-same-length-7
 same-length-7 c = search needs
 
--- src/lib.rt:773:1
 returns-2 : tie.Need-returns-2
 returns-2 c =
     let S = c .before .before .before .before .before .before in

@@ -1,19 +1,16 @@
-use Prim.Native.Nat.{ℕ, _+_, _-_, _≤_, _<_}
-use mathlib.Core.List.{List}
-use mathlib.Core.Path.{_≡_, refl, sym, ap, _∙_}
+-- `table::first_childless` meets its contract. Assumes nothing.
+use Prim.Native.Nat.{_+_, _-_, _≤_}
+use mathlib.Core.Path.{_≡_, sym, ap, _∙_}
+use mathlib.Core.Bool.{Bool, true, false, not, _&&_}
 use native.Mathlib.Omega.{arith}
 use borrow.Author.Needs.{needs}
 use denote.Ref.{now}
 use lib.ListN.{length, getD}
 use lib.Dec.{eqb}
-use mathlib.Core.Bool.{Bool, true, false, not, _&&_}
 use Rattle.table.specs.Inside.{scanFrom, firstOr, bareAt}
 use Rattle.table.proofs.Scan.{scan-here, scan-on, scan-none}
 use Rattle.table.proofs.first_childless.Statement.{statement}
 use Rattle.table.proofs.first_childless.Tie as tie
-use Rattle.table.proofs.first_childless.Reads as reads
-use Rattle.table.proofs.first_childless.Lts as lts
-use Rattle.table.proofs.index.Reads as index-reads
 
 abbrev Inv-loop : tie.InvT-loop
 Inv-loop kind stop n i₀ i =
@@ -29,31 +26,24 @@ test-is : (c : tie.After-index Inv-loop μ-loop) (b : Bool)
     (not (eqb (getD (a .kind .now) (l .loop .i) 0) 0) && eqb (c .index .result) (l .loop .i + 1)) ≡ b → bareAt (a .kind .now) (a .stop .now) (l .loop .i) ≡ b
 test-is c b h = rw (c .index .ensures) at h
 
--- src/lib.rt:636:5
 loop-holds : tie.Need-loop-holds Inv-loop μ-loop
 loop-holds c = let b = c .before .before in let z : b .args .n - 0 ≡ b .args .n = omega arith in (omega arith, b .pre .0, b .pre .1, b .pre .2, rw z)
 
--- src/lib.rt:637:13
 shared-slice-read-if1 : tie.Need-shared-slice-read-if1 Inv-loop μ-loop
 shared-slice-read-if1 c = omega arith
 
--- src/lib.rt:637:36
 mul-index : tie.Need-mul-index Inv-loop μ-loop
 mul-index c = omega arith
 
--- src/lib.rt:637:36
 shared-slice-read-index : tie.Need-shared-slice-read-index Inv-loop μ-loop
 shared-slice-read-index c = omega arith
 
--- src/lib.rt:637:30
 index-requires : tie.Need-index-requires Inv-loop μ-loop
 index-requires c κs = search needs
 
--- src/lib.rt:637:48
 add-if1 : tie.Need-add-if1 Inv-loop μ-loop
 add-if1 c = omega arith
 
--- src/lib.rt:638:13
 returns : tie.Need-returns Inv-loop μ-loop
 returns c =
     let l = c .before .before .before .before .before in
@@ -62,15 +52,12 @@ returns c =
     let t = c .before .before .before .before .loop-test .taken in
     sym (ap (firstOr (a .n)) (v .4) ∙ scan-here (bareAt (a .kind .now) (a .stop .now)) (a .n) (l .loop .i) (a .n - l .loop .i) (omega arith) (test-is (c .before) true (c .if1 .taken)))
 
--- src/lib.rt:640:9
 add-i : tie.Need-add-i Inv-loop μ-loop
 add-i c = omega arith
 
--- src/lib.rt:636:5
 loop-less : tie.Need-loop-less Inv-loop μ-loop
 loop-less c = omega arith
 
--- src/lib.rt:636:5
 loop-again : tie.Need-loop-again Inv-loop μ-loop
 loop-again c =
     let l = c .before .before .before .before .before in
@@ -80,7 +67,6 @@ loop-again c =
     let z : a .n - l .loop .i - 1 ≡ a .n - (l .loop .i + 1) = omega arith in
     (omega arith, v .1, v .2, v .3, v .4 ∙ scan-on (bareAt (a .kind .now) (a .stop .now)) (l .loop .i) (a .n - l .loop .i) (omega arith) (test-is (c .before) false (c .if1 .left)) ∙ rw z)
 
--- src/lib.rt:631:1
 returns-2 : tie.Need-returns-2 Inv-loop μ-loop
 returns-2 c =
     let l = c .before in

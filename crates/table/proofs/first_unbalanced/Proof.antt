@@ -1,5 +1,6 @@
-use Prim.Native.Nat.{ℕ, _+_, _-_, _≤_, _<_}
-use mathlib.Core.Path.{_≡_, refl, sym, ap, _∙_}
+-- `table::first_unbalanced` meets its contract. Assumes nothing.
+use Prim.Native.Nat.{_+_, _-_, _≤_}
+use mathlib.Core.Path.{_≡_, sym, ap, _∙_}
 use native.Mathlib.Omega.{arith}
 use denote.Ref.{now}
 use lib.ListN.{length}
@@ -7,9 +8,6 @@ use Rattle.table.specs.Inside.{scanFrom, firstOr, oddAt, Has}
 use Rattle.table.proofs.Scan.{scan-here, scan-on, scan-none}
 use Rattle.table.proofs.first_unbalanced.Statement.{statement}
 use Rattle.table.proofs.first_unbalanced.Tie as tie
-use Rattle.table.proofs.first_unbalanced.Reads as reads
-use Rattle.table.proofs.first_unbalanced.Lts as lts
-use Rattle.table.proofs.is_unbalanced.Reads as is-unbalanced-reads
 
 abbrev Inv-loop : tie.InvT-loop
 Inv-loop kind stop weight n total i₀ i =
@@ -24,18 +22,15 @@ Inv-loop kind stop weight n total i₀ i =
 abbrev μ-loop : tie.MeasureT-loop
 μ-loop kind stop weight n total i₀ i = n - i
 
--- src/lib.rt:682:5
 loop-holds : tie.Need-loop-holds Inv-loop μ-loop
 loop-holds c =
     let b = c .before .before .before in
     let z : b .args .n - 0 ≡ b .args .n = omega arith in
     (omega arith, b .pre .0, b .pre .1, b .pre .2, b .pre .3, b .pre .4, rw z)
 
--- src/lib.rt:683:12
 is-unbalanced-requires : tie.Need-is-unbalanced-requires Inv-loop μ-loop
 is-unbalanced-requires c κs = let v = c .before .loop .inv in (c .loop-test .taken, v .1, v .2, v .3, v .4, v .5)
 
--- src/lib.rt:684:13
 returns : tie.Need-returns Inv-loop μ-loop
 returns c =
     let l = c .before .before .before in
@@ -43,26 +38,28 @@ returns c =
     let t = c .before .before .loop-test .taken in
     sym (ap (firstOr (a .n)) (l .loop .inv .6) ∙ scan-here (oddAt (now (a .kind)) (now (a .stop)) (now (a .weight)) (a .total)) (a .n) (l .loop .i) (a .n - l .loop .i) (omega arith) (sym (c .before .is-unbalanced .ensures) ∙ c .if1 .taken))
 
--- src/lib.rt:686:9
 add-i : tie.Need-add-i Inv-loop μ-loop
 add-i c = omega arith
 
--- src/lib.rt:682:5
 loop-less : tie.Need-loop-less Inv-loop μ-loop
 loop-less c = omega arith
 
--- src/lib.rt:682:5
 loop-again : tie.Need-loop-again Inv-loop μ-loop
 loop-again c =
     let l = c .before .before .before in
     let a = l .before .before .before .before .args in
     let v = l .loop .inv in
     let t = c .before .before .loop-test .taken in
-    let z : a .n - l .loop .i - 1 ≡ a .n - (l .loop .i + 1) = omega arith in
-    (omega arith, v .1, v .2, v .3, v .4, v .5,
-    v .6 ∙ scan-on (oddAt (now (a .kind)) (now (a .stop)) (now (a .weight)) (a .total)) (l .loop .i) (a .n - l .loop .i) (omega arith) (sym (c .before .is-unbalanced .ensures) ∙ c .if1 .left) ∙ rw z)
+    let z : a .n - l .loop .i - 1 ≡ a .n - (l .loop .i + 1) = omega arith in (
+      omega arith,
+      v .1,
+      v .2,
+      v .3,
+      v .4,
+      v .5,
+      v .6 ∙ scan-on (oddAt (now (a .kind)) (now (a .stop)) (now (a .weight)) (a .total)) (l .loop .i) (a .n - l .loop .i) (omega arith) (sym (c .before .is-unbalanced .ensures) ∙ c .if1 .left) ∙ rw z,
+    )
 
--- src/lib.rt:677:1
 returns-2 : tie.Need-returns-2 Inv-loop μ-loop
 returns-2 c =
     let l = c .before in

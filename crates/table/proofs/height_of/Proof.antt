@@ -1,22 +1,17 @@
-use Prim.Native.Nat.{ℕ}
+-- `table::height_of` meets its contract. Assumes nothing.
 use mathlib.Core.Path.{_≡_, ap, _∙_}
 use native.Mathlib.Omega.{arith}
 use borrow.Author.Tests.{eq-eqb, ne-eqb}
-use borrow.Author.Needs.{sfits-of}
+use borrow.Author.Needs.{sfits-of, needs}
 use lib.IntN.{ℤ, _-ℤ_}
 use mir.Syntax.{w64}
 use mir.Val.{toZ, ofZ}
 use mir.ValLaws.{toZ-ofZ}
 use Rattle.line.specs.Line.{toNat}
 use Rattle.line.proofs.Signs.{mag-diff, nat-mag}
-use borrow.Author.Needs.{needs}
 use Rattle.table.proofs.height_of.Statement.{statement}
 use Rattle.table.proofs.height_of.Tie as tie
-use Rattle.table.proofs.height_of.Reads as reads
-use Rattle.table.proofs.height_of.Lts as lts
-use Rattle.line.proofs.natural.Reads as natural-reads
 
--- src/lib.rt:522:24
 back : (s : tie.Start)
     → toZ w64 (ofZ w64 (s .args .l .utility)) -ℤ toZ w64 (ofZ w64 (s .args .lowest)) ≡ s .args .l .utility -ℤ s .args .lowest
 back s =
@@ -37,21 +32,17 @@ sub-natural c =
     let s = c .before .before .before .before in
     rw (back s) (sfits-of (omega (arith, mag-diff (s .args .l .utility) (s .args .lowest) (s .pre .0) (s .pre .1))))
 
--- src/lib.rt:522:16
 natural-requires : tie.Need-natural-requires
 natural-requires c κs = search needs
 
--- src/lib.rt:522:16
 cast-result : tie.Need-cast-result
 cast-result c =
     let s = c .before .before .before .before .before in
     record { fits = omega (arith, height-is c, mag-diff (s .args .l .utility) (s .args .lowest) (s .pre .0) (s .pre .1), nat-mag (s .args .l .utility -ℤ s .args .lowest)) }
 
--- src/lib.rt:522:9
 returns : tie.Need-returns
 returns c = height-is c ∙ simp (eq-eqb (c .before .before .before .before .before .args .l .kind) 0 (c .before .before .before .if1 .taken))
 
--- src/lib.rt:517:1
 returns-2 : tie.Need-returns-2
 returns-2 c = simp (ne-eqb (c .before .before .args .l .kind) 0 (c .if1 .left))
 

@@ -1,46 +1,34 @@
-use Prim.Native.Nat.{ℕ, _+_, _≤_, _<_}
-use mathlib.Core.Path.{_≡_, refl, sym, ap, _∙_}
+-- `table::is_unbalanced` meets its contract. Assumes nothing.
 use native.Mathlib.Omega.{arith}
 use borrow.Author.Tests.{eq-eqb, ne-eqb}
+use borrow.Author.Needs.{needs}
 use denote.Ref.{now}
-use lib.ListN.{length, getD}
+use lib.ListN.{getD}
 use Rattle.table.specs.Slices.{Slices}
 use Rattle.table.proofs.Scan.{spans-under}
-use borrow.Author.Needs.{needs}
 use Rattle.table.proofs.is_unbalanced.Statement.{statement}
 use Rattle.table.proofs.is_unbalanced.Tie as tie
-use Rattle.table.proofs.is_unbalanced.Reads as reads
-use Rattle.table.proofs.is_unbalanced.Lts as lts
-use Rattle.table.proofs.index.Reads as index-reads
-use Rattle.table.proofs.sum_weights.Reads as sum-weights-reads
 
--- src/lib.rt:670:8
 shared-slice-read-if1 : tie.Need-shared-slice-read-if1
 shared-slice-read-if1 c = search needs
 
--- src/lib.rt:671:9
 returns : tie.Need-returns
 returns c =
     let k = c .if1 .taken in
     rw (ne-eqb (getD (now (c .before .before .before .before .before .args .kind)) (c .before .before .before .before .before .args .i) 0) 3 k)
 
--- src/lib.rt:673:37
 add-sum-weights : tie.Need-add-sum-weights
 add-sum-weights c = search needs
 
--- src/lib.rt:673:50
 mul-index : tie.Need-mul-index
 mul-index c = search needs
 
--- src/lib.rt:673:50
 shared-slice-read-index : tie.Need-shared-slice-read-index
 shared-slice-read-index c = search needs
 
--- src/lib.rt:673:44
 index-requires : tie.Need-index-requires
 index-requires c κs = search needs
 
--- src/lib.rt:673:5
 sum-weights-requires : tie.Need-sum-weights-requires
 sum-weights-requires c κs =
     let s = c .before .before .before .before .before .before .before in
@@ -51,7 +39,6 @@ sum-weights-requires c κs =
     let u = spans-under S 0 (a .n) (h .forest) (h .spans) (a .i) (omega arith) (p .0) (c .before .before .if1 .left) in
     rw (c .index .ensures) (omega (arith, u .within, p .2), omega (arith, u .within, p .3), omega (arith, u .within, p .4), record { heights = h .heights; forest = u .forest; spans = u .spans })
 
--- src/lib.rt:666:1
 returns-2 : tie.Need-returns-2
 returns-2 c =
     let a = c .before .before .before .before .before .before .before .before .args in

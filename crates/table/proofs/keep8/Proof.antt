@@ -1,11 +1,9 @@
+-- `table::keep8` meets its contract. Assumes nothing.
 use Prim.Native.Nat.{_-_}
 use native.Mathlib.Omega.{arith}
-use borrow.Author.Needs.{needs}
 use Rattle.table.proofs.Copied.{Copying, copying-none, copying-more, copying-full, copying-done}
 use Rattle.table.proofs.keep8.Statement.{statement}
 use Rattle.table.proofs.keep8.Tie as tie
-use Rattle.table.proofs.keep8.Reads as reads
-use Rattle.table.proofs.keep8.Lts as lts
 
 abbrev Inv-loop : tie.InvT-loop
 Inv-loop n from to₀ i₀ to i = Copying n from to₀ to i
@@ -13,43 +11,33 @@ Inv-loop n from to₀ i₀ to i = Copying n from to₀ to i
 abbrev μ-loop : tie.MeasureT-loop
 μ-loop n from to₀ i₀ to i = n - i
 
--- src/lib.rt:735:5
 loop-holds : tie.Need-loop-holds Inv-loop μ-loop
 loop-holds c = copying-none _ _ _ (c .pre)
 
--- src/lib.rt:737:13
 same-length : tie.Need-same-length Inv-loop μ-loop
 same-length c = c .before .before .loop .inv .kept
 
--- src/lib.rt:737:13
 returns : tie.Need-returns Inv-loop μ-loop
 returns c = copying-full _ _ _ _ _ (c .before .before .loop .inv) (c .if1 .taken)
 
--- src/lib.rt:739:17
 shared-slice-read-to : tie.Need-shared-slice-read-to Inv-loop μ-loop
 shared-slice-read-to c = omega arith
 
--- src/lib.rt:739:9
 slice-write-to : tie.Need-slice-write-to Inv-loop μ-loop
 slice-write-to c = omega arith
 
--- src/lib.rt:740:9
 add-i : tie.Need-add-i Inv-loop μ-loop
 add-i c = omega arith
 
--- src/lib.rt:735:5
 loop-less : tie.Need-loop-less Inv-loop μ-loop
 loop-less c = omega arith
 
--- src/lib.rt:735:5
 loop-again : tie.Need-loop-again Inv-loop μ-loop
 loop-again c = copying-more _ _ _ _ _ (c .before .before .before .loop .inv) (c .before .before .loop-test .taken) (c .before .if1 .left)
 
--- src/lib.rt:730:1
 same-length-2 : tie.Need-same-length-2 Inv-loop μ-loop
 same-length-2 c = c .before .loop .inv .kept
 
--- src/lib.rt:730:1
 returns-2 : tie.Need-returns-2 Inv-loop μ-loop
 returns-2 c = copying-done _ _ _ _ _ (c .before .loop .inv) (c .loop-test .left)
 

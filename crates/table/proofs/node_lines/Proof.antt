@@ -1,33 +1,27 @@
+-- `table::node_lines` meets its contract. Assumes nothing.
 use Prim.Native.Nat.{ℕ, _+_, _-_, _*_, _≤_, _<_, max}
 use mathlib.Core.List.{List}
 use mathlib.Core.Bool.{Bool, true, false, cond}
+use mathlib.Core.Path.{_≡_, refl, sym, ap, subst, _∙_}
+use native.Mathlib.Omega.{arith}
+use borrow.Author.Needs.{needs, sfits-of}
+use denote.Ref.{now}
 use lib.Dec.{eqb}
 use lib.IntN.{ℤ}
 use lib.Seq.{drop-drop}
+use lib.ListN.{length, replicate, drop, take, set, length-take, length-drop}
+use mir.Syntax.{w64}
+use mir.Val.{toZ, ofZ}
+use mir.ValLaws.{toZ-ofZ}
 use Rattle.line.specs.declared.Line.{Line}
 use Rattle.line.specs.declared.Placing
 use Rattle.line.specs.declared.Placing.{Placing}
 use Rattle.line.specs.Line.{nodeLine}
 use Rattle.table.specs.Slices.{heightOf}
-use mathlib.Core.Path.{_≡_, refl, sym, ap, subst, _∙_}
-use native.Mathlib.Omega.{arith}
-use borrow.Author.Needs.{needs}
-use denote.Ref.{now}
-use borrow.Author.Needs.{sfits-of}
-use mir.Syntax.{w64}
-use mir.Val.{toZ, ofZ}
-use mir.ValLaws.{toZ-ofZ}
-use lib.ListN.{length, replicate, drop, take, set, length-take, length-drop}
 use Rattle.line.specs.Inside.{pathOf, placingShown, Ranged, Sized, Roomy}
 use Rattle.table.proofs.Gather.{bounded-zeros, Gathering, Kept, gathering-kept, gathering-none, gathering-more, gathering-as, sized-here, reading-refused, gathered-refused, gathered-done}
 use Rattle.table.proofs.node_lines.Statement.{statement}
 use Rattle.table.proofs.node_lines.Tie as tie
-use Rattle.table.proofs.node_lines.Reads as reads
-use Rattle.table.proofs.node_lines.Lts as lts
-use Rattle.table.proofs.max_of.Reads as max-of-reads
-use Rattle.line.proofs.node_line.Reads as node-line-reads
-use Rattle.line.proofs.one_if.Reads as one-if-reads
-use Rattle.table.proofs.store.Reads as store-reads
 
 abbrev Inv-loop : tie.InvT-loop
 Inv-loop text n h kind₀ up₀ weight₀ height₀ nodes₀ kinds₀ chances₀ depth₀ most₀ leaves₀ i₀ kind up weight height nodes kinds chances depth most leaves i =
@@ -107,43 +101,39 @@ more c l d e =
     let a = start (turn c) .args in
     let s = turn c .loop in
     let t = drop 25 (a .text .now) in
-    let i<n : s .i < a .n = omega (arith, c .before .before .before .before .before .loop-test .taken) in
-    (sized-here (a .h) (a .n) t (a .kind .now) (a .up .now) (a .weight .now) (a .height .now) (s .kind) (s .up) (s .weight) (s .height) (s .nodes) (s .kinds) (s .chances) (s .depth) (s .most) (s .leaves) (s .i) (s .inv .0) (s .inv .1) (s .inv .3) i<n l d (roomy c l d e) (shown c (Placing.the-variants.At l d) e),
-    gathering-more (a .h) (a .n) t (a .kind .now) (a .up .now) (a .weight .now) (a .height .now) (s .kind) (s .up) (s .weight) (s .height) (s .nodes) (s .kinds) (s .chances) (s .depth) (s .most) (s .leaves) (s .i) (s .inv .0) (s .inv .1) (s .inv .3) i<n l d (roomy c l d e) (shown c (Placing.the-variants.At l d) e))
+    let i<n : s .i < a .n = omega (arith, c .before .before .before .before .before .loop-test .taken) in (
+      sized-here (a .h) (a .n) t (a .kind .now) (a .up .now) (a .weight .now) (a .height .now) (s .kind) (s .up) (s .weight) (s .height) (s .nodes) (s .kinds) (s .chances) (s .depth) (s .most) (s .leaves) (s .i) (s .inv .0) (s .inv .1) (s .inv .3) i<n l d (roomy c l d e) (shown c (Placing.the-variants.At l d) e),
+      gathering-more (a .h) (a .n) t (a .kind .now) (a .up .now) (a .weight .now) (a .height .now) (s .kind) (s .up) (s .weight) (s .height) (s .nodes) (s .kinds) (s .chances) (s .depth) (s .most) (s .leaves) (s .i) (s .inv .0) (s .inv .1) (s .inv .3) i<n l d (roomy c l d e) (shown c (Placing.the-variants.At l d) e),
+    )
 
--- src/lib.rt:567:5
 loop-holds : tie.Need-loop-holds Inv-loop μ-loop
 loop-holds c =
     let b = c .before .before .before .before .before in
-    let a = b .args in
-    (gathering-none (a .h) (a .n) (drop 25 (a .text .now)) (a .kind .now) (a .up .now) (a .weight .now) (a .height .now) (replicate 64 0) (replicate 64 0) (replicate 64 0) (refl, refl, refl) (bounded-zeros 64) (b .pre .0),
-    b .pre .1, b .pre .2, b .pre .3)
+    let a = b .args in (
+      gathering-none (a .h) (a .n) (drop 25 (a .text .now)) (a .kind .now) (a .up .now) (a .weight .now) (a .height .now) (replicate 64 0) (replicate 64 0) (replicate 64 0) (refl, refl, refl) (bounded-zeros 64) (b .pre .0),
+      b .pre .1,
+      b .pre .2,
+      b .pre .3,
+    )
 
--- src/lib.rt:568:18
 mul-at : tie.Need-mul-at Inv-loop μ-loop
 mul-at c = omega arith
 
--- src/lib.rt:568:18
 add-at : tie.Need-add-at Inv-loop μ-loop
 add-at c = omega arith
 
--- src/lib.rt:569:35
 add-node-line : tie.Need-add-node-line Inv-loop μ-loop
 add-node-line c = omega arith
 
--- src/lib.rt:569:25
 sub-node-line : tie.Need-sub-node-line Inv-loop μ-loop
 sub-node-line c = omega arith
 
--- src/lib.rt:569:25
 part-node-line-start : tie.Need-part-node-line-start Inv-loop μ-loop
 part-node-line-start c = omega arith
 
--- src/lib.rt:569:25
 part-node-line-end : tie.Need-part-node-line-end Inv-loop μ-loop
 part-node-line-end c = omega arith
 
--- src/lib.rt:569:15
 node-line-requires : tie.Need-node-line-requires Inv-loop μ-loop
 node-line-requires c κs =
     let s = c .before .before .before .before .before in
@@ -151,7 +141,6 @@ node-line-requires c κs =
     let t = start s .args .text .now in
     (rw (part-is (s .loop .i) t, length-take, length-drop, length-drop) (omega arith), G .deep, omega arith, s .loop .inv .3 .total, G .bounded)
 
--- src/lib.rt:570:30
 enum-known-r : tie.Need-enum-known-r Inv-loop μ-loop
 enum-known-r c = search needs
 
@@ -167,7 +156,6 @@ same-length-3 c = kept-of (c .before .before .before .before .before .before .be
 same-length-4 : tie.Need-same-length-4 Inv-loop μ-loop
 same-length-4 c = kept-of (c .before .before .before .before .before .before .before .before .before) .heights
 
--- src/lib.rt:571:17
 returns : tie.Need-returns Inv-loop μ-loop
 returns c =
     let N = c .before .before .before in
@@ -177,43 +165,33 @@ returns c =
     gathered-refused (a .h) (a .n) t (a .kind .now) (a .up .now) (a .weight .now) (a .height .now) (c .before .r .given .0 .0) (s .kind) (s .up) (s .weight) (s .height)
     (reading-refused (a .h) (a .n) t (s .inv .0 .done) (s .i) (pathOf (s .nodes) (s .kinds) (s .chances) (s .depth)) (s .inv .0 .reading) (omega (arith, N .before .before .before .before .before .loop-test .taken)) (c .before .r .given .0 .0) (shown N (Placing.the-variants.Refused (c .before .r .given .0 .0)) (c .before .r .given .1)))
 
--- src/lib.rt:573:25
 enum-known-l : tie.Need-enum-known-l Inv-loop μ-loop
 enum-known-l c = search needs
 
--- src/lib.rt:574:17
 mul-nodes : tie.Need-mul-nodes Inv-loop μ-loop
 mul-nodes c = omega (arith, roomy (c .before .before .before) (c .before .l .given .0 .0) (c .before .l .given .0 .1 .0) (c .before .l .given .1))
 
--- src/lib.rt:574:17
 array-write-nodes : tie.Need-array-write-nodes Inv-loop μ-loop
 array-write-nodes c = roomy (c .before .before .before) (c .before .l .given .0 .0) (c .before .l .given .0 .1 .0) (c .before .l .given .1)
 
--- src/lib.rt:575:17
 array-write-kinds : tie.Need-array-write-kinds Inv-loop μ-loop
 array-write-kinds c = roomy (c .before .before .before) (c .before .l .given .0 .0) (c .before .l .given .0 .1 .0) (c .before .l .given .1)
 
--- src/lib.rt:576:17
 mul-chances : tie.Need-mul-chances Inv-loop μ-loop
 mul-chances c = omega (arith, roomy (c .before .before .before) (c .before .l .given .0 .0) (c .before .l .given .0 .1 .0) (c .before .l .given .1))
 
--- src/lib.rt:576:17
 array-write-chances : tie.Need-array-write-chances Inv-loop μ-loop
 array-write-chances c = roomy (c .before .before .before) (c .before .l .given .0 .0) (c .before .l .given .0 .1 .0) (c .before .l .given .1)
 
--- src/lib.rt:577:25
 add-depth : tie.Need-add-depth Inv-loop μ-loop
 add-depth c = omega (arith, roomy (c .before .before .before) (c .before .l .given .0 .0) (c .before .l .given .0 .1 .0) (c .before .l .given .1))
 
--- src/lib.rt:578:17
 max-of-requires : tie.Need-max-of-requires Inv-loop μ-loop
 max-of-requires c κs = search needs
 
--- src/lib.rt:579:35
 one-if-requires : tie.Need-one-if-requires Inv-loop μ-loop
 one-if-requires c κs = search needs
 
--- src/lib.rt:579:26
 add-leaves : tie.Need-add-leaves Inv-loop μ-loop
 add-leaves c =
     let N = c .before .before .before .before .before .before in
@@ -222,7 +200,6 @@ add-leaves c =
     let i<n : s .i < a .n = omega (arith, N .before .before .before .before .before .loop-test .taken) in
     omega (arith, s .inv .0 .few, s .inv .1, c .one-if .ensures, flag-small (eqb (c .before .before .before .before .l .given .0 .0 .kind) 0))
 
--- src/lib.rt:580:17
 store-requires : tie.Need-store-requires Inv-loop μ-loop
 store-requires c κs =
     let N = c .before .before .before .before .before .before .before .before .before .before .before in
@@ -231,20 +208,18 @@ store-requires c κs =
     let a = start (turn N) .args in
     let K = kept-of (turn N) in
     let R = s .inv .0 .long in
-    let i = small-index N in
-    (record { kinds = omega (arith, R .kinds, K .kinds); ups = omega (arith, R .ups, K .ups); weights = omega (arith, R .weights, K .weights); heights = omega (arith, R .heights, K .heights) },
-    more N (L .0 .0) (L .0 .1 .0) (L .1) .0,
-    rw (toZ-ofZ w64 (a .h .lowest) (sfits-of (omega (arith, s .inv .3 .lowest)))) (s .inv .3 .lowest))
+    let i = small-index N in (
+      record { kinds = omega (arith, R .kinds, K .kinds); ups = omega (arith, R .ups, K .ups); weights = omega (arith, R .weights, K .weights); heights = omega (arith, R .heights, K .heights) },
+      more N (L .0 .0) (L .0 .1 .0) (L .1) .0,
+      rw (toZ-ofZ w64 (a .h .lowest) (sfits-of (omega (arith, s .inv .3 .lowest)))) (s .inv .3 .lowest),
+    )
 
--- src/lib.rt:583:9
 add-i : tie.Need-add-i Inv-loop μ-loop
 add-i c = omega (arith, small-index (line-of (stored c)))
 
--- src/lib.rt:567:5
 loop-less : tie.Need-loop-less Inv-loop μ-loop
 loop-less c = omega (arith, line-of (stored c) .before .before .before .before .before .loop-test .taken)
 
--- src/lib.rt:567:5
 loop-again : tie.Need-loop-again Inv-loop μ-loop
 loop-again c =
     let S = stored c in
@@ -256,13 +231,17 @@ loop-again c =
     let one = S .before .before .before .before .before .before .one-if in
     let most = S .before .before .before .before .before .before .before .before .max-of in
     let l = L .0 .0 in
-    let d = L .0 .1 .0 in
-    (gathering-as (a .h) (a .n) (drop 25 (a .text .now)) (a .kind .now) (a .up .now) (a .weight .now) (a .height .now)
-    (set (s .kind) (s .i) (l .kind)) _ (set (s .up) (s .i) (l .parent)) _ (set (s .weight) (s .i) (l .weight)) _ (set (s .height) (s .i) (heightOf (a .h .lowest) l)) _
-    (set (s .nodes) d (s .i)) (set (s .kinds) d (l .kind)) (set (s .chances) d (l .chances)) (d + 1) (max (s .most) (l .chances)) _ (s .leaves + cond (eqb (l .kind) 0) 1 0) _ (s .i + 1)
-    (S .store .ensures .0) (S .store .ensures .1 .0) (S .store .ensures .1 .1 .0) (S .store .ensures .1 .1 .1 ∙ ap (λ (z : ℤ). set (s .height) (s .i) (heightOf z l)) back)
-    (most .ensures) (ap (λ (m : ℕ). s .leaves + m) (one .ensures))
-    (more N l d (L .1) .1), s .inv .1, s .inv .2, s .inv .3)
+    let d = L .0 .1 .0 in (
+      gathering-as (a .h) (a .n) (drop 25 (a .text .now)) (a .kind .now) (a .up .now) (a .weight .now) (a .height .now)
+          (set (s .kind) (s .i) (l .kind)) _ (set (s .up) (s .i) (l .parent)) _ (set (s .weight) (s .i) (l .weight)) _ (set (s .height) (s .i) (heightOf (a .h .lowest) l)) _
+          (set (s .nodes) d (s .i)) (set (s .kinds) d (l .kind)) (set (s .chances) d (l .chances)) (d + 1) (max (s .most) (l .chances)) _ (s .leaves + cond (eqb (l .kind) 0) 1 0) _ (s .i + 1)
+          (S .store .ensures .0) (S .store .ensures .1 .0) (S .store .ensures .1 .1 .0) (S .store .ensures .1 .1 .1 ∙ ap (λ (z : ℤ). set (s .height) (s .i) (heightOf z l)) back)
+          (most .ensures) (ap (λ (m : ℕ). s .leaves + m) (one .ensures))
+          (more N l d (L .1) .1),
+      s .inv .1,
+      s .inv .2,
+      s .inv .3,
+    )
 
 same-length-5 : tie.Need-same-length-5 Inv-loop μ-loop
 same-length-5 c = kept-of (c .before) .kinds
@@ -276,7 +255,6 @@ same-length-7 c = kept-of (c .before) .weights
 same-length-8 : tie.Need-same-length-8 Inv-loop μ-loop
 same-length-8 c = kept-of (c .before) .heights
 
--- src/lib.rt:548:1
 returns-2 : tie.Need-returns-2 Inv-loop μ-loop
 returns-2 c =
     let s = c .before .loop in

@@ -1,14 +1,12 @@
-use Prim.Native.Nat.{ℕ, _+_, _-_, _*_, _^_, _≤_, _<_}
-use mathlib.Core.Path.{_≡_, refl, sym, ap, _∙_}
+-- `table::power` meets its contract. Assumes nothing.
+use Prim.Native.Nat.{ℕ, _-_, _*_, _^_, _≤_}
+use mathlib.Core.Path.{_≡_, sym, ap, _∙_}
 use native.Mathlib.Omega.{arith}
 use native.Mathlib.Numerals.{add-one}
 use native.Mathlib.Nat.{pow-zero, pow-suc, mul-le-mul}
-use borrow.Author.Needs.{needs}
 use Rattle.table.proofs.Powers.{power-small}
 use Rattle.table.proofs.power.Statement.{statement}
 use Rattle.table.proofs.power.Tie as tie
-use Rattle.table.proofs.power.Reads as reads
-use Rattle.table.proofs.power.Lts as lts
 
 abbrev Inv-loop : tie.InvT-loop
 Inv-loop base k p₀ j₀ p j = (j ≤ k) × (base ≤ 64) × (k ≤ 4) × (p ≡ base ^ j)
@@ -16,11 +14,9 @@ Inv-loop base k p₀ j₀ p j = (j ≤ k) × (base ≤ 64) × (k ≤ 4) × (p �
 abbrev μ-loop : tie.MeasureT-loop
 μ-loop base k p₀ j₀ p j = k - j
 
--- src/lib.rt:689:5
 loop-holds : tie.Need-loop-holds Inv-loop μ-loop
 loop-holds c = (omega arith, c .pre .0, c .pre .1, sym (pow-zero (c .args .base)))
 
--- src/lib.rt:690:13
 mul-p : tie.Need-mul-p Inv-loop μ-loop
 mul-p c =
     let v = c .before .loop .inv in
@@ -28,22 +24,18 @@ mul-p c =
     let small : c .before .loop .p ≤ 16777216 = rw (v .3) (power-small b (c .before .loop .j) (v .1) (omega (arith, v .0, v .2))) in
     omega (arith, mul-le-mul small (v .1))
 
--- src/lib.rt:691:9
 add-j : tie.Need-add-j Inv-loop μ-loop
 add-j c = omega arith
 
--- src/lib.rt:689:5
 loop-less : tie.Need-loop-less Inv-loop μ-loop
 loop-less c = omega arith
 
--- src/lib.rt:689:5
 loop-again : tie.Need-loop-again Inv-loop μ-loop
 loop-again c =
     let v = c .before .loop .inv in
     let b = c .before .before .args .base in
     (omega arith, v .1, v .2, ap (λ (x : ℕ). x * b) (v .3) ∙ sym (rw add-one (pow-suc b (c .before .loop .j))))
 
--- src/lib.rt:683:1
 returns : tie.Need-returns Inv-loop μ-loop
 returns c =
     let v = c .before .loop .inv in

@@ -1,7 +1,9 @@
+-- `table::read` meets its contract. Assumes nothing.
 use Prim.Native.Nat.{ℕ}
-use mathlib.Core.Path.{_≡_, refl, sym, ap, subst, _∙_}
+use mathlib.Core.Path.{_≡_, sym, ap, subst, _∙_}
 use mathlib.Core.List.{List}
 use native.Mathlib.Omega.{arith}
+use borrow.Author.Needs.{needs}
 use denote.Ref.{now}
 use lib.ListN.{length, replicate}
 use Rattle.table.specs.declared.Reading.{Reading}
@@ -11,15 +13,8 @@ use Rattle.table.specs.Table.{readText, answer}
 use Rattle.table.specs.Slices.{kindsOf, stopsOf, weightsOf, heightsOf}
 use Rattle.table.specs.Inside.{Decoded}
 use Rattle.table.proofs.Top.{Accepts, decoded-accepted, decoded-refusal, nodes-long, kept-front, unchanged}
-use borrow.Author.Needs.{needs}
 use Rattle.table.proofs.read.Statement.{statement}
 use Rattle.table.proofs.read.Tie as tie
-use Rattle.table.proofs.read.Reads as reads
-use Rattle.table.proofs.read.Lts as lts
-use Rattle.table.proofs.decode.Reads as decode-reads
-use Rattle.table.proofs.keep16.Reads as keep16-reads
-use Rattle.table.proofs.keep32.Reads as keep32-reads
-use Rattle.table.proofs.keep8.Reads as keep8-reads
 
 abbrev text-of : tie.After-decode → List ℕ
 text-of c = now (c .before .before .before .before .before .before .before .before .before .before .args .text)
@@ -49,73 +44,57 @@ long-of : (c : tie.After-t)
     (length (kindsOf (A .table)) ≡ n) × (length (stopsOf (A .table)) ≡ n) × (length (weightsOf (A .table)) ≡ n) × (length (heightsOf (A .table)) ≡ n)
 long-of c = nodes-long (readText (text-of (decoding c))) (c .t .given .0 .0) _ _ _ _ (accepts c)
 
--- src/lib.rt:841:24
 slice-aggregate-decode : tie.Need-slice-aggregate-decode
 slice-aggregate-decode c = search needs
 
--- src/lib.rt:841:32
 slice-aggregate-decode-2 : tie.Need-slice-aggregate-decode-2
 slice-aggregate-decode-2 c = search needs
 
--- src/lib.rt:841:40
 slice-aggregate-decode-3 : tie.Need-slice-aggregate-decode-3
 slice-aggregate-decode-3 c = search needs
 
--- src/lib.rt:841:48
 slice-aggregate-decode-4 : tie.Need-slice-aggregate-decode-4
 slice-aggregate-decode-4 c = search needs
 
--- src/lib.rt:841:11
 decode-requires : tie.Need-decode-requires
 decode-requires c κs = search needs
 
--- src/lib.rt:842:26
 enum-known-r : tie.Need-enum-known-r
 enum-known-r c = search needs
 
--- src/lib.rt:843:27
 enum-known-t : tie.Need-enum-known-t
 enum-known-t c = search needs
 
--- src/lib.rt:845:22
 slice-aggregate-keep8 : tie.Need-slice-aggregate-keep8
 slice-aggregate-keep8 c = search needs
 
--- src/lib.rt:845:13
 keep8-requires : tie.Need-keep8-requires
 keep8-requires c κs = let T = c .before .before .before in omega (arith, accepts T .kinds .long, long-of T .0)
 
--- src/lib.rt:846:23
 slice-aggregate-keep16 : tie.Need-slice-aggregate-keep16
 slice-aggregate-keep16 c = search needs
 
--- src/lib.rt:846:13
 keep16-requires : tie.Need-keep16-requires
 keep16-requires c κs =
     let T = c .before .before .before .before .before .before .before .before in
     omega (arith, accepts T .stops .long, long-of T .1)
 
--- src/lib.rt:847:22
 slice-aggregate-keep8-2 : tie.Need-slice-aggregate-keep8-2
 slice-aggregate-keep8-2 c = search needs
 
--- src/lib.rt:847:13
 keep8-requires-2 : tie.Need-keep8-requires-2
 keep8-requires-2 c κs =
     let T = c .before .before .before .before .before .before .before .before .before .before .before .before .before in
     omega (arith, accepts T .weights .long, long-of T .2)
 
--- src/lib.rt:848:23
 slice-aggregate-keep32 : tie.Need-slice-aggregate-keep32
 slice-aggregate-keep32 c = search needs
 
--- src/lib.rt:848:13
 keep32-requires : tie.Need-keep32-requires
 keep32-requires c κs =
     let T = c .before .before .before .before .before .before .before .before .before .before .before .before .before .before .before .before .before .before in
     omega (arith, accepts T .heights .long, long-of T .3)
 
--- src/lib.rt:824:1
 returns : tie.Need-returns
 returns c =
     let D = c .before .before .before .before .before .before .before in
@@ -124,23 +103,18 @@ returns c =
     let e : v ≡ refused r = decoded-refusal v r _ _ _ _ _ _ _ _ (decodes D (Refused r) (c .before .r .given .1)) in
     (sym (ap answer e), (unchanged kindsOf v r _ e, (unchanged stopsOf v r _ e, (unchanged weightsOf v r _ e, unchanged heightsOf v r _ e))))
 
--- src/lib.rt:824:1
 same-length : tie.Need-same-length
 same-length c = search needs
 
--- src/lib.rt:824:1
 same-length-2 : tie.Need-same-length-2
 same-length-2 c = search needs
 
--- src/lib.rt:824:1
 same-length-3 : tie.Need-same-length-3
 same-length-3 c = search needs
 
--- src/lib.rt:824:1
 same-length-4 : tie.Need-same-length-4
 same-length-4 c = search needs
 
--- src/lib.rt:824:1
 returns-2 : tie.Need-returns-2
 returns-2 c =
     let K32 = c .before .before in
@@ -151,12 +125,19 @@ returns-2 c =
     let A = accepts T in
     let a = decoding T .before .before .before .before .before .before .before .before .before .before .args in
     let n = long-of T in
-    let v = readText (text-of (decoding T)) in
-    (ap Accepted (A .numbers) ∙ sym (ap answer (A .verdict)),
-    (kept-front kindsOf v (A .table) _ _ (now (a .kind)) _ (A .verdict) (n .0) (A .kinds) (K8a .keep8 .ensures),
-    (kept-front stopsOf v (A .table) _ _ (now (a .stop)) _ (A .verdict) (n .1) (A .stops) (K16 .keep16 .ensures),
-    (kept-front weightsOf v (A .table) _ _ (now (a .weight)) _ (A .verdict) (n .2) (A .weights) (K8b .keep82 .ensures),
-    kept-front heightsOf v (A .table) _ _ (now (a .height)) _ (A .verdict) (n .3) (A .heights) (K32 .keep32 .ensures)))))
+    let v = readText (text-of (decoding T)) in (
+      ap Accepted (A .numbers) ∙ sym (ap answer (A .verdict)),
+      (
+        kept-front kindsOf v (A .table) _ _ (now (a .kind)) _ (A .verdict) (n .0) (A .kinds) (K8a .keep8 .ensures),
+        (
+          kept-front stopsOf v (A .table) _ _ (now (a .stop)) _ (A .verdict) (n .1) (A .stops) (K16 .keep16 .ensures),
+          (
+            kept-front weightsOf v (A .table) _ _ (now (a .weight)) _ (A .verdict) (n .2) (A .weights) (K8b .keep82 .ensures),
+            kept-front heightsOf v (A .table) _ _ (now (a .height)) _ (A .verdict) (n .3) (A .heights) (K32 .keep32 .ensures),
+          ),
+        ),
+      ),
+    )
 
 pub read-spec : {M : Type 1} → statement M
 read-spec =

@@ -1,6 +1,7 @@
+-- `table::run_end` meets its contract. Assumes nothing.
 use Prim.Native.Nat.{ℕ, _+_, _-_, _≤_, _<_}
 use mathlib.Core.List.{List}
-use mathlib.Core.Path.{_≡_, refl, sym, ap, _∙_}
+use mathlib.Core.Path.{_≡_, refl, _∙_}
 use native.Mathlib.Omega.{arith}
 use borrow.Author.Needs.{needs}
 use denote.Ref.{now}
@@ -10,9 +11,6 @@ use Rattle.table.specs.Inside.{reach, endOf, Ended}
 use Rattle.table.proofs.Reach.{end-here, end-on, end-within, end-last}
 use Rattle.table.proofs.run_end.Statement.{statement}
 use Rattle.table.proofs.run_end.Tie as tie
-use Rattle.table.proofs.run_end.Reads as reads
-use Rattle.table.proofs.run_end.Lts as lts
-use Rattle.table.proofs.index.Reads as index-reads
 
 abbrev Inv-loop : tie.InvT-loop
 Inv-loop up stop i n j₀ j =
@@ -31,27 +29,21 @@ abbrev μ-loop : tie.MeasureT-loop
 within : (n : ℕ) (up : List ℕ) → n ≤ length up → (j : ℕ) → j < n → (j < length (take n up)) × (getD (take n up) j 0 ≡ getD up j 0)
 within n up h j l = (omega (arith, length-take-le n up h), getD-take n up j 0 l)
 
--- src/lib.rt:607:17
 add-j : tie.Need-add-j Inv-loop μ-loop
 add-j c = omega arith
 
--- src/lib.rt:608:5
 loop-holds : tie.Need-loop-holds Inv-loop μ-loop
 loop-holds c = let p = c .before .before .pre in (omega arith, omega arith, p .1, p .2, p .3, p .4, refl)
 
--- src/lib.rt:609:18
 mul-index : tie.Need-mul-index Inv-loop μ-loop
 mul-index c = omega arith
 
--- src/lib.rt:609:18
 shared-slice-read-index : tie.Need-shared-slice-read-index Inv-loop μ-loop
 shared-slice-read-index c = omega arith
 
--- src/lib.rt:609:12
 index-requires : tie.Need-index-requires Inv-loop μ-loop
 index-requires c κs = search needs
 
--- src/lib.rt:610:13
 returns : tie.Need-returns Inv-loop μ-loop
 returns c =
     let l = c .before .before .before .before in
@@ -60,15 +52,12 @@ returns c =
     let w = within (a .n) up (l .loop .inv .2) (l .loop .j) (omega (arith, c .before .before .before .loop-test .taken)) in
     end-here (take (a .n) up) (a .i) (l .loop .j) (l .loop .inv .6) (w .0) (omega (arith, w .1, c .before .index .ensures, c .if1 .taken))
 
--- src/lib.rt:612:19
 mul-index-2 : tie.Need-mul-index-2 Inv-loop μ-loop
 mul-index-2 c = omega arith
 
--- src/lib.rt:612:19
 shared-slice-read-index-2 : tie.Need-shared-slice-read-index-2 Inv-loop μ-loop
 shared-slice-read-index-2 c = omega arith
 
--- src/lib.rt:612:9
 index-requires-2 : tie.Need-index-requires-2 Inv-loop μ-loop
 index-requires-2 c κs = search needs
 
@@ -81,30 +70,34 @@ next-is c =
     let l = c .before .before .before .before .before .before in
     let a = l .before .before .before .args in
     let up = now (a .up) in
-    let w = within (a .n) up (l .loop .inv .2) (l .loop .j) (omega (arith, c .before .before .before .before .before .loop-test .taken)) in
-    (w .0,
-    omega (arith, w .1, c .before .before .before .index .ensures, c .before .before .if1 .left),
-    c .index2 .ensures ∙ l .loop .inv .5 (l .loop .j) (omega (arith, l .loop .inv .0)) (w .0),
-    omega (arith, end-within (take (a .n) up) (a .i) (l .loop .j) (l .loop .inv .6) (w .0), length-take-le (a .n) up (l .loop .inv .2)))
+    let w = within (a .n) up (l .loop .inv .2) (l .loop .j) (omega (arith, c .before .before .before .before .before .loop-test .taken)) in (
+      w .0,
+      omega (arith, w .1, c .before .before .before .index .ensures, c .before .before .if1 .left),
+      c .index2 .ensures ∙ l .loop .inv .5 (l .loop .j) (omega (arith, l .loop .inv .0)) (w .0),
+      omega (arith, end-within (take (a .n) up) (a .i) (l .loop .j) (l .loop .inv .6) (w .0), length-take-le (a .n) up (l .loop .inv .2)),
+    )
 
--- src/lib.rt:608:5
 loop-less : tie.Need-loop-less Inv-loop μ-loop
 loop-less c =
     let l = c .before .before .before .before .before .before in
     let e = next-is c in
     omega (arith, e .2, e .3, c .before .before .before .before .before .loop-test .taken)
 
--- src/lib.rt:608:5
 loop-again : tie.Need-loop-again Inv-loop μ-loop
 loop-again c =
     let l = c .before .before .before .before .before .before in
     let a = l .before .before .before .args in
     let v = l .loop .inv in
-    let e = next-is c in
-    (omega (arith, e .2, v .0), omega (arith, e .2, e .3), v .2, v .3, v .4, v .5,
-    rw (e .2) (end-on (take (a .n) (now (a .up))) (a .i) (l .loop .j) (v .6) (e .0) (e .1) (omega (arith, v .0))))
+    let e = next-is c in (
+      omega (arith, e .2, v .0),
+      omega (arith, e .2, e .3),
+      v .2,
+      v .3,
+      v .4,
+      v .5,
+      rw (e .2) (end-on (take (a .n) (now (a .up))) (a .i) (l .loop .j) (v .6) (e .0) (e .1) (omega (arith, v .0))),
+    )
 
--- src/lib.rt:603:1
 returns-2 : tie.Need-returns-2 Inv-loop μ-loop
 returns-2 c =
     let l = c .before in

@@ -1,18 +1,14 @@
-use Prim.Native.Nat.{ℕ, _+_, _-_, _≤_, _<_}
-use mathlib.Core.List.{List}
-use mathlib.Core.Path.{_≡_, refl, sym, ap, _∙_}
+-- `table::stops` meets its contract. Assumes nothing.
+use Prim.Native.Nat.{_+_, _-_, _≤_}
+use mathlib.Core.Path.{_≡_, refl, _∙_}
 use native.Mathlib.Omega.{arith}
-use borrow.Author.Needs.{needs}
 use denote.Ref.{now}
-use lib.ListN.{length, getD, set, take, drop, length-set}
+use lib.ListN.{length, take, drop, length-set}
 use lib.Seq.{length-take-le, drop-set-lt}
-use Rattle.table.specs.Inside.{reach, endOf, Ended}
+use Rattle.table.specs.Inside.{Ended}
 use Rattle.table.proofs.Reach.{end-small, ended-laid, ended-more}
 use Rattle.table.proofs.stops.Statement.{statement}
 use Rattle.table.proofs.stops.Tie as tie
-use Rattle.table.proofs.stops.Reads as reads
-use Rattle.table.proofs.stops.Lts as lts
-use Rattle.table.proofs.run_end.Reads as run-end-reads
 
 abbrev Inv-loop : tie.InvT-loop
 Inv-loop up n stop₀ i₀ stop i =
@@ -27,17 +23,14 @@ Inv-loop up n stop₀ i₀ stop i =
 abbrev μ-loop : tie.MeasureT-loop
 μ-loop up n stop₀ i₀ stop i = i
 
--- src/lib.rt:623:5
 loop-holds : tie.Need-loop-holds Inv-loop μ-loop
 loop-holds c =
     let b = c .before .before in
     (omega arith, b .pre .0, b .pre .1, b .pre .2, refl, (λ j p q. absurd (omega (arith, length-take-le (b .args .n) (now (b .args .up)) (b .pre .0)))), refl)
 
--- src/lib.rt:624:9
 sub-i : tie.Need-sub-i Inv-loop μ-loop
 sub-i c = omega arith
 
--- src/lib.rt:625:13
 run-end-requires : tie.Need-run-end-requires Inv-loop μ-loop
 run-end-requires c κs =
     let l = c .before .before in
@@ -46,7 +39,6 @@ run-end-requires c κs =
     let e : l .loop .i - 1 + 1 ≡ l .loop .i = omega arith in
     (omega (arith, v .0), v .1, omega (arith, v .2, v .4), v .3, rw e (v .5))
 
--- src/lib.rt:626:19
 cast-stop : tie.Need-cast-stop Inv-loop μ-loop
 cast-stop c =
     let l = c .before .before .before in
@@ -56,35 +48,34 @@ cast-stop c =
     let len = length-take-le (a .n) (now (a .up)) (v .1) in
     omega (arith, c .run-end .ensures, end-small (take (a .n) (now (a .up))) (l .loop .i - 1) (omega (arith, len, v .0)), len, v .3)
 
--- src/lib.rt:626:9
 mul-stop : tie.Need-mul-stop Inv-loop μ-loop
 mul-stop c = let v = c .before .before .before .loop .inv in omega (arith, v .0, v .3)
 
--- src/lib.rt:626:9
 slice-write-stop : tie.Need-slice-write-stop Inv-loop μ-loop
 slice-write-stop c = let v = c .before .before .before .loop .inv in omega (arith, v .0, v .2, v .4, c .before .before .loop-test .taken)
 
--- src/lib.rt:623:5
 loop-less : tie.Need-loop-less Inv-loop μ-loop
 loop-less c = omega arith
 
--- src/lib.rt:623:5
 loop-again : tie.Need-loop-again Inv-loop μ-loop
 loop-again c =
     let l = c .before .before .before in
     let a = l .before .before .before .args in
     let v = l .loop .inv in
     let t = c .before .before .loop-test .taken in
-    let e : l .loop .i - 1 + 1 ≡ l .loop .i = omega arith in
-    (omega (arith, v .0), v .1, v .2, v .3, length-set (l .loop .stop) (l .loop .i - 1) (c .run-end .result) ∙ v .4,
-    ended-more (take (a .n) (now (a .up))) (l .loop .stop) (l .loop .i - 1) (c .run-end .result) (rw e (v .5)) (c .run-end .ensures) (omega (arith, v .0, v .2, v .4)),
-    drop-set-lt (a .n) (l .loop .stop) (l .loop .i - 1) (c .run-end .result) (omega (arith, v .0)) ∙ v .6)
+    let e : l .loop .i - 1 + 1 ≡ l .loop .i = omega arith in (
+      omega (arith, v .0),
+      v .1,
+      v .2,
+      v .3,
+      length-set (l .loop .stop) (l .loop .i - 1) (c .run-end .result) ∙ v .4,
+      ended-more (take (a .n) (now (a .up))) (l .loop .stop) (l .loop .i - 1) (c .run-end .result) (rw e (v .5)) (c .run-end .ensures) (omega (arith, v .0, v .2, v .4)),
+      drop-set-lt (a .n) (l .loop .stop) (l .loop .i - 1) (c .run-end .result) (omega (arith, v .0)) ∙ v .6,
+    )
 
--- src/lib.rt:618:1
 same-length : tie.Need-same-length Inv-loop μ-loop
 same-length c = c .before .loop .inv .4
 
--- src/lib.rt:618:1
 returns : tie.Need-returns Inv-loop μ-loop
 returns c =
     let l = c .before in

@@ -1,18 +1,12 @@
-use Prim.Native.Nat.{ℕ, _+_, _-_, _*_, _≤_, _<_}
-use mathlib.Core.List.{List}
-use mathlib.Core.Path.{_≡_, refl, sym, ap, _∙_}
+-- `table::sum_weights` meets its contract. Assumes nothing.
+use Prim.Native.Nat.{_-_, _≤_}
 use native.Mathlib.Omega.{arith}
 use borrow.Author.Needs.{needs}
 use denote.Ref.{now}
-use lib.ListN.{length, getD}
-use Rattle.table.specs.Inside.{weighAt, Has}
+use lib.ListN.{length}
 use Rattle.table.proofs.Scan.{Summing, summing-none, summing-later, summing-more, summing-done}
 use Rattle.table.proofs.sum_weights.Statement.{statement}
 use Rattle.table.proofs.sum_weights.Tie as tie
-use Rattle.table.proofs.sum_weights.Reads as reads
-use Rattle.table.proofs.sum_weights.Lts as lts
-use Rattle.table.proofs.index.Reads as index-reads
-use Rattle.table.proofs.wide.Reads as wide-reads
 
 abbrev Inv-loop : tie.InvT-loop
 Inv-loop kind stop weight c e sum₀ j₀ sum j =
@@ -21,39 +15,31 @@ Inv-loop kind stop weight c e sum₀ j₀ sum j =
 abbrev μ-loop : tie.MeasureT-loop
 μ-loop kind stop weight c e sum₀ j₀ sum j = e - j
 
--- src/lib.rt:658:5
 loop-holds : tie.Need-loop-holds Inv-loop μ-loop
 loop-holds c =
     let b = c .before .before .before in
     (b .pre .0, b .pre .1, b .pre .2, summing-none (now (b .args .kind)) (now (b .args .stop)) (now (b .args .weight)) (b .args .c) (b .args .e) (b .pre .2) (b .pre .3))
 
--- src/lib.rt:659:26
 shared-slice-read-wide : tie.Need-shared-slice-read-wide Inv-loop μ-loop
 shared-slice-read-wide c = omega arith
 
--- src/lib.rt:659:21
 wide-requires : tie.Need-wide-requires Inv-loop μ-loop
 wide-requires c κs = search needs
 
--- src/lib.rt:659:15
 add-sum : tie.Need-add-sum Inv-loop μ-loop
 add-sum c =
     let l = c .before .before .before in
     omega (arith, c .wide .ensures, c .before .shared-slice-known4 .given (l .loop .j), l .loop .inv .3 .bound, l .loop .inv .3 .within, l .loop .inv .2)
 
--- src/lib.rt:660:19
 mul-index : tie.Need-mul-index Inv-loop μ-loop
 mul-index c = omega arith
 
--- src/lib.rt:660:19
 shared-slice-read-index : tie.Need-shared-slice-read-index Inv-loop μ-loop
 shared-slice-read-index c = omega arith
 
--- src/lib.rt:660:9
 index-requires : tie.Need-index-requires Inv-loop μ-loop
 index-requires c κs = search needs
 
--- src/lib.rt:658:5
 loop-less : tie.Need-loop-less Inv-loop μ-loop
 loop-less c =
     let l = c .before .before .before .before .before in
@@ -61,18 +47,19 @@ loop-less c =
     let t = c .before .before .before .before .loop-test .taken in
     omega (arith, c .index .ensures, summing-later (now (a .kind)) (now (a .stop)) (now (a .weight)) (a .c) (a .e) (l .loop .sum) (l .loop .j) (l .loop .inv .3) t)
 
--- src/lib.rt:658:5
 loop-again : tie.Need-loop-again Inv-loop μ-loop
 loop-again c =
     let l = c .before .before .before .before .before in
     let a = l .before .before .before .before .args in
     let v = l .loop .inv in
-    let t = c .before .before .before .before .loop-test .taken in
-    (v .0, v .1, v .2,
-    rw (c .index .ensures, c .before .before .wide .ensures)
-    (summing-more (now (a .kind)) (now (a .stop)) (now (a .weight)) (a .c) (a .e) (l .loop .sum) (l .loop .j) (v .3) t (omega (arith, c .before .before .before .shared-slice-known4 .given (l .loop .j)))))
+    let t = c .before .before .before .before .loop-test .taken in (
+      v .0,
+      v .1,
+      v .2,
+      rw (c .index .ensures, c .before .before .wide .ensures)
+          (summing-more (now (a .kind)) (now (a .stop)) (now (a .weight)) (a .c) (a .e) (l .loop .sum) (l .loop .j) (v .3) t (omega (arith, c .before .before .before .shared-slice-known4 .given (l .loop .j)))),
+    )
 
--- src/lib.rt:652:1
 returns : tie.Need-returns Inv-loop μ-loop
 returns c =
     let l = c .before in
