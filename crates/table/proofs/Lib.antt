@@ -12,3 +12,4 @@ pub mod Complete
 pub mod Known
 pub mod Accepted
 pub mod Places
+pub mod Worked
