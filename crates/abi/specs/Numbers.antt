@@ -1,5 +1,5 @@
 -- Answers as numbers, for callers in other languages.
-use Prim.Native.Nat.{ℕ, suc, _<_, _^_}
+use Prim.Native.Nat.{ℕ, suc, _+_, _*_, _<_, _^_}
 use mathlib.Core.List.{List, [], _∷_}
 use lib.ListN.{set}
 use lib.IntN.{ℤ, pos}
@@ -8,16 +8,16 @@ use Rattle.table.specs.declared.Reading.{Reading}
 use Rattle.table.specs.declared.Reading.the-variants.{Accepted, Refused}
 use Rattle.line.specs.Refusal.{numberOf, lineOf}
 
--- 0, or document 01's number of the refusal
+-- 0, or the refusal's line and number as one: the number in the last two decimal digits, so that 309 is refusal 9 at line 3
 abbrev pub codeOf : Reading → ℕ
 codeOf (Accepted t) = 0
-codeOf (Refused r) = numberOf r
+codeOf (Refused r) = 100 * lineOf r + numberOf r
 
--- the table's numbers, or the refusal's line
+-- the table's numbers; none where it is refused
 abbrev pub numbersOf : Reading → List ℤ
 numbersOf (Accepted t) =
     pos (t .nodes) ∷ pos (t .total) ∷ t .lowest ∷ t .highest ∷ pos (t .chances) ∷ pos (t .grain) ∷ pos (t .leaves) ∷ []
-numbersOf (Refused r) = pos (lineOf r) ∷ []
+numbersOf (Refused r) = []
 
 -- the list l with xs written from its entry i on, as far as it goes
 abbrev pub put : ℕ → List ℤ → List ℤ → List ℤ

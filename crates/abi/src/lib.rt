@@ -1,5 +1,5 @@
 // The calls for programs in C and Rust. Each writes its answer's numbers into a slice of the caller's, as many as it has room for, and
-// returns 0 or the number of a refusal.
+// returns 0; where it refuses, it writes nothing and returns the refusal's line and number as one, so that 309 is refusal 9 at line 3.
 ghost use mathlib.Core.Path.{_≡_};
 ghost use Prim.Native.Nat.{_<_, _≤_, _^_};
 ghost use lib.ListN.{set};
@@ -40,15 +40,15 @@ fn put_table(t: Summary, numbers: &mut [i64])
     put_at(numbers, 6, signed(t.leaves as u64));
 }
 
-fn put_line(r: Refusal, numbers: &mut [i64])
+fn refusal_code(r: Refusal) -> u64
     requires { ⌜ lineOf r ≤ 1024 ⌝ }
-    ensures { λ _. ⌜ now (numbers .exit) ≡ put 0 (numbersOf (Reading.Refused r)) (now (numbers .entry)) ⌝ }
+    ensures { λ n. ⌜ n ≡ codeOf (Reading.Refused r) ⌝ }
 {
-    put_at(numbers, 0, signed(line::refusal_line(r) as u64));
+    100 * (line::refusal_line(r) as u64) + line::refusal_number(r)
 }
 
 // An accepted table: its numbers of nodes, T, the lowest and the highest end, K, G and its number of leaves go to `numbers`, and its
-// nodes to the four slices, as `table::read` has them. A refused one: its line goes to `numbers`, and nothing else is written.
+// nodes to the four slices, as `table::read` has them. A refused one: nothing is written.
 #[no_mangle]
 pub extern "C" fn margin_read(
     text: &[u8],
@@ -66,10 +66,7 @@ pub extern "C" fn margin_read(
     ensures heights { λ _. ⌜ now (height .exit) ≡ fitted (decoded heightsOf (readText (now (text .entry)))) (now (height .entry)) ⌝ }
 {
     match table::read(text, kind, stop, weight, height) {
-        Reading::Refused(r) => {
-            put_line(r, numbers);
-            line::refusal_number(r)
-        }
+        Reading::Refused(r) => refusal_code(r),
         Reading::Accepted(t) => {
             put_table(t, numbers);
             0

@@ -8,7 +8,7 @@ use native.Mathlib.Nat.{le-trans}
 use borrow.Author.Tests.{eqb-true, ltb-false, not-false}
 use lib.ListN.{length}
 use lib.Dec.{ltb, eqb}
-use lib.IntN.{ℤ, pos, negsuc}
+use lib.IntN.{ℤ, pos, negsuc, natAbs}
 use lib.Signed.{mag, ltZ}
 use Rattle.field.specs.declared.Field.{Field}
 use Rattle.field.specs.declared.Field.the-variants.{Blank, Ill, Number}
@@ -18,9 +18,9 @@ use Rattle.line.specs.declared.Entry.{Entry}
 use Rattle.line.specs.declared.Refusal.{Refusal}
 use Rattle.line.specs.Refusal.{refused, fine, Check, unless, unlessAt}
 use Rattle.line.specs.Line.{isIll, isBlank, holds, outside, valueOf, toNat, countOf, headOf, headerChecks, headerFor, letterCode, Step, Above, wrong, path, climb, ancestors, isWrong, stepsOf, chancesOf, atChance, stepped, Placed, placed, lineChecks, placeOf}
-use Rattle.line.specs.Inside.{Ranged, Sized}
-use Rattle.line.specs.Line.{Weighs, Within}
-use Rattle.line.proofs.Signs.{true-ne-false}
+use Rattle.line.specs.Line.{Ranged, Weighs, Within}
+use Rattle.line.specs.Inside.{Sized}
+use Rattle.line.proofs.Signs.{true-ne-false, mag-abs}
 use Rattle.line.proofs.Checks.{or-left, or-right}
 
 -- no check of the list holds
@@ -59,6 +59,11 @@ inside-mag (negsuc l) hi (negsuc n) M p q h = le-trans (ltb-false l n (h .0)) p
 inside-mag lo (pos u) (pos n) M p q h = le-trans (ltb-false u n (h .1)) q
 inside-mag lo (negsuc u) (pos n) M p q h = absurd (true-ne-false (h .1))
 
+-- an end
+inside-abs : (z : ℤ) → Inside (negsuc 999999) (pos 1000000) z → natAbs z ≤ 1000000
+inside-abs (pos n) h = ltb-false 1000000 n (h .1)
+inside-abs (negsuc n) h = omega (arith, ltb-false 999999 n (h .0))
+
 inside-field : (lo hi : ℤ) (f : Field) → isBlank f ≡ false → isIll f ≡ false → outside lo hi f ≡ false → Inside lo hi (valueOf f)
 inside-field lo hi Blank b i o = absurd (true-ne-false b)
 inside-field lo hi Ill b i o = absurd (true-ne-false i)
@@ -93,8 +98,8 @@ header-ranged n last g h e =
     subst Ranged (r .1) (record {
       some = t .0;
       total = t .1;
-      lowest = inside-mag (negsuc 999999) (pos 1000000) (valueOf (g .lowest)) 1000000 (omega arith) (omega arith) (inside-field (negsuc 999999) (pos 1000000) (g .lowest) (i .7) (i .3) (w .6));
-      highest = inside-mag (negsuc 999999) (pos 1000000) (valueOf (g .highest)) 1000000 (omega arith) (omega arith) (inside-field (negsuc 999999) (pos 1000000) (g .highest) (i .8) (i .4) (w .7));
+      lowest = inside-abs (valueOf (g .lowest)) (inside-field (negsuc 999999) (pos 1000000) (g .lowest) (i .7) (i .3) (w .6));
+      highest = inside-abs (valueOf (g .highest)) (inside-field (negsuc 999999) (pos 1000000) (g .highest) (i .8) (i .4) (w .7));
       order = w .8;
     })
 
@@ -168,7 +173,8 @@ valued true h f i b o = inside-field (h .lowest) (h .highest) f b i o
 valued false h f i b o = blank-value f (not-false (isBlank f) b)
 
 valued-small : (u : Bool) (h : Head) (z : ℤ) → Ranged h → Valued u h z → mag z ≤ 1000000
-valued-small true h z r v = inside-mag (h .lowest) (h .highest) z 1000000 (r .lowest) (r .highest) v
+valued-small true h z r v =
+    inside-mag (h .lowest) (h .highest) z 1000000 (le-trans (mag-abs (h .lowest)) (r .lowest)) (le-trans (mag-abs (h .highest)) (r .highest)) v
 valued-small false h z r v = rw v (omega arith)
 
 -- a node line that was read: node i below the steps P of the line before it, with the steps Q of its parent

@@ -64,3 +64,7 @@ mag-diff y z h k = omega (arith, mag-add y (negℤ z), mag-neg z)
 pub nat-mag : (z : ℤ) → toNat z ≤ mag z
 nat-mag (pos n) = omega arith
 nat-mag (negsuc n) = omega arith
+
+pub mag-abs : (z : ℤ) → mag z ≤ natAbs z
+mag-abs (pos n) = omega arith
+mag-abs (negsuc n) = omega arith

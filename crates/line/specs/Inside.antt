@@ -1,10 +1,8 @@
--- What the contracts of private functions cite; no public promise names these.
+-- What `header` and `node_line` promise to the crate `table`, and what the contracts below them cite. No promise of `table::read` names these.
 use Prim.Native.Nat.{ℕ, zero, suc, _≤_, _<_}
-use mathlib.Core.Bool.{false}
 use mathlib.Core.List.{List, [], _∷_}
-use mathlib.Core.Path.{_≡_}
 use lib.ListN.{getD}
-use lib.Signed.{mag, ltZ}
+use lib.Signed.{mag}
 use Rattle.line.specs.declared.Head.{Head}
 use Rattle.line.specs.declared.Line.{Line}
 use Rattle.line.specs.declared.HeadRead
@@ -19,14 +17,6 @@ use Rattle.line.specs.Line.{Step, Above, wrong, path, Placed}
 abbrev pub headShown : HeadRead → Verdict Head
 headShown (HeadRead.the-variants.Refused r) = refused r
 headShown (HeadRead.the-variants.Fine h) = fine h
-
--- the total and the ends are in range
-pub record Ranged (h : Head) : Type 0 where
-  pub some : 0 < h .total
-  pub total : h .total ≤ 64
-  pub lowest : mag (h .lowest) ≤ 1000000
-  pub highest : mag (h .highest) ≤ 1000000
-  pub order : ltZ (h .highest) (h .lowest) ≡ false
 
 -- a line's numbers fit the slices
 pub record Sized (l : Line) : Type 0 where

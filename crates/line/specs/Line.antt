@@ -5,7 +5,7 @@ use mathlib.Core.Bool.{Bool, true, false, not, _||_, cond}
 use mathlib.Core.List.{List, [], _∷_, _++_}
 use lib.ListN.{length, getD}
 use lib.Dec.{eqb, ltb}
-use lib.IntN.{ℤ, pos, negsuc}
+use lib.IntN.{ℤ, pos, negsuc, natAbs}
 use lib.Signed.{ltZ}
 use Rattle.field.specs.Field.{fieldOf}
 use Rattle.field.specs.declared.Field.{Field}
@@ -42,13 +42,13 @@ outside lo hi Blank = false
 outside lo hi Ill = false
 outside lo hi (Number z) = ltZ z lo || ltZ hi z
 
--- the number in the field; a blank counts as 0
+-- the number in the field, or 0 where there is none
 abbrev pub valueOf : Field → ℤ
 valueOf Blank = pos 0
 valueOf Ill = pos 0
 valueOf (Number z) = z
 
--- a number that is not below zero
+-- the number itself, or 0 where it is below zero
 abbrev pub toNat : ℤ → ℕ
 toNat (pos n) = n
 toNat (negsuc n) = 0
@@ -229,7 +229,15 @@ placeOf h i e fifth last P =
 abbrev pub nodeLine : Head → ℕ → List Step → List ℕ → Verdict Placed
 nodeLine h i P s = placeOf h i (entryOf s) (getD s 4 0) (getD s 24 0) P
 
--- ---- a line that was read
+-- ---- a header and a line that were read
+
+-- "T 1 to 64; ends -1,000,000 to 1,000,000, the lowest at most the highest"
+pub record Ranged (h : Head) : Type 0 where
+  pub some : 0 < h .total
+  pub total : h .total ≤ 64
+  pub lowest : natAbs (h .lowest) ≤ 1000000
+  pub highest : natAbs (h .highest) ≤ 1000000
+  pub order : ltZ (h .highest) (h .lowest) ≡ false
 
 -- "utilities within the ends"
 abbrev pub Within : Head → ℤ → Type 0

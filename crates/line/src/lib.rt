@@ -11,7 +11,7 @@ ghost use Rattle.line.specs.Line.{header as headerOf};
 ghost use Rattle.line.specs.Inside.{headShown, pathOf, aboveShown, placingShown, Upto, Roomy, Bounded};
 use field::Field;
 
-// Why a table is refused. Each case but the first names the line: 0 for the header, node number + 1 for a node.
+// Why a table is refused. Each case but the first names the line: the header is line 0, and node i is line i + 1.
 pub enum Refusal {
     Length,
     IllWritten(usize),
@@ -141,7 +141,7 @@ fn value(f: Field) -> i64
     }
 }
 
-// A number that is not below zero.
+// The number itself, or 0 where it is below zero.
 pub fn natural(z: i64) -> u64
     ensures { λ r. ⌜ r ≡ toNat z ⌝ }
 {

@@ -5,7 +5,8 @@ use mathlib.Core.Bool.{Bool, true, false, not, _&&_, cond}
 use mathlib.Core.List.{List, [], _∷_, _++_, append-eq-nil-iff}
 use native.Mathlib.Omega.{arith}
 use borrow.Author.Tests.{eqb-true, ltb-false, not-false}
-use lib.ListN.{length, getD, take, drop}
+use lib.ListN.{length, getD, take, drop, length-map}
+use lib.Seq.{take-all}
 use lib.Dec.{eqb, ltb}
 use lib.IntN.{pos, _+ℤ_}
 use Rattle.line.specs.declared.Head.{Head}
@@ -13,18 +14,19 @@ use Rattle.line.specs.declared.Line.{Line}
 use Rattle.line.specs.declared.Refusal.{Refusal}
 use Rattle.line.specs.declared.Refusal.the-variants.{Length, Childless, WrongSum}
 use Rattle.line.specs.Refusal.{Verdict, refused, fine, unlessAt, next}
+use Rattle.table.specs.declared.Summary.{Summary}
+use Rattle.table.specs.declared.Reading.the-variants.{Accepted, Refused}
 use Rattle.table.specs.Tree.{Kind, Forest, end, leaf, inner, isChance, isEnd, weigh, nodesWhere, childless, unbalanced, leaves}
-use Rattle.line.specs.Line.{header, headingOf}
-use Rattle.table.specs.Table.{Table, badLength, nodeLines, tree, complete, count, readText, greatest, leafLines, grain}
-use Rattle.table.specs.Slices.{heightOf, Spans, heightTree, slicesOf}
-use Rattle.line.specs.Inside.{Ranged}
-use Rattle.line.specs.Line.{Within}
+use Rattle.line.specs.Line.{header, headingOf, Ranged, Within}
+use Rattle.table.specs.Table.{Table, badLength, nodeLines, tree, complete, count, readText, greatest, leafLines, grain, summary, answer}
+use Rattle.table.specs.Slices.{heightOf, kindsOf, stopsOf, weightsOf, heightsOf, laid, fitted, Slices, Spans, heightTree, slicesOf}
 use Rattle.table.specs.Accepted.{span, flat, Sums, Filled, Balanced, Proper, Rooted}
 use Rattle.line.proofs.Signs.{true-ne-false}
 use Rattle.line.proofs.Fine.{nor9, header-ranged, unlessAt-fine}
 use Rattle.table.proofs.Grown.{fine-refused, next-fine}
 use Rattle.table.proofs.Heights.{above, height-back, height-span, map-leaves, map-filled, map-balanced, map-rooted, map-proper, heights-map}
 use Rattle.table.proofs.Powers.{power-small}
+use Rattle.table.proofs.Complete.{ends-long, spans}
 use Rattle.table.proofs.Known.{read-length, read-few, read-flat, read-rooted, read-proper, read-leaves, read-spans}
 
 -- ---- nodes without a child, and sums
@@ -118,6 +120,20 @@ counted s n e q =
     let c : length s ≤ 25625 = ltb-false 25625 (length s) (w .8) in
     (omega arith, omega arith, omega arith)
 
+-- a slice with room for all entries gets them all
+fitted-all : (xs a : List ℕ) → length xs ≤ length a → fitted xs a ≡ laid xs a
+fitted-all xs a h = ap (λ (ys : List ℕ). laid ys a) (take-all (length a) xs h)
+
+-- ---- what an answer tells of the text
+
+pub answer-refused : (v : Verdict Table) (r : Refusal) → answer v ≡ Refused r → v ≡ refused r
+answer-refused (refused x) r e = cc
+answer-refused (fine t) r e = let z : _≡_ {A = ℕ} 0 1 = cc in absurd (omega arith)
+
+pub answer-accepted : (v : Verdict Table) (t : Summary) → answer v ≡ Accepted t → (T : Table) × (v ≡ fine T) × (summary T ≡ t)
+answer-accepted (refused x) t e = let z : _≡_ {A = ℕ} 0 1 = cc in absurd (omega arith)
+answer-accepted (fine T) t e = (T, cc, cc)
+
 -- ---- the theorems
 
 module _ (s : List ℕ) (t : Table) (h : readText s ≡ fine t) where
@@ -181,6 +197,20 @@ module _ (s : List ℕ) (t : Table) (h : readText s ≡ fine t) where
   -- the decoded slices hold it
   pub accepted-spans : Spans (slicesOf t) 0 (length (t .lines)) (heightTree t)
   accepted-spans = read-spans t (count s) (drop 25 s) (checked s t h .lines) some
+
+  -- and so do lent slices with room for it, as `table::read` leaves them
+  pub accepted-lent : (k st w g : List ℕ) → length (t .lines) ≤ length k → length (t .lines) ≤ length st → length (t .lines) ≤ length w → length (t .lines) ≤ length g
+      → Spans (record { kinds = fitted (kindsOf t) k; stops = fitted (stopsOf t) st; weights = fitted (weightsOf t) w; heights = fitted (heightsOf t) g }) 0 (length (t .lines)) (heightTree t)
+  accepted-lent k st w g hk hs hw hg =
+      let C = checked s t h in
+      let ls : List Line = t .lines in
+      let S : Slices = record { kinds = fitted (kindsOf t) k; stops = fitted (stopsOf t) st; weights = fitted (weightsOf t) w; heights = fitted (heightsOf t) g } in
+      subst (λ (m : ℕ). Spans S 0 m (heightTree t)) (sym (read-length t (count s) (drop 25 s) (C .lines)))
+      (spans (t .head) (count s) (drop 25 s) ls (C .lines) some k st w g (fitted (kindsOf t) k) (fitted (stopsOf t) st) (fitted (weightsOf t) w) (fitted (heightsOf t) g)
+      (fitted-all (kindsOf t) k (omega (arith, length-map ls (λ (l : Line). l .kind), hk)))
+      (fitted-all (stopsOf t) st (omega (arith, ends-long ls, hs)))
+      (fitted-all (weightsOf t) w (omega (arith, length-map ls (λ (l : Line). l .weight), hw)))
+      (fitted-all (heightsOf t) g (omega (arith, length-map ls (heightOf (t .head .lowest)), hg))))
 
 -- a leaf's utility from its height
 pub whole-height : (h : Head) (l : Line) → Within h (l .utility) → l .kind ≡ 0 → h .lowest +ℤ pos (heightOf (h .lowest) l) ≡ l .utility

@@ -174,7 +174,7 @@ module _ (h : Head) (n : ℕ) (s : List ℕ) (ls : List Line) (e : nodeLines h n
     abbrev S : Slices
     S = record { kinds = k′; stops = st′; weights = w′; heights = g′ }
 
-    spans : Spans S 0 n (heightTree t)
+    pub spans : Spans S 0 n (heightTree t)
     spans =
         spans-same (slicesOf t) S n
         (λ i l. (

@@ -18,7 +18,8 @@ use Rattle.line.specs.Refusal.{Verdict, refused, fine, next}
 use Rattle.line.specs.Line.{Step, Placed, ancestors, stepsOf, entryOf, nodeLine}
 use Rattle.table.specs.Table.{prefix, nodeLines, greatest, leafLines}
 use Rattle.table.specs.Slices.{heightOf, laid}
-use Rattle.line.specs.Inside.{pathOf, Bounded, Ranged, Sized}
+use Rattle.line.specs.Line.{Ranged}
+use Rattle.line.specs.Inside.{pathOf, Bounded, Sized}
 use Rattle.table.specs.Inside.{Roomed, Gathered}
 use Rattle.line.proofs.Fine.{Falling, Climbs, climbed, Read, line-read, read-sized}
 

@@ -10,7 +10,8 @@ use Rattle.table.specs.declared.Reading.the-variants.{Accepted, Refused}
 use Rattle.table.specs.Table.{readText, answer}
 use Rattle.abi.specs.Numbers.{codeOf, numbersOf, put}
 use Rattle.table.proofs.Places.{refused-line}
-use Rattle.abi.proofs.Answers.{answer-refused, small}
+use Rattle.table.proofs.Accepted.{answer-refused}
+use Rattle.abi.proofs.Answers.{small}
 use Rattle.abi.proofs.margin_read.Statement.{statement}
 use Rattle.abi.proofs.margin_read.Tie as tie
 
@@ -30,14 +31,11 @@ read-requires c κs = search needs
 enum-known-r : tie.Need-enum-known-r
 enum-known-r c = search needs
 
-put-line-requires : tie.Need-put-line-requires
-put-line-requires c κs =
-    let R = c .before .before .before .before .before .before .before .before .before .before .before .before in
-    let r = c .before .before .r .given in
+refusal-code-requires : tie.Need-refusal-code-requires
+refusal-code-requires c κs =
+    let R = c .before .before .before .before .before .before .before .before .before .before .before in
+    let r = c .before .r .given in
     refused-line (text-of R) (r .0 .0) (answer-refused (readText (text-of R)) (r .0 .0) (said R (Refused (r .0 .0)) (r .1)))
-
-refusal-number-requires : tie.Need-refusal-number-requires
-refusal-number-requires c κs = search needs
 
 enum-known-t : tie.Need-enum-known-t
 enum-known-t c = search needs
@@ -60,16 +58,15 @@ same-length-3 c = search needs
 same-length-4 : tie.Need-same-length-4
 same-length-4 c = search needs
 
-same-length-5 : tie.Need-same-length-5
-same-length-5 c = search needs
-
 returns : tie.Need-returns
 returns c =
-    let L = c .before .before in
-    let r = L .before .before .before .r .given in
-    let R = L .before .before .before .before .before .before .before .before .before .before .before .before .before in
+    let r = c .before .before .r .given in
+    let R = c .before .before .before .before .before .before .before .before .before .before .before .before in
     let e = said R (Refused (r .0 .0)) (r .1) in
-    (c .refusal-number .ensures ∙ sym (ap codeOf e), (L .put-line .ensures ∙ sym (ap (λ (x : Reading). put 0 (numbersOf x) (numbers-of R)) e), R .read .ensures .1))
+    (c .refusal-code .ensures ∙ sym (ap codeOf e), (sym (ap (λ (x : Reading). put 0 (numbersOf x) (numbers-of R)) e), R .read .ensures .1))
+
+same-length-5 : tie.Need-same-length-5
+same-length-5 c = search needs
 
 same-length-6 : tie.Need-same-length-6
 same-length-6 c = search needs
@@ -82,9 +79,6 @@ same-length-8 c = search needs
 
 same-length-9 : tie.Need-same-length-9
 same-length-9 c = search needs
-
-same-length-10 : tie.Need-same-length-10
-same-length-10 c = search needs
 
 returns-2 : tie.Need-returns-2
 returns-2 c =
@@ -100,19 +94,17 @@ margin-read-spec =
     (tie.spec
     read-requires
     enum-known-r
-    put-line-requires
-    refusal-number-requires
+    refusal-code-requires
     enum-known-t
     put-table-requires
     same-length
     same-length-2
     same-length-3
     same-length-4
-    same-length-5
     returns
+    same-length-5
     same-length-6
     same-length-7
     same-length-8
     same-length-9
-    same-length-10
     returns-2)

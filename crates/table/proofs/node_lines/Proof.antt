@@ -4,6 +4,7 @@ use mathlib.Core.List.{List}
 use mathlib.Core.Bool.{Bool, true, false, cond}
 use mathlib.Core.Path.{_≡_, refl, sym, ap, subst, _∙_}
 use native.Mathlib.Omega.{arith}
+use native.Mathlib.Nat.{le-trans}
 use borrow.Author.Needs.{needs, sfits-of}
 use denote.Ref.{now}
 use lib.Dec.{eqb}
@@ -16,9 +17,10 @@ use mir.ValLaws.{toZ-ofZ}
 use Rattle.line.specs.declared.Line.{Line}
 use Rattle.line.specs.declared.Placing
 use Rattle.line.specs.declared.Placing.{Placing}
-use Rattle.line.specs.Line.{nodeLine}
+use Rattle.line.specs.Line.{nodeLine, Ranged}
 use Rattle.table.specs.Slices.{heightOf}
-use Rattle.line.specs.Inside.{pathOf, placingShown, Ranged, Sized, Roomy}
+use Rattle.line.specs.Inside.{pathOf, placingShown, Sized, Roomy}
+use Rattle.line.proofs.Signs.{mag-abs}
 use Rattle.table.proofs.Gather.{bounded-zeros, Gathering, Kept, gathering-kept, gathering-none, gathering-more, gathering-as, sized-here, reading-refused, gathered-refused, gathered-done}
 use Rattle.table.proofs.node_lines.Statement.{statement}
 use Rattle.table.proofs.node_lines.Tie as tie
@@ -211,7 +213,7 @@ store-requires c κs =
     let i = small-index N in (
       record { kinds = omega (arith, R .kinds, K .kinds); ups = omega (arith, R .ups, K .ups); weights = omega (arith, R .weights, K .weights); heights = omega (arith, R .heights, K .heights) },
       more N (L .0 .0) (L .0 .1 .0) (L .1) .0,
-      rw (toZ-ofZ w64 (a .h .lowest) (sfits-of (omega (arith, s .inv .3 .lowest)))) (s .inv .3 .lowest),
+      rw (toZ-ofZ w64 (a .h .lowest) (sfits-of (omega (arith, s .inv .3 .lowest, mag-abs (a .h .lowest))))) (le-trans (mag-abs (a .h .lowest)) (s .inv .3 .lowest)),
     )
 
 add-i : tie.Need-add-i Inv-loop μ-loop
@@ -227,7 +229,7 @@ loop-again c =
     let L = told S .l .given in
     let s = turn N .loop in
     let a = start (turn N) .args in
-    let back : toZ w64 (ofZ w64 (a .h .lowest)) ≡ a .h .lowest = toZ-ofZ w64 (a .h .lowest) (sfits-of (omega (arith, s .inv .3 .lowest))) in
+    let back : toZ w64 (ofZ w64 (a .h .lowest)) ≡ a .h .lowest = toZ-ofZ w64 (a .h .lowest) (sfits-of (omega (arith, s .inv .3 .lowest, mag-abs (a .h .lowest)))) in
     let one = S .before .before .before .before .before .before .one-if in
     let most = S .before .before .before .before .before .before .before .before .max-of in
     let l = L .0 .0 in

@@ -1,0 +1,69 @@
+-- Worths over heights: no division by T leaves a remainder. Assumes nothing.
+use Prim.Native.Nat.{ℕ, zero, suc, _+_, _*_, _-_, _/_, _^_, _≤_, _<_, _∣_}
+use mathlib.Core.Path.{_≡_, sym}
+use mathlib.Core.Bool.{Bool, true}
+use mathlib.Core.List.{List, [], _∷_}
+use native.Mathlib.Nat.{dvd-trans, dvd-refl, dvd-zero, dvd-add, dvd-mul-right, dvd-mul-left-of-dvd, dvd-of-mul-dvd-mul-left, mul-div-cancel', add-zero, add-suc, pow-succ'}
+use native.Mathlib.Numerals.{add-one}
+use native.Mathlib.Omega.{arith}
+use Rattle.line.proofs.Signs.{true-ne-false}
+use Rattle.table.specs.Tree.{Kind, MAX, MIN, CHANCE, Forest, end, leaf, inner, isChance}
+use Rattle.table.specs.Accepted.{one, Proper}
+use Rattle.worth.specs.Worth.{Share}
+use Rattle.worth.specs.Heights.{summed, heightValue, heightShares, ExactHeights}
+use Rattle.worth.proofs.Bounds.{Each, tallest-one, shortest-one}
+
+-- a divisor of each worth divides the sum
+summed-dvd : (g : ℕ) (xs : List (Share ℕ)) → Each (λ (x : ℕ). g ∣ x) xs → g ∣ summed xs
+unfolding summed
+summed-dvd g [] e = dvd-zero g
+summed-dvd g (x ∷ xs) e = dvd-add g (dvd-mul-left-of-dvd g (e .0) (x .weight)) (summed-dvd g xs (e .1))
+
+-- what T times g divides is divided by T without a remainder, and g divides the quotient
+share-whole : (T g s : ℕ) → T * g ∣ s → T * (s / T) ≡ s
+share-whole T g s h = mul-div-cancel' T (dvd-trans T (dvd-mul-right T g) h)
+
+share-dvd : (T g s : ℕ) → 0 < T → T * g ∣ s → g ∣ s / T
+share-dvd T g s p h = dvd-of-mul-dvd-mul-left g p (rw (share-whole T g s h) h)
+
+-- powers
+power-add : (T c j : ℕ) → T ^ c ∣ T ^ (c + j)
+power-add T c zero = rw (add-zero c) (dvd-refl (T ^ c))
+power-add T c (suc j) = rw (add-suc c j, pow-succ' T (c + j)) (dvd-mul-left-of-dvd (T ^ c) (power-add T c j) T)
+
+power-dvd : (T c K : ℕ) → c ≤ K → T ^ c ∣ T ^ K
+power-dvd T c K h = let e : c + (K - c) ≡ K = omega arith in rw e at (power-add T c (K - c))
+
+power-more : (T c : ℕ) → T ^ (c + 1) ≡ T * T ^ c
+power-more T c = rw (add-one c, pow-succ' T c)
+
+-- one node, from its children: one C more stands above them where it is a C
+value-dvd : (T c : ℕ) (k : Kind) (xs : List (Share ℕ)) → 0 < T → Each (λ (x : ℕ). T ^ (c + one k) ∣ x) xs → T ^ c ∣ heightValue T k xs
+unfolding heightValue
+value-dvd T c MAX xs p e = tallest-one (λ (x : ℕ). T ^ c ∣ x) (dvd-zero (T ^ c)) xs (rw (add-zero c) at e)
+value-dvd T c MIN xs p e = shortest-one (λ (x : ℕ). T ^ c ∣ x) (dvd-zero (T ^ c)) xs (rw (add-zero c) at e)
+value-dvd T c CHANCE xs p e = share-dvd T (T ^ c) (summed xs) p (rw (power-more T c) at (summed-dvd (T ^ (c + 1)) xs e))
+
+value-whole : (T c : ℕ) (k : Kind) (xs : List (Share ℕ)) → Each (λ (x : ℕ). T ^ (c + one k) ∣ x) xs → isChance k ≡ true → T * heightValue T k xs ≡ summed xs
+unfolding heightValue
+value-whole T c MAX xs e i = absurd (true-ne-false (sym i))
+value-whole T c MIN xs e i = absurd (true-ne-false (sym i))
+value-whole T c CHANCE xs e i = share-whole T (T ^ c) (summed xs) (rw (power-more T c) at (summed-dvd (T ^ (c + 1)) xs e))
+
+-- forests below c C, where no path has more than K
+module _ (T K : ℕ) (some : 0 < T) (ok : ℕ → Type 0) where
+  pub even : (d c : ℕ) (u : Bool) (F : Forest ℕ) → Proper T K ok d c u F → Each (λ (x : ℕ). T ^ c ∣ x) (heightShares T (T ^ K) F)
+  unfolding heightShares
+  even d c u end p = tt
+  even d c u (leaf n w h rest) p = (dvd-mul-left-of-dvd (T ^ c) (power-dvd T c K (p .3)) h, even d c u rest (p .4))
+  even d c u (inner n w k under rest) p =
+      (value-dvd T c k (heightShares T (T ^ K) under) some (even (suc d) (c + one k) (isChance k) under (p .3)), even d c u rest (p .4))
+
+  pub exact-heights : (d c : ℕ) (u : Bool) (F : Forest ℕ) → Proper T K ok d c u F → ExactHeights T (T ^ K) F
+  exact-heights d c u end p = tt
+  exact-heights d c u (leaf n w h rest) p = exact-heights d c u rest (p .4)
+  exact-heights d c u (inner n w k under rest) p = (
+    value-whole T c k (heightShares T (T ^ K) under) (even (suc d) (c + one k) (isChance k) under (p .3)),
+    exact-heights (suc d) (c + one k) (isChance k) under (p .3),
+    exact-heights d c u rest (p .4),
+  )

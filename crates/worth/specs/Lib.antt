@@ -1,0 +1,2 @@
+pub mod Worth
+pub mod Heights
