@@ -1,6 +1,6 @@
 //! Calls the proved engine through its C interface.
 //!
-//! The only `unsafe` of this crate is here, in `call`.
+//! The only `unsafe` of this crate is here, in `read_into`.
 
 use crate::second::MOST_NODES;
 
@@ -27,8 +27,8 @@ mod abi {
 ///
 /// For an accepted table `numbers` holds the count of nodes, T, the lowest
 /// end, the highest end, K, G and the count of leaves, and the other arrays
-/// hold one entry for each node. For a refused table `numbers[0]` holds the
-/// line. All else is left as it was.
+/// hold one entry for each node. All else is left as it was, and everything
+/// where the table is refused.
 #[derive(Clone, Debug, PartialEq, Eq)]
 pub struct Lent {
     pub numbers: [i64; 8],
@@ -51,7 +51,7 @@ impl Lent {
 }
 
 /// Reads `text` into arrays that are first filled with the pattern. Returns 0
-/// for an accepted table, otherwise the refusal's number.
+/// for an accepted table, otherwise 100 times the refusal's line plus its number.
 pub fn read(text: &[u8], lent: &mut Lent) -> u64 {
     lent.clone_from(&Lent::PATTERN);
     call(text, lent)
@@ -59,24 +59,43 @@ pub fn read(text: &[u8], lent: &mut Lent) -> u64 {
 
 /// The bare call: reads `text` into arrays that are left as they come. For the
 /// benchmark, which must not time the filling.
-#[allow(unsafe_code)]
 pub fn call(text: &[u8], lent: &mut Lent) -> u64 {
+    read_into(
+        text,
+        &mut lent.numbers,
+        &mut lent.kind,
+        &mut lent.stop,
+        &mut lent.weight,
+        &mut lent.height,
+    )
+}
+
+/// The call with slices of any lengths.
+#[allow(unsafe_code)]
+pub fn read_into(
+    text: &[u8],
+    numbers: &mut [i64],
+    kind: &mut [u8],
+    stop: &mut [u16],
+    weight: &mut [u8],
+    height: &mut [u32],
+) -> u64 {
     // Sound: each pointer stands with the length of what it points to, and the
-    // five arrays are apart from each other and lent for the length of the call.
+    // five slices are apart from each other and lent for the length of the call.
     unsafe {
         abi::margin_read(
             text.as_ptr(),
             text.len(),
-            lent.numbers.as_mut_ptr(),
-            lent.numbers.len(),
-            lent.kind.as_mut_ptr(),
-            lent.kind.len(),
-            lent.stop.as_mut_ptr(),
-            lent.stop.len(),
-            lent.weight.as_mut_ptr(),
-            lent.weight.len(),
-            lent.height.as_mut_ptr(),
-            lent.height.len(),
+            numbers.as_mut_ptr(),
+            numbers.len(),
+            kind.as_mut_ptr(),
+            kind.len(),
+            stop.as_mut_ptr(),
+            stop.len(),
+            weight.as_mut_ptr(),
+            weight.len(),
+            height.as_mut_ptr(),
+            height.len(),
         )
     }
 }

@@ -57,7 +57,7 @@ impl Comparison {
             );
         }
         self.cases += 1;
-        self.counts[returned as usize] += 1;
+        self.counts[(returned % 100) as usize] += 1;
         answer
     }
 
@@ -88,10 +88,7 @@ fn say(line: &str) {
 fn expected(answer: &Result<Table, Refusal>) -> (u64, Lent) {
     let mut lent = Lent::PATTERN;
     match answer {
-        Err(refusal) => {
-            lent.numbers[0] = refusal.line as i64;
-            (u64::from(refusal.number), lent)
-        }
+        Err(refusal) => (100 * refusal.line as u64 + u64::from(refusal.number), lent),
         Ok(table) => {
             lent.numbers[..7].copy_from_slice(&[
                 table.nodes.len() as i64,
@@ -502,6 +499,10 @@ fn refused_examples() -> Vec<(Vec<u8>, u8, usize)> {
         (table_b_with(2, "...1.L....0...........+5"), 2, 2),
         (table_b_with(2, "...1.L....0...........5."), 2, 2),
         (table_b_with(2, "...1.L....0..........-.5"), 2, 2),
+        // 2 before 3 in the header: the lowest end has a leading zero, and T is 0.
+        (table_b_with(0, "...5...0......00.......8"), 2, 0),
+        // 2 before 4: the utility has a leading zero, and the number is wrong.
+        (table_b_with(4, "...4.L....2....3......02"), 2, 4),
         // 3: T is 0; T is 65; an end too far out; the lowest above the highest.
         (table_b_with(0, "...5...0.......0.......8"), 3, 0),
         (table_b_with(0, "...5..65.......0.......8"), 3, 0),
@@ -523,6 +524,8 @@ fn refused_examples() -> Vec<(Vec<u8>, u8, usize)> {
         // 5: X is no kind, nor is a small m.
         (table_b_with(1, "...0.X.................."), 5, 1),
         (table_b_with(1, "...0.m.................."), 5, 1),
+        // 5 before 6: no kind, and a leaf as parent.
+        (table_b_with(3, "...2.X....1............."), 5, 3),
         // 6: node 0 has a parent; node 2 has none.
         (table_b_with(1, "...0.M....0............."), 6, 1),
         (table_b_with(3, "...2.C.................."), 6, 3),
@@ -556,6 +559,17 @@ fn refused_examples() -> Vec<(Vec<u8>, u8, usize)> {
         (table_b_with(5, "...4.M....2....2........"), 8, 5),
         // 10: the leaf is the 65th node of its path, so its line is 65.
         (chain(&[b'M'; 64], 1), 10, 65),
+        // 6 before 10: node 64 stands under the leaf that is the 64th node of its path.
+        (
+            {
+                let mut text = chain(&[b'M'; 63], 1);
+                text[..4].copy_from_slice(b"  65");
+                text.extend_from_slice(b"  64 L   63            0\n");
+                text
+            },
+            6,
+            65,
+        ),
         // 10: node 4 is the fifth C of its path.
         (chain(b"CCCCC", 1), 10, 5),
         (chain(b"CNCMCNCMC", 1), 10, 9),
@@ -656,4 +670,68 @@ fn examples() {
         comparison.hold(&text).expect_err("refused");
     }
     comparison.report();
+}
+
+// ---------------------------------------------------------------------------
+// Slices of any lengths
+// ---------------------------------------------------------------------------
+
+/// `entries` as a slice of `room` entries shows them, with a guard after it.
+fn cut<T: Copy>(entries: &[T], room: usize, pattern: T) -> Vec<T> {
+    let mut shown = vec![pattern; room + 1];
+    let kept = room.min(entries.len());
+    shown[..kept].copy_from_slice(&entries[..kept]);
+    shown
+}
+
+/// Slices that are too short get as many entries as they have room for, and
+/// nothing is written after them; a refused table writes into none.
+#[test]
+fn slices_of_any_length() {
+    let mut texts = vec![
+        dotted(TABLE_A),
+        dotted(TABLE_B),
+        table_b_with(4, "...3.L....2....2.......2"),
+        Vec::new(),
+    ];
+    for number in 0..200 {
+        texts.push(texts::case(&mut Random::of_case(seed(), number)).text);
+    }
+    let mut accepted = 0;
+    for text in texts {
+        let answer = second::read(&text);
+        let nodes = answer.as_ref().map_or(2, |table| table.nodes.len());
+        let written = if answer.is_ok() { nodes } else { 0 };
+        accepted += usize::from(answer.is_ok());
+        let (returned, full) = expected(&answer);
+        let p = Lent::PATTERN;
+        for room in [0, 1, 3, nodes - 1, nodes, nodes + 1] {
+            // Each slice has its own length, so that one is not taken for another's.
+            let rooms = [room, room / 2, room, room.saturating_sub(1), room / 3];
+            let mut numbers = vec![p.numbers[0]; rooms[0] + 1];
+            let mut kind = vec![p.kind[0]; rooms[1] + 1];
+            let mut stop = vec![p.stop[0]; rooms[2] + 1];
+            let mut weight = vec![p.weight[0]; rooms[3] + 1];
+            let mut height = vec![p.height[0]; rooms[4] + 1];
+            let got = engine::read_into(
+                &text,
+                &mut numbers[..rooms[0]],
+                &mut kind[..rooms[1]],
+                &mut stop[..rooms[2]],
+                &mut weight[..rooms[3]],
+                &mut height[..rooms[4]],
+            );
+            assert_eq!(got, returned);
+            let counted = if answer.is_ok() { 7 } else { 0 };
+            assert_eq!(
+                numbers,
+                cut(&full.numbers[..counted], rooms[0], p.numbers[0])
+            );
+            assert_eq!(kind, cut(&full.kind[..written], rooms[1], p.kind[0]));
+            assert_eq!(stop, cut(&full.stop[..written], rooms[2], p.stop[0]));
+            assert_eq!(weight, cut(&full.weight[..written], rooms[3], p.weight[0]));
+            assert_eq!(height, cut(&full.height[..written], rooms[4], p.height[0]));
+        }
+    }
+    assert!(accepted >= 20, "only {accepted} accepted tables");
 }

@@ -53,8 +53,8 @@ pub struct Table {
     pub leaves: usize,
 }
 
-/// A refused table: which refusal, and at which line (0 for the header, node
-/// number + 1 for a node).
+/// A refused table: which refusal, and at which line. The header is line 0, and
+/// node i is line i + 1.
 #[derive(Clone, Copy, Debug, PartialEq, Eq)]
 pub struct Refusal {
     pub number: u8,
