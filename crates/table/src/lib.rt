@@ -351,7 +351,7 @@ fn decode(
 }
 
 // Reads any text. An accepted table's nodes are decoded into the four slices, by node number: kind (0 for L, 1 for M, 2 for N,
-// 3 for C), one past the node's run, weight (0 where there is none), and for a leaf its points above the lowest end.
+// 3 for C), one past the node's run, weight (0 where there is none), and for a leaf its points above the lowest end (0 for the others).
 // A slice that is too short gets as many entries as it has room for; 1,024 are always enough. A refused table writes nothing.
 pub fn read(
     text: &[u8],
