@@ -131,7 +131,7 @@ fn is_blank(f: Field) -> bool
     }
 }
 
-fn value(f: Field) -> i64
+pub fn value(f: Field) -> i64
     ensures { λ r. ⌜ r ≡ valueOf f ⌝ }
 {
     match f {
@@ -171,7 +171,7 @@ fn is_outside(lo: i64, hi: i64, f: Field) -> bool
     }
 }
 
-fn letter_code(b: u8) -> u8
+pub fn letter_code(b: u8) -> u8
     ensures { λ r. ⌜ r ≡ letterCode b ⌝ }
 {
     if b == b'L' {

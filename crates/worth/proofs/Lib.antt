@@ -2,7 +2,10 @@ pub mod Signs
 pub mod Bounds
 pub mod Even
 pub mod Shift
-pub mod Running
 pub mod Span
 pub mod Worth
 pub mod Worked
+pub mod Codes
+pub mod Run
+pub mod Text
+pub mod Judged

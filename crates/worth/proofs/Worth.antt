@@ -23,7 +23,7 @@ use Rattle.worth.proofs.Even.{exact-heights}
 use Rattle.worth.proofs.Shift.{lift, leaf-shift, first-shift, some-shares, shares-shift, exact-shift}
 use Rattle.worth.proofs.Span.{accepted-span}
 
-rooted-some : (F : Forest ℕ) → Rooted F → isEnd F ≡ false
+pub rooted-some : (F : Forest ℕ) → Rooted F → isEnd F ≡ false
 rooted-some end r = absurd r
 rooted-some (leaf n w v rest) r = refl
 rooted-some (inner n w k under rest) r = refl

@@ -67,28 +67,3 @@ Small T G M (inner n w k under rest) =
     × (isChance k ≡ true → summed (heightShares T G under) ≤ T * M)
     × Small T G M under
     × Small T G M rest
-
--- ---- one child after another
-
--- what a node's worth begins at, before its first child; no child is worth more than M
-abbrev pub begin : (M : ℕ) → Kind → ℕ
-begin M MAX = 0
-begin M MIN = M
-begin M CHANCE = 0
-
--- a child of weight w and worth v more
-abbrev pub step : Kind → (a w v : ℕ) → ℕ
-step MAX a w v = max a v
-step MIN a w v = min a v
-step CHANCE a w v = a + w * v
-
--- the children xs after what came to a
-unfoldable pub running : Kind → ℕ → List (Share ℕ) → ℕ
-running k a [] = a
-running k a (x ∷ xs) = running k (step k a (x .weight) (x .worth)) xs
-
--- after its last child
-abbrev pub finish : (T : ℕ) → Kind → ℕ → ℕ
-finish T MAX a = a
-finish T MIN a = a
-finish T CHANCE a = a / T

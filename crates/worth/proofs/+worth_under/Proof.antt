@@ -1,0 +1,245 @@
+-- `worth::worth_under` meets its contract. Assumes nothing.
+use Prim.Native.Nat.{ℕ, _+_, _-_, _*_, _<_}
+use mathlib.Core.Path.{_≡_, sym, _∙_}
+use mathlib.Core.Logic.{⊎-elim}
+use native.Mathlib.Omega.{arith}
+use borrow.Author.Needs.{sfits-of}
+use lib.ListN.{length, take, drop}
+use mir.Syntax.{w64}
+use mir.ValLaws.{toZ-ofZ}
+use Rattle.table.specs.Tree.{kindOf}
+use Rattle.worth.specs.Inside.{Ready}
+use Rattle.worth.proofs.Run.{Child, GoingAll, going-start, going-end, Next, next-of, line-long, Turn, turn-of, child-of, leaf-of, turn-fits, turn-on}
+use borrow.Fn.Kinds.{In}
+use borrow.Fn.PlainCycle.{Measures, is, falls, and}
+use Rattle.worth.proofs.worth_under.Reads as worth-under
+use Rattle.worth.proofs.worth_under.Kinds as worth-under-kinds
+use Rattle.worth.proofs.+worth_under.Lts-worth_under as worth-under-lts
+use Rattle.worth.proofs.before_any.Reads as before-any-reads
+use Rattle.worth.proofs.index_at.Reads as index-at-reads
+use Rattle.worth.proofs.kind_in.Reads as kind-in-reads
+use Rattle.worth.proofs.leaf_worth.Reads as leaf-worth-reads
+use Rattle.worth.proofs.seal.Reads as seal-reads
+use Rattle.worth.proofs.take_child.Reads as take-child-reads
+use Rattle.worth.proofs.+worth_under.{statement}
+use Rattle.worth.proofs.+worth_under.Tie.{close}
+
+abbrev μ-worth-under : Measures 2 worth-under-kinds.ps ℕ
+μ-worth-under κs a = a .1 .1 .1 .1 .0 - a .1 .1 .1 .0
+
+abbrev worth-under-at : ℕ → In 2 worth-under-kinds.ps
+worth-under-at t =
+    and 2 worth-under-kinds.ps (is 2 worth-under-kinds.ps μ-worth-under t) worth-under.Pre
+
+abbrev worth-under-below : ℕ → In 2 worth-under-kinds.ps
+worth-under-below t =
+    and 2 worth-under-kinds.ps (falls 2 worth-under-kinds.ps _<_ μ-worth-under t) worth-under.Pre
+
+-- what the callees ask and tell
+abbrev worth-under-claims : ℕ → worth-under-lts.Claims
+worth-under-claims t =
+    (before-any-reads.Asked, before-any-reads.Learnt, index-at-reads.Asked, index-at-reads.Learnt, kind-in-reads.Asked, kind-in-reads.Learnt, leaf-worth-reads.Asked, leaf-worth-reads.Learnt, worth-under-below t, worth-under.Post, take-child-reads.Asked, take-child-reads.Learnt, seal-reads.Asked, seal-reads.Learnt)
+
+abbrev worth-under-Inv-loop : worth-under-lts.InvT-loop
+worth-under-Inv-loop k run stop c e g a₀ i₀ a i = GoingAll stop g (kindOf k) c e run a i
+
+abbrev worth-under-μ-loop : worth-under-lts.MeasureT-loop
+worth-under-μ-loop k run stop c e g a₀ i₀ a i = e - i
+
+worth-under-before-any-requires : (t : ℕ) → worth-under-lts.Need-before-any-requires (worth-under-claims t) (worth-under-at t) worth-under.Post worth-under-Inv-loop worth-under-μ-loop
+worth-under-before-any-requires t c κs = tt
+
+worth-under-loop-holds : (t : ℕ) → worth-under-lts.Need-loop-holds (worth-under-claims t) (worth-under-at t) worth-under.Post worth-under-Inv-loop worth-under-μ-loop
+worth-under-loop-holds t c =
+    let a = c .before .before .before .args in
+    going-start (a .stop .now) (a .g) (kindOf (a .k)) (a .c) (a .e) (a .run .now) (c .before-any .result) (c .before-any .ensures)
+
+-- at a line: what is left from its node on
+worth-under-next : (t : ℕ) (c : worth-under-lts.In-loop (worth-under-claims t) (worth-under-at t) worth-under.Post worth-under-Inv-loop worth-under-μ-loop)
+    → let a = c .before .before .before .before .before .args in
+    (R : Ready (a .stop .now) (a .g) (kindOf (a .k)) (a .c) (a .e) (a .run .now))
+    → Next (a .stop .now) (a .g) (kindOf (a .k)) (a .c) (a .e) (a .run .now) (c .before .loop .a) (c .before .loop .i) R
+worth-under-next t c R =
+    let a = c .before .before .before .before .before .args in
+    next-of (a .stop .now) (a .g) (kindOf (a .k)) (a .c) (a .e) (a .run .now) (c .before .loop .a) (c .before .loop .i) R (c .before .loop .inv) (c .loop-test .taken)
+
+worth-under-turn : (t : ℕ) (c : worth-under-lts.In-loop (worth-under-claims t) (worth-under-at t) worth-under.Post worth-under-Inv-loop worth-under-μ-loop)
+    → let a = c .before .before .before .before .before .args in
+    Turn (a .stop .now) (a .c) (a .e) (c .before .loop .i) (a .run .now)
+worth-under-turn t c =
+    let p = c .before .before .before .before .before in
+    let a = p .args in
+    turn-of (a .stop .now) (a .g) (kindOf (a .k)) (a .c) (a .e) (a .run .now) (c .before .loop .a) (c .before .loop .i) (p .pre .1) (worth-under-next t c (p .pre .1))
+
+worth-under-sub-at : (t : ℕ) → worth-under-lts.Need-sub-at (worth-under-claims t) (worth-under-at t) worth-under.Post worth-under-Inv-loop worth-under-μ-loop
+worth-under-sub-at t c = worth-under-turn t c .from
+
+worth-under-mul-at : (t : ℕ) → worth-under-lts.Need-mul-at (worth-under-claims t) (worth-under-at t) worth-under.Post worth-under-Inv-loop worth-under-μ-loop
+worth-under-mul-at t c =
+    let n = worth-under-turn t c in
+    record { fits = omega (arith, n .from, n .few, c .loop-test .taken) }
+
+worth-under-add-line : (t : ℕ) → worth-under-lts.Need-add-line (worth-under-claims t) (worth-under-at t) worth-under.Post worth-under-Inv-loop worth-under-μ-loop
+worth-under-add-line t c =
+    let n = worth-under-turn t c in
+    record { fits = omega (arith, n .from, n .few, c .loop-test .taken) }
+
+worth-under-sub-line : (t : ℕ) → worth-under-lts.Need-sub-line (worth-under-claims t) (worth-under-at t) worth-under.Post worth-under-Inv-loop worth-under-μ-loop
+worth-under-sub-line t c = omega arith
+
+worth-under-part-line-start : (t : ℕ) → worth-under-lts.Need-part-line-start (worth-under-claims t) (worth-under-at t) worth-under.Post worth-under-Inv-loop worth-under-μ-loop
+worth-under-part-line-start t c = omega arith
+
+worth-under-part-line-end : (t : ℕ) → worth-under-lts.Need-part-line-end (worth-under-claims t) (worth-under-at t) worth-under.Post worth-under-Inv-loop worth-under-μ-loop
+worth-under-part-line-end t c =
+    let n = worth-under-turn t c in
+    omega (arith, n .from, n .here, n .upto, n .long)
+
+worth-under-index-at-requires : (t : ℕ) → worth-under-lts.Need-index-at-requires (worth-under-claims t) (worth-under-at t) worth-under.Post worth-under-Inv-loop worth-under-μ-loop
+worth-under-index-at-requires t c κs =
+    let n = worth-under-turn t (c .before) in
+    omega (arith, n .here, n .upto, n .room)
+
+worth-under-line : (t : ℕ) (c : worth-under-lts.In-loop (worth-under-claims t) (worth-under-at t) worth-under.Post worth-under-Inv-loop worth-under-μ-loop)
+    → let a = c .before .before .before .before .before .args in
+    let at = 25 * (c .before .loop .i - a .c) in
+    length (take (at + 25 - at) (drop at (a .run .now))) ≡ 25
+worth-under-line t c =
+    let a = c .before .before .before .before .before .args in
+    let n = worth-under-turn t c in
+    line-long (25 * (c .before .loop .i - a .c)) (a .run .now) (omega (arith, n .from, n .here, n .upto, n .long))
+
+worth-under-kind-in-requires : (t : ℕ) → worth-under-lts.Need-kind-in-requires (worth-under-claims t) (worth-under-at t) worth-under.Post worth-under-Inv-loop worth-under-μ-loop
+worth-under-kind-in-requires t c κs = worth-under-line t (c .before .before)
+
+worth-under-leaf-worth-requires : (t : ℕ) → worth-under-lts.Need-leaf-worth-requires (worth-under-claims t) (worth-under-at t) worth-under.Post worth-under-Inv-loop worth-under-μ-loop
+worth-under-leaf-worth-requires t c κs =
+    let p = c .before .before .before .before .before .before .before .before .before .before in
+    let ok = p .pre .1 .scale in
+    (worth-under-line t (c .before .before .before .before .before), rw (toZ-ofZ w64 (p .args .g .lowest) (sfits-of (omega (arith, ok .lowest)))) (ok .lowest), ok .grain)
+
+worth-under-add-worth-under : (t : ℕ) → worth-under-lts.Need-add-worth-under (worth-under-claims t) (worth-under-at t) worth-under.Post worth-under-Inv-loop worth-under-μ-loop
+worth-under-add-worth-under t c =
+    let n = worth-under-turn t (c .before .before .before .before) in
+    record { fits = omega (arith, n .from, n .here, n .upto, n .few) }
+
+worth-under-sub-worth-under : (t : ℕ) → worth-under-lts.Need-sub-worth-under (worth-under-claims t) (worth-under-at t) worth-under.Post worth-under-Inv-loop worth-under-μ-loop
+worth-under-sub-worth-under t c =
+    let n = worth-under-turn t (c .before .before .before .before) in
+    omega (arith, n .from, n .here, c .before .before .index-at .ensures)
+
+worth-under-mul-worth-under : (t : ℕ) → worth-under-lts.Need-mul-worth-under (worth-under-claims t) (worth-under-at t) worth-under.Post worth-under-Inv-loop worth-under-μ-loop
+worth-under-mul-worth-under t c =
+    let n = worth-under-turn t (c .before .before .before .before) in
+    record { fits = omega (arith, n .upto, n .few, c .before .before .index-at .ensures) }
+
+worth-under-sub-worth-under-2 : (t : ℕ) → worth-under-lts.Need-sub-worth-under-2 (worth-under-claims t) (worth-under-at t) worth-under.Post worth-under-Inv-loop worth-under-μ-loop
+worth-under-sub-worth-under-2 t c =
+    let n = worth-under-turn t (c .before .before .before .before) in
+    omega (arith, n .from, n .here, c .before .before .index-at .ensures)
+
+worth-under-part-worth-under-start : (t : ℕ) → worth-under-lts.Need-part-worth-under-start (worth-under-claims t) (worth-under-at t) worth-under.Post worth-under-Inv-loop worth-under-μ-loop
+worth-under-part-worth-under-start t c =
+    let n = worth-under-turn t (c .before .before .before .before) in
+    omega (arith, n .from, n .here, c .before .before .index-at .ensures)
+
+worth-under-part-worth-under-end : (t : ℕ) → worth-under-lts.Need-part-worth-under-end (worth-under-claims t) (worth-under-at t) worth-under.Post worth-under-Inv-loop worth-under-μ-loop
+worth-under-part-worth-under-end t c =
+    let n = worth-under-turn t (c .before .before .before .before) in
+    omega (arith, n .from, n .here, n .upto, n .long, c .before .before .index-at .ensures)
+
+worth-under-add-worth-under-2 : (t : ℕ) → worth-under-lts.Need-add-worth-under-2 (worth-under-claims t) (worth-under-at t) worth-under.Post worth-under-Inv-loop worth-under-μ-loop
+worth-under-add-worth-under-2 t c =
+    let n = worth-under-turn t (c .before .before .before .before .before) in
+    record { fits = omega (arith, n .here, n .upto, n .few) }
+
+-- where the child is no leaf: its lines can be judged
+worth-under-child : (t : ℕ) (c : worth-under-lts.After-kind-in (worth-under-claims t) (worth-under-at t) worth-under.Post worth-under-Inv-loop worth-under-μ-loop)
+    → let a = c .before .before .before .before .before .before .before .before .args in
+    let i = c .before .before .before .before .loop .i in
+    let j = c .before .index-at .result in
+    let at = 25 * (i - a .c) in
+    (R : Ready (a .stop .now) (a .g) (kindOf (a .k)) (a .c) (a .e) (a .run .now)) → (c .kind-in .result ≡ 0 → ⊥)
+    → Child (a .stop .now) (a .g) (c .kind-in .result) (i + 1) j (take (25 * (j - a .c) - (at + 25)) (drop (at + 25) (a .run .now))) (worth-under-next t (c .before .before .before) R .1 .share .worth)
+worth-under-child t c R inside =
+    let a = c .before .before .before .before .before .before .before .before .args in
+    let l = c .before .before .before .before .loop in
+    child-of (a .stop .now) (a .g) (kindOf (a .k)) (a .c) (a .e) (a .run .now) (l .a) (l .i) R (worth-under-next t (c .before .before .before) R) (c .kind-in .result) (c .before .index-at .result) (c .kind-in .ensures) (c .before .index-at .ensures) inside
+
+worth-under-worth-under-requires : (t : ℕ) → worth-under-lts.Need-worth-under-requires (worth-under-claims t) (worth-under-at t) worth-under.Post worth-under-Inv-loop worth-under-μ-loop
+worth-under-worth-under-requires t c κs =
+    let n = worth-under-turn t (c .before .before .before .before .before) in
+    let p = c .before .before .before .before .before .before .before .before .before .before in
+    (omega (arith, p .pre .0, n .from, n .here, n .upto, c .before .before .before .index-at .ensures), worth-under-child t (c .before .before) (p .pre .1) (c .before .if1 .left) .ready)
+
+-- where the two ways meet: what the child is worth
+worth-under-joined : (t : ℕ) (c : worth-under-lts.Joined1 (worth-under-claims t) (worth-under-at t) worth-under.Post worth-under-Inv-loop worth-under-μ-loop)
+    → let a = c .before .before .before .before .before .before .before .before .before .args in
+    (R : Ready (a .stop .now) (a .g) (kindOf (a .k)) (a .c) (a .e) (a .run .now)) → c .if1 .h ≡ worth-under-next t (c .before .before .before .before) R .1 .share .worth
+worth-under-joined t c R =
+    let a = c .before .before .before .before .before .before .before .before .before .args in
+    let l = c .before .before .before .before .before .loop in
+    let low = toZ-ofZ w64 (a .g .lowest) (sfits-of (omega (arith, R .scale .lowest))) in
+    ⊎-elim
+    (λ w. w .3 ∙ w .2 .ensures ∙ rw low (leaf-of (a .stop .now) (a .g) (kindOf (a .k)) (a .c) (a .e) (a .run .now) (l .a) (l .i) R (worth-under-next t (c .before .before .before .before) R) (c .before .kind-in .result) (c .before .kind-in .ensures) (w .0 .taken)))
+    (λ w. let x = worth-under-child t (c .before) R (w .0 .left) in w .3 ∙ w .2 .ensures (x .ready) ∙ sym (x .worth))
+    (c .if1 .came)
+
+worth-under-take-child-requires : (t : ℕ) → worth-under-lts.Need-take-child-requires (worth-under-claims t) (worth-under-at t) worth-under.Post worth-under-Inv-loop worth-under-μ-loop
+worth-under-take-child-requires t c κs =
+    let p = c .before .before .before .before .before .before .before .before .before in
+    let a = p .args in
+    let R = p .pre .1 in
+    let l = c .before .before .before .before .before .loop in
+    (worth-under-line t (c .before .before .before .before), turn-fits (a .stop .now) (a .g) (kindOf (a .k)) (a .c) (a .e) (a .run .now) (l .a) (l .i) R (worth-under-next t (c .before .before .before .before) R) (c .if1 .h) (worth-under-joined t c R))
+
+worth-under-loop-less : (t : ℕ) → worth-under-lts.Need-loop-less (worth-under-claims t) (worth-under-at t) worth-under.Post worth-under-Inv-loop worth-under-μ-loop
+worth-under-loop-less t c =
+    let n = worth-under-turn t (c .before .before .before .before .before) in
+    omega (arith, n .here, n .upto, c .before .before .before .index-at .ensures)
+
+worth-under-loop-again : (t : ℕ) → worth-under-lts.Need-loop-again (worth-under-claims t) (worth-under-at t) worth-under.Post worth-under-Inv-loop worth-under-μ-loop
+worth-under-loop-again t c =
+    let a = c .before .before .before .before .before .before .before .before .before .before .args in
+    let l = c .before .before .before .before .before .before .loop in
+    λ R. turn-on (a .stop .now) (a .g) (kindOf (a .k)) (a .c) (a .e) (a .run .now) (l .a) (l .i) R (worth-under-next t (c .before .before .before .before .before) R) (c .before .if1 .h) (c .take-child .result) (c .before .before .before .index-at .result) (worth-under-joined t (c .before) R) (c .before .before .before .index-at .ensures) (c .take-child .ensures)
+
+worth-under-seal-requires : (t : ℕ) → worth-under-lts.Need-seal-requires (worth-under-claims t) (worth-under-at t) worth-under.Post worth-under-Inv-loop worth-under-μ-loop
+worth-under-seal-requires t c κs = c .before .before .before .before .before .pre .1 .scale .some
+
+worth-under-returns : (t : ℕ) → worth-under-lts.Need-returns (worth-under-claims t) (worth-under-at t) worth-under.Post worth-under-Inv-loop worth-under-μ-loop
+worth-under-returns t c =
+    let a = c .before .before .before .before .before .before .args in
+    let l = c .before .before .loop in
+    λ R. c .seal .ensures ∙ going-end (a .stop .now) (a .g) (kindOf (a .k)) (a .c) (a .e) (a .run .now) (l .a) (l .i) R (l .inv) (c .before .loop-test .left)
+
+pub +worth-under-spec : {M : Type 1} → statement M
++worth-under-spec = close μ-worth-under λ t. worth-under-lts.spec (worth-under-claims t)
+    (worth-under-at t)
+    worth-under.Post
+    worth-under-Inv-loop
+    worth-under-μ-loop
+    (worth-under-before-any-requires t)
+    (worth-under-loop-holds t)
+    (worth-under-sub-at t)
+    (worth-under-mul-at t)
+    (worth-under-add-line t)
+    (worth-under-sub-line t)
+    (worth-under-part-line-start t)
+    (worth-under-part-line-end t)
+    (worth-under-index-at-requires t)
+    (worth-under-kind-in-requires t)
+    (worth-under-leaf-worth-requires t)
+    (worth-under-add-worth-under t)
+    (worth-under-sub-worth-under t)
+    (worth-under-mul-worth-under t)
+    (worth-under-sub-worth-under-2 t)
+    (worth-under-part-worth-under-start t)
+    (worth-under-part-worth-under-end t)
+    (worth-under-add-worth-under-2 t)
+    (worth-under-worth-under-requires t)
+    (worth-under-take-child-requires t)
+    (worth-under-loop-less t)
+    (worth-under-loop-again t)
+    (worth-under-seal-requires t)
+    (worth-under-returns t)

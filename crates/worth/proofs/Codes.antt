@@ -1,0 +1,77 @@
+-- The kind that a number stands for, what is taken by it, and how large a height in a line can be. Assumes nothing.
+use Prim.Native.Nat.{ℕ, _+_, _*_, _^_, _≤_}
+use mathlib.Core.Path.{_≡_, refl, ap}
+use mathlib.Core.Bool.{Bool, true, false, cond}
+use mathlib.Core.List.{List}
+use native.Mathlib.Nat.{mul-le-mul-left, mul-le-mul-right}
+use native.Mathlib.Omega.{arith}
+use borrow.Author.Tests.{ne-eqb}
+use lib.Dec.{eqb}
+use lib.IntN.{ℤ, pos, negsuc, natAbs, _-ℤ_}
+use lib.Signed.{mag}
+use Rattle.field.specs.Field.{fieldOf}
+use Rattle.field.specs.declared.Field.{Field}
+use Rattle.field.specs.declared.Field.the-variants.{Blank, Ill, Number}
+use Rattle.field.proofs.Small.{small}
+use Rattle.line.specs.Line.{valueOf}
+use Rattle.line.proofs.Signs.{mag-abs}
+use Rattle.table.specs.Tree.{Kind, MAX, MIN, CHANCE, codeOf, kindOf}
+use Rattle.worth.specs.Inside.{begin}
+use Rattle.worth.proofs.Signs.{Is, is-minus}
+
+-- ---- kinds
+
+pub kind-one : (k : ℕ) → k ≡ 1 → kindOf k ≡ MAX
+kind-one k e = ap kindOf e
+
+pub kind-two : (k : ℕ) → k ≡ 2 → kindOf k ≡ MIN
+kind-two k e = ap kindOf e
+
+pub kind-else : (k : ℕ) → (k ≡ 1 → ⊥) → (k ≡ 2 → ⊥) → kindOf k ≡ CHANCE
+kind-else k p q = simp (ne-eqb k 1 p, ne-eqb k 2 q)
+
+pub kind-code : (k : Kind) → kindOf (codeOf k) ≡ k
+kind-code MAX = refl
+kind-code MIN = refl
+kind-code CHANCE = refl
+
+pub code-inner : (k : Kind) → codeOf k ≡ 0 → ⊥
+code-inner MAX e = omega arith
+code-inner MIN e = omega arith
+code-inner CHANCE e = omega arith
+
+-- only a MIN starts from the top
+pub begin-else : (top k : ℕ) → (k ≡ 2 → ⊥) → 0 ≡ begin top (kindOf k)
+begin-else top k q = rw (ne-eqb k 2 q) (go (eqb k 1))
+  where
+    go : (b : Bool) → 0 ≡ begin top (cond b MAX CHANCE)
+    go true = refl
+    go false = refl
+
+-- ---- sizes
+
+pub mul-most : (a b A B : ℕ) → a ≤ A → b ≤ B → a * b ≤ A * B
+mul-most a b A B h k = omega (arith, mul-le-mul-right b h, mul-le-mul-left A k)
+
+mag-is : (z : ℤ) (a b : ℕ) → Is z a b → mag z ≤ a + b
+mag-is (pos n) a b p = omega arith
+mag-is (negsuc n) a b p = omega arith
+
+pub mag-minus : (y z : ℤ) → mag (y -ℤ z) ≤ mag y + mag z + 2
+mag-minus (pos m) (pos n) = omega (arith, mag-is (pos m -ℤ pos n) (m + 0) (0 + n) (is-minus (pos m) (pos n) m 0 n 0 (omega arith) (omega arith)))
+mag-minus (pos m) (negsuc n) = omega (arith, mag-is (pos m -ℤ negsuc n) (m + (n + 1)) (0 + 0) (is-minus (pos m) (negsuc n) m 0 0 (n + 1) (omega arith) (omega arith)))
+mag-minus (negsuc m) (pos n) = omega (arith, mag-is (negsuc m -ℤ pos n) (0 + 0) ((m + 1) + n) (is-minus (negsuc m) (pos n) 0 (m + 1) n 0 (omega arith) (omega arith)))
+mag-minus (negsuc m) (negsuc n) = omega (arith, mag-is (negsuc m -ℤ negsuc n) (0 + (n + 1)) ((m + 1) + 0) (is-minus (negsuc m) (negsuc n) 0 (m + 1) 0 (n + 1) (omega arith) (omega arith)))
+
+value-mag : (s : List ℕ) (from width : ℕ) (f : Field) → fieldOf s from width ≡ f → mag (valueOf f) ≤ 10 ^ width
+value-mag s from width Blank e = omega arith
+value-mag s from width Ill e = omega arith
+value-mag s from width (Number z) e = omega (arith, small s from width z e, mag-abs z)
+
+-- the number in `width` columns
+pub value-small : (s : List ℕ) (from width : ℕ) → mag (valueOf (fieldOf s from width)) ≤ 10 ^ width
+value-small s from width = value-mag s from width (fieldOf s from width) refl
+
+-- the difference that a leaf's height is made of
+pub rise-small : (s : List ℕ) (lowest : ℤ) → mag lowest ≤ 1000000 → mag (valueOf (fieldOf s 16 8) -ℤ lowest) ≤ 101000002
+rise-small s lowest h = omega (arith, mag-minus (valueOf (fieldOf s 16 8)) lowest, value-small s 16 8)

@@ -1,0 +1,327 @@
+-- A run of lines that can be judged, one child after another: what the code of `worth_under` keeps. Assumes nothing.
+use Prim.Native.Nat.{ℕ, _+_, _-_, _*_, _/_, _≤_, _<_, min, max}
+use mathlib.Core.Path.{_≡_, refl, sym, ap, subst, _∙_}
+use mathlib.Core.Bool.{Bool, true, false}
+use mathlib.Core.List.{List, [], _∷_}
+use native.Mathlib.Nat.{mul-le-mul-left, mul-le-mul-right}
+use native.Mathlib.Omega.{arith}
+use lib.ListN.{length, getD, take, drop, length-drop}
+use lib.Seq.{length-take-le, drop-drop}
+use lib.IntN.{ℤ}
+use Rattle.table.specs.Tree.{Kind, MAX, MIN, CHANCE, Forest, end, leaf, inner, kindOf, isChance, isEnd}
+use Rattle.table.specs.Accepted.{Filled}
+use Rattle.worth.specs.declared.Scale.{Scale}
+use Rattle.worth.specs.Worth.{Share}
+use Rattle.worth.specs.Heights.{tallest, shortest, summed, heightValue, heightShares, Small}
+use Rattle.worth.specs.Inside.{kindIn, weightIn, heightIn, Lays, begin, taken, sealed, takeAll, OkScale, Ready}
+use Rattle.worth.proofs.Bounds.{Each, shortest-one, small-each}
+use Rattle.worth.proofs.Codes.{kind-code, code-inner}
+
+-- ---- the children of a node, one after another
+
+tallest-cons : (x : Share ℕ) (xs : List (Share ℕ)) → tallest (x ∷ xs) ≡ max (x .worth) (tallest xs)
+unfolding tallest
+tallest-cons x [] = omega arith
+tallest-cons x (y ∷ ys) = refl
+
+tallest-none : (a : ℕ) → a ≡ max a (tallest [])
+unfolding tallest
+tallest-none a = omega arith
+
+take-max : (a : ℕ) (xs : List (Share ℕ)) → takeAll MAX a xs ≡ max a (tallest xs)
+unfolding takeAll
+take-max a [] = tallest-none a
+take-max a (x ∷ xs) = omega (arith, take-max (max a (x .worth)) xs, tallest-cons x xs)
+
+take-min : (a : ℕ) (x : Share ℕ) (xs : List (Share ℕ)) → takeAll MIN a (x ∷ xs) ≡ min a (shortest (x ∷ xs))
+unfolding takeAll shortest
+take-min a x [] = refl
+take-min a x (y ∷ ys) = take-min (min a (x .worth)) y ys ∙ assoc a (x .worth) (shortest (y ∷ ys))
+  where
+    assoc : (a b c : ℕ) → min (min a b) c ≡ min a (min b c)
+    assoc a b c = omega arith
+
+take-sum : (a : ℕ) (xs : List (Share ℕ)) → takeAll CHANCE a xs ≡ a + summed xs
+unfolding takeAll summed
+take-sum a [] = omega arith
+take-sum a (x ∷ xs) = omega (arith, take-sum (a + x .weight * x .worth) xs)
+
+max-zero : (v : ℕ) → max 0 v ≡ v
+max-zero v = omega arith
+
+min-below : (M v : ℕ) → v ≤ M → min M v ≡ v
+min-below M v h = omega arith
+
+taken-value : (T M : ℕ) (k : Kind) (x : Share ℕ) (xs : List (Share ℕ)) → Each (λ (v : ℕ). v ≤ M) (x ∷ xs)
+    → sealed T k (takeAll k (begin M k) (x ∷ xs)) ≡ heightValue T k (x ∷ xs)
+unfolding heightValue
+taken-value T M MAX x xs e = take-max 0 (x ∷ xs) ∙ max-zero (tallest (x ∷ xs))
+taken-value T M MIN x xs e =
+    take-min M x xs ∙ min-below M (shortest (x ∷ xs)) (shortest-one (λ (v : ℕ). v ≤ M) (omega arith) (x ∷ xs) e)
+taken-value T M CHANCE x xs e =
+    let z : takeAll CHANCE 0 (x ∷ xs) ≡ summed (x ∷ xs) = omega (arith, take-sum 0 (x ∷ xs)) in
+    ap (λ (v : ℕ). v / T) z
+
+value-taken : (T G M : ℕ) (k : Kind) (f : Forest ℕ) → isEnd f ≡ false → Small T G M f
+    → sealed T k (takeAll k (begin M k) (heightShares T G f)) ≡ heightValue T k (heightShares T G f)
+unfolding heightShares
+value-taken T G M k end n s = absurd (let z : _≡_ {A = ℕ} 0 1 = cc in omega arith)
+value-taken T G M k (leaf n w h rest) i s = taken-value T M k (record { weight = w; worth = h * G }) (heightShares T G rest) (small-each T G M (leaf n w h rest) s)
+value-taken T G M k (inner n w j under rest) i s =
+    taken-value T M k (record { weight = w; worth = heightValue T j (heightShares T G under) }) (heightShares T G rest) (small-each T G M (inner n w j under rest) s)
+
+-- ---- the first node of a run
+
+pub lays-le : (S : List ℕ) (lo : ℤ) (c e : ℕ) (s : List ℕ) (f : Forest ℕ) → Lays S lo c e s f → c ≤ e
+unfolding Lays
+lays-le S lo c e s end l = omega (arith, l)
+lays-le S lo c e s (leaf n w h rest) l = omega (arith, l .1, lays-le S lo (getD S c 0) e (drop (25 * (getD S c 0 - c)) s) rest (l .4))
+lays-le S lo c e s (inner n w k under rest) l =
+    let j : ℕ = getD S c 0 in
+    omega (arith, lays-le S lo (c + 1) j (take (25 * (j - (c + 1))) (drop 25 s)) under (l .2), lays-le S lo j e (drop (25 * (j - c)) s) rest (l .3))
+
+-- no lines are left, and so no nodes
+lays-none : (S : List ℕ) (lo : ℤ) (T G c e : ℕ) (s : List ℕ) (f : Forest ℕ) → Lays S lo c e s f → e ≤ c → heightShares T G f ≡ []
+unfolding Lays heightShares
+lays-none S lo T G c e s end l h = refl
+lays-none S lo T G c e s (leaf n w v rest) l h =
+    absurd (omega (arith, l .1, lays-le S lo (getD S c 0) e (drop (25 * (getD S c 0 - c)) s) rest (l .4)))
+lays-none S lo T G c e s (inner n w k under rest) l h =
+    let j : ℕ = getD S c 0 in
+    absurd (omega (arith, lays-le S lo (c + 1) j (take (25 * (j - (c + 1))) (drop 25 s)) under (l .2), lays-le S lo j e (drop (25 * (j - c)) s) rest (l .3)))
+
+-- the lines `part`, nodes c up to j, can be judged under the kind of the number k, and are then worth v
+pub record Child (S : List ℕ) (g : Scale) (k c j : ℕ) (part : List ℕ) (v : ℕ) : Type 0 where
+  pub ready : Ready S g (kindOf k) c j part
+  pub worth : v ≡ heightValue (g .total) (kindOf k) (heightShares (g .total) (g .grain) (ready .nodes))
+
+-- the first node of the lines s of the nodes f, and the nodes after its run
+pub record Front (S : List ℕ) (g : Scale) (c e : ℕ) (s : List ℕ) (f : Forest ℕ) : Type 0 where
+  pub share : Share ℕ
+  pub rest : Forest ℕ
+  pub later : c < getD S c 0
+  pub within : getD S c 0 ≤ e
+  pub shares : heightShares (g .total) (g .grain) f ≡ share ∷ heightShares (g .total) (g .grain) rest
+  pub weighs : weightIn (take 25 s) ≡ share .weight
+  pub lays : Lays S (g .lowest) (getD S c 0) e (drop (25 * (getD S c 0 - c)) s) rest
+  pub filled : Filled rest
+  pub small : Small (g .total) (g .grain) (g .top) rest
+  pub leafy : kindIn (take 25 s) ≡ 0 → share .worth ≡ heightIn (g .lowest) (take 25 s) * g .grain
+  pub child : (kindIn (take 25 s) ≡ 0 → ⊥)
+      → Child S g (kindIn (take 25 s)) (c + 1) (getD S c 0) (take (25 * (getD S c 0 - (c + 1))) (drop 25 s)) (share .worth)
+
+part-long : (c e j : ℕ) (s : List ℕ) → c < j → j ≤ e → length s ≡ 25 * (e - c) → length (take (25 * (j - (c + 1))) (drop 25 s)) ≡ 25 * (j - (c + 1))
+part-long c e j s h k l = length-take-le (25 * (j - (c + 1))) (drop 25 s) (omega (arith, length-drop 25 s, l))
+
+module _ (S : List ℕ) (g : Scale) (c e : ℕ) (s : List ℕ) where
+  pub front : (f : Forest ℕ) → Lays S (g .lowest) c e s f → Filled f → Small (g .total) (g .grain) (g .top) f
+      → c < e → length s ≡ 25 * (e - c) → e ≤ length S → e ≤ 1024 → OkScale g → Front S g c e s f
+  unfolding Lays heightShares
+  front end l F M h long room few ok = absurd (omega (arith, l))
+  front (leaf n w v rest) l F M h long room few ok =
+      record {
+        share = record { weight = w; worth = v * g .grain };
+        rest = rest;
+        later = omega (arith, l .1);
+        within = lays-le S (g .lowest) (getD S c 0) e (drop (25 * (getD S c 0 - c)) s) rest (l .4);
+        shares = refl;
+        weighs = l .2;
+        lays = l .4;
+        filled = F;
+        small = M .1;
+        leafy = λ z. ap (λ (x : ℕ). x * g .grain) (sym (l .3));
+        child = λ z. absurd (z (l .0));
+      }
+  front (inner n w k under rest) l F M h long room few ok =
+      let T : ℕ = g .total in
+      let G : ℕ = g .grain in
+      let j : ℕ = getD S c 0 in
+      let part : List ℕ = take (25 * (j - (c + 1))) (drop 25 s) in
+      let later : c + 1 ≤ j = lays-le S (g .lowest) (c + 1) j part under (l .2) in
+      let within : j ≤ e = lays-le S (g .lowest) j e (drop (25 * (j - c)) s) rest (l .3) in
+      let same : kindOf (kindIn (take 25 s)) ≡ k = ap kindOf (l .0) ∙ kind-code k in
+      record {
+        share = record { weight = w; worth = heightValue T k (heightShares T G under) };
+        rest = rest;
+        later = omega (arith, later);
+        within = within;
+        shares = refl;
+        weighs = l .1;
+        lays = l .3;
+        filled = F .2;
+        small = M .3;
+        leafy = λ z. absurd (code-inner k (sym (l .0) ∙ z));
+        child = λ z. record {
+          ready = record {
+            nodes = under;
+            lays = l .2;
+            fits = record { filled = F .1; small = M .2; sums = λ i. M .1 (ap isChance (sym same) ∙ i) };
+            some = F .0;
+            long = part-long c e j s (omega (arith, later)) within long;
+            room = omega (arith, within, room);
+            few = omega (arith, within, few);
+            scale = ok;
+          };
+          worth = ap (λ (q : Kind). heightValue T q (heightShares T G under)) (sym same);
+        };
+      }
+
+-- ---- the loop
+
+-- Up to node i the children are taken and come to a: taking the rest from there is taking all from the start.
+pub record Going (S : List ℕ) (g : Scale) (k : Kind) (c e : ℕ) (s : List ℕ) (f : Forest ℕ) (a i : ℕ) : Type 0 where
+  pub rest : Forest ℕ
+  pub from : c ≤ i
+  pub upto : i ≤ e
+  pub lays : Lays S (g .lowest) i e (drop (25 * (i - c)) s) rest
+  pub filled : Filled rest
+  pub small : Small (g .total) (g .grain) (g .top) rest
+  pub same : takeAll k (begin (g .top) k) (heightShares (g .total) (g .grain) f) ≡ takeAll k a (heightShares (g .total) (g .grain) rest)
+
+module _ (S : List ℕ) (g : Scale) (k : Kind) (c e : ℕ) (s : List ℕ) where
+  -- the invariant of the loop: for all that the contract speaks of
+  abbrev pub GoingAll : ℕ → ℕ → Type 0
+  GoingAll a i = (R : Ready S g k c e s) → Going S g k c e s (R .nodes) a i
+
+  pub going-start : (a : ℕ) → a ≡ begin (g .top) k → GoingAll a c
+  going-start a p R =
+      record {
+        rest = R .nodes;
+        from = omega arith;
+        upto = lays-le S (g .lowest) c e s (R .nodes) (R .lays);
+        lays = subst (λ (t : List ℕ). Lays S (g .lowest) c e t (R .nodes)) (sym (drop-none c s)) (R .lays);
+        filled = R .fits .filled;
+        small = R .fits .small;
+        same = ap (λ (x : ℕ). takeAll k x (heightShares (g .total) (g .grain) (R .nodes))) (sym p);
+      }
+    where
+      drop-none : (c : ℕ) (s : List ℕ) → drop (25 * (c - c)) s ≡ s
+      drop-none c s = let z : 25 * (c - c) ≡ 0 = omega arith in rw z refl
+
+  -- the first node that is left
+  abbrev pub Next : ℕ → ℕ → Ready S g k c e s → Type 0
+  Next a i R = (G : Going S g k c e s (R .nodes) a i) × Front S g i e (drop (25 * (i - c)) s) (G .rest)
+
+  pub next-of : (a i : ℕ) (R : Ready S g k c e s) → GoingAll a i → i < e → Next a i R
+  next-of a i R all h =
+      let G = all R in (
+        G,
+        front S g i e (drop (25 * (i - c)) s) (G .rest) (G .lays) (G .filled) (G .small) h
+            (omega (arith, length-drop (25 * (i - c)) s, R .long, G .from)) (R .room) (R .few) (R .scale),
+      )
+
+  pub going-turn : (a i : ℕ) (R : Ready S g k c e s) (N : Next a i R) (b j : ℕ)
+      → j ≡ getD S i 0 → b ≡ taken k a (N .1 .share .weight) (N .1 .share .worth) → Going S g k c e s (R .nodes) b j
+  unfolding takeAll
+  going-turn a i R N b j stop step =
+      let G = N .0 in
+      let F = N .1 in
+      let T : ℕ = g .total in
+      let Q : ℕ = g .grain in
+      let m : ℕ = getD S i 0 in
+      let at : 25 * (i - c) + 25 * (m - i) ≡ 25 * (m - c) = omega (arith, G .from, F .later) in
+      let cut : drop (25 * (m - i)) (drop (25 * (i - c)) s) ≡ drop (25 * (m - c)) s =
+      drop-drop (25 * (m - i)) (25 * (i - c)) s ∙ ap (λ (n : ℕ). drop n s) at in
+      rw stop
+      (record {
+        rest = F .rest;
+        from = omega (arith, G .from, F .later);
+        upto = F .within;
+        lays = subst (λ (t : List ℕ). Lays S (g .lowest) m e t (F .rest)) cut (F .lays);
+        filled = F .filled;
+        small = F .small;
+        same = G .same ∙ ap (takeAll k a) (F .shares) ∙ ap (λ (x : ℕ). takeAll k x (heightShares T Q (F .rest))) (sym step);
+      })
+
+  -- every child is taken
+  pub going-end : (a i : ℕ) (R : Ready S g k c e s) → GoingAll a i → e ≤ i
+      → sealed (g .total) k a ≡ heightValue (g .total) k (heightShares (g .total) (g .grain) (R .nodes))
+  unfolding takeAll
+  going-end a i R all h =
+      let G = all R in
+      let T : ℕ = g .total in
+      let Q : ℕ = g .grain in
+      let z : takeAll k (begin (g .top) k) (heightShares T Q (R .nodes)) ≡ a =
+      G .same ∙ ap (takeAll k a) (lays-none S (g .lowest) T Q i e (drop (25 * (i - c)) s) (G .rest) (G .lays) h) in
+      ap (sealed T k) (sym z) ∙ value-taken T Q (g .top) k (R .nodes) (R .some) (R .fits .small)
+
+-- at a C the sum of all bounds every sum on the way
+sum-so-far : (a total : ℕ) (x : Share ℕ) (xs ys : List (Share ℕ))
+    → takeAll CHANCE 0 ys ≡ takeAll CHANCE a (x ∷ xs) → summed ys ≤ total → a + x .weight * x .worth ≤ total
+unfolding summed
+sum-so-far a total x xs ys e h = omega (arith, take-sum 0 ys, take-sum a (x ∷ xs))
+
+pub sum-fits : (S : List ℕ) (g : Scale) (k : Kind) (c e : ℕ) (s : List ℕ) (a i : ℕ) (R : Ready S g k c e s) (N : Next S g k c e s a i R)
+    → k ≡ CHANCE → a + N .1 .share .weight * N .1 .share .worth < 9223372036854775808
+sum-fits S g MAX c e s a i R N k = absurd (let z : _≡_ {A = Bool} false true = ap isChance k in let y : _≡_ {A = ℕ} 0 1 = cc in omega arith)
+sum-fits S g MIN c e s a i R N k = absurd (let z : _≡_ {A = Bool} false true = ap isChance k in let y : _≡_ {A = ℕ} 0 1 = cc in omega arith)
+sum-fits S g CHANCE c e s a i R N k =
+    let T : ℕ = g .total in
+    let Q : ℕ = g .grain in
+    let G = N .0 in
+    let F = N .1 in
+    omega (arith, sum-so-far a (T * g .top) (F .share) (heightShares T Q (F .rest)) (heightShares T Q (R .nodes)) (G .same ∙ ap (takeAll CHANCE a) (F .shares)) (R .fits .sums refl), mul-le-mul-right (g .top) (R .scale .total), mul-le-mul-left 64 (R .scale .top))
+
+-- ---- the parts of the text
+
+-- the line at a byte, as the code cuts it
+pub line-same : (at : ℕ) (s : List ℕ) → take (at + 25 - at) (drop at s) ≡ take 25 (drop at s)
+line-same at s = let n : at + 25 - at ≡ 25 = omega arith in ap (λ (m : ℕ). take m (drop at s)) n
+
+pub line-long : (at : ℕ) (s : List ℕ) → at + 25 ≤ length s → length (take (at + 25 - at) (drop at s)) ≡ 25
+line-long at s h = ap length (line-same at s) ∙ length-take-le 25 (drop at s) (omega (arith, length-drop at s))
+
+-- the lines under node i, up to node j, as the code cuts them
+part-same : (c i j : ℕ) (s : List ℕ) → c ≤ i → i < j
+    → take (25 * (j - c) - (25 * (i - c) + 25)) (drop (25 * (i - c) + 25) s) ≡ take (25 * (j - (i + 1))) (drop 25 (drop (25 * (i - c)) s))
+part-same c i j s h l =
+    let n : 25 * (j - c) - (25 * (i - c) + 25) ≡ 25 * (j - (i + 1)) = omega arith in
+    ap (λ (m : ℕ). take m (drop (25 * (i - c) + 25) s)) n ∙ ap (take (25 * (j - (i + 1)))) (sym (drop-drop 25 (25 * (i - c)) s))
+
+-- ---- one turn of the loop: the numbers that bound it
+
+pub record Turn (S : List ℕ) (c e i : ℕ) (s : List ℕ) : Type 0 where
+  pub from : c ≤ i
+  pub here : i < getD S i 0
+  pub upto : getD S i 0 ≤ e
+  pub room : e ≤ length S
+  pub few : e ≤ 1024
+  pub long : length s ≡ 25 * (e - c)
+
+module _ (S : List ℕ) (g : Scale) (k : Kind) (c e : ℕ) (s : List ℕ) (a i : ℕ) (R : Ready S g k c e s) (N : Next S g k c e s a i R) where
+  pub turn-of : Turn S c e i s
+  turn-of = record { from = N .0 .from; here = N .1 .later; upto = N .1 .within; room = R .room; few = R .few; long = R .long }
+
+  -- the child's kind, stop and lines, as the code has them
+  pub child-of : (q j : ℕ) → q ≡ kindIn (take (25 * (i - c) + 25 - 25 * (i - c)) (drop (25 * (i - c)) s)) → j ≡ getD S i 0 → (q ≡ 0 → ⊥)
+      → Child S g q (i + 1) j (take (25 * (j - c) - (25 * (i - c) + 25)) (drop (25 * (i - c) + 25) s)) (N .1 .share .worth)
+  child-of q j kind stop inside =
+      let at : ℕ = 25 * (i - c) in
+      let m : ℕ = getD S i 0 in
+      let v : ℕ = N .1 .share .worth in
+      let line : q ≡ kindIn (take 25 (drop at s)) = kind ∙ ap kindIn (line-same at s) in
+      let x = N .1 .child (λ z. inside (line ∙ z)) in
+      let y = subst (λ (p : List ℕ). Child S g (kindIn (take 25 (drop at s))) (i + 1) m p v) (sym (part-same c i m s (N .0 .from) (N .1 .later))) x in
+      let z = subst (λ (n : ℕ). Child S g (kindIn (take 25 (drop at s))) (i + 1) n (take (25 * (n - c) - (at + 25)) (drop (at + 25) s)) v) (sym stop) y in
+      subst (λ (n : ℕ). Child S g n (i + 1) j (take (25 * (j - c) - (at + 25)) (drop (at + 25) s)) v) (sym line) z
+
+  pub leaf-of : (q : ℕ) → q ≡ kindIn (take (25 * (i - c) + 25 - 25 * (i - c)) (drop (25 * (i - c)) s)) → q ≡ 0
+      → heightIn (g .lowest) (take (25 * (i - c) + 25 - 25 * (i - c)) (drop (25 * (i - c)) s)) * g .grain ≡ N .1 .share .worth
+  leaf-of q kind zero =
+      let at : ℕ = 25 * (i - c) in
+      ap (λ (l : List ℕ). heightIn (g .lowest) l * g .grain) (line-same at s)
+      ∙ sym (N .1 .leafy (sym (ap kindIn (line-same at s)) ∙ sym kind ∙ zero))
+
+  weight-of : weightIn (take (25 * (i - c) + 25 - 25 * (i - c)) (drop (25 * (i - c)) s)) ≡ N .1 .share .weight
+  weight-of = ap weightIn (line-same (25 * (i - c)) s) ∙ N .1 .weighs
+
+  -- what the child is taken with
+  pub turn-fits : (h : ℕ) → h ≡ N .1 .share .worth → k ≡ CHANCE
+      → a + weightIn (take (25 * (i - c) + 25 - 25 * (i - c)) (drop (25 * (i - c)) s)) * h < 9223372036854775808
+  turn-fits h worth chance = rw (weight-of, worth) (sum-fits S g k c e s a i R N chance)
+
+  pub turn-on : (h b j : ℕ) → h ≡ N .1 .share .worth → j ≡ getD S i 0
+      → b ≡ taken k a (weightIn (take (25 * (i - c) + 25 - 25 * (i - c)) (drop (25 * (i - c)) s))) h → Going S g k c e s (R .nodes) b j
+  turn-on h b j worth stop step =
+      going-turn S g k c e s a i R N b j stop
+      (step ∙ ap (λ (w : ℕ). taken k a w h) weight-of ∙ ap (taken k a (N .1 .share .weight)) worth)

@@ -1,0 +1,241 @@
+-- The text of an accepted table holds its tree: its lines are laid out as its nodes. Assumes nothing.
+use Prim.Native.Nat.{ℕ, zero, suc, _+_, _-_, _*_, _≤_, _<_}
+use mathlib.Core.Path.{_≡_, refl, sym, ap, subst, _∙_}
+use mathlib.Core.Bool.{Bool, true, false, cond}
+use mathlib.Core.List.{List, [], _∷_, _++_, map}
+use native.Mathlib.Omega.{arith}
+use lib.ListN.{length, getD, take, drop}
+use lib.Seq.{take-nil, take-all, take-take, drop-drop}
+use lib.IntN.{ℤ}
+use Rattle.line.specs.declared.Head.{Head}
+use Rattle.line.specs.declared.Line.{Line}
+use Rattle.line.specs.declared.Refusal.{Refusal}
+use Rattle.line.specs.declared.Refusal.the-variants.{Length, Childless, WrongSum}
+use Rattle.line.specs.Refusal.{Verdict, refused, fine, unlessAt, next}
+use Rattle.line.specs.Line.{Step, Above, ancestors, stepsOf, stepped, letterCode, entryOf, lineChecks, placed, Placed, nodeLine, header}
+use Rattle.line.proofs.Fine.{unless-fine, unlessAt-fine}
+use Rattle.table.specs.Tree.{Forest, end, leaf, inner, childless, unbalanced}
+use Rattle.table.specs.Table.{Table, badLength, prefix, nodeLines, tree, complete, count, readText}
+use Rattle.table.specs.Slices.{heightOf, ends, stopsOf, fitted, Slices, Spans, heightTree, slicesOf}
+use Rattle.table.proofs.Accepted.{accepted-spans}
+use Rattle.table.proofs.Grown.{fine-refused, next-fine}
+use Rattle.worth.specs.Inside.{kindIn, weightIn, heightIn, Lays}
+use Rattle.worth.proofs.Run.{lays-le}
+
+-- ---- lines of a part of the text
+
+drop-take : (a n : ℕ) (l : List ℕ) → drop a (take n l) ≡ take (n - a) (drop a l)
+drop-take zero n l = let z : n ≡ n - 0 = omega arith in ap (λ (m : ℕ). take m l) z
+drop-take (suc a) zero l = let z : 0 ≡ 0 - suc a = omega arith in ap (λ (m : ℕ). take m (drop (suc a) l)) z
+drop-take (suc a) (suc n) [] = sym (take-nil (suc n - suc a))
+drop-take (suc a) (suc n) (x ∷ l) =
+    let z : n - a ≡ suc n - suc a = omega arith in
+    drop-take a n l ∙ ap (λ (m : ℕ). take m (drop a l)) z
+
+line-within : (m n : ℕ) (t : List ℕ) → 25 * m + 25 ≤ n → take 25 (drop (25 * m) (take n t)) ≡ take 25 (drop (25 * m) t)
+line-within m n t h = ap (take 25) (drop-take (25 * m) n t) ∙ take-take 25 (n - 25 * m) (drop (25 * m) t) (omega arith)
+
+-- ---- what the lines say
+
+-- the line l is one of the kind k and of the weight w, and where it is a leaf, of the height h
+record Says (lo : ℤ) (l : List ℕ) (k w h : ℕ) : Type 0 where
+  kind : kindIn l ≡ k
+  weight : weightIn l ≡ w
+  height : k ≡ 0 → heightIn lo l ≡ h
+
+-- the lines s, nodes c up to e, say what the slices have
+abbrev Told : ℤ → Slices → ℕ → ℕ → List ℕ → Type 0
+Told lo t c e s =
+    (m : ℕ) → c + m < e → Says lo (take 25 (drop (25 * m) s)) (getD (t .kinds) (c + m) 0) (getD (t .weights) (c + m) 0) (getD (t .heights) (c + m) 0)
+
+abbrev SaysAt : ℤ → Slices → ℕ → List ℕ → Type 0
+SaysAt lo t n l = Says lo l (getD (t .kinds) n 0) (getD (t .weights) n 0) (getD (t .heights) n 0)
+
+module _ (lo : ℤ) (t : Slices) (c e : ℕ) (s : List ℕ) (told : Told lo t c e s) where
+  told-first : c < e → SaysAt lo t c (take 25 s)
+  told-first h =
+      let z : c + 0 ≡ c = omega arith in
+      subst (λ (n : ℕ). SaysAt lo t n (take 25 s)) z (told 0 (omega arith))
+
+  told-rest : (j : ℕ) → c ≤ j → Told lo t j e (drop (25 * (j - c)) s)
+  told-rest j h m l =
+      let at : c + (j - c + m) ≡ j + m = omega arith in
+      let by : 25 * (j - c + m) ≡ 25 * (j - c) + 25 * m = omega arith in
+      let cut : drop (25 * (j - c + m)) s ≡ drop (25 * m) (drop (25 * (j - c)) s) =
+      ap (λ (n : ℕ). drop n s) by ∙ sym (drop-drop (25 * m) (25 * (j - c)) s) in
+      subst (λ (n : ℕ). SaysAt lo t n (take 25 (drop (25 * m) (drop (25 * (j - c)) s)))) at
+      (subst (λ (r : List ℕ). SaysAt lo t (c + (j - c + m)) (take 25 r)) cut (told (j - c + m) (omega arith)))
+
+  told-under : (j : ℕ) → j ≤ e → Told lo t (c + 1) j (take (25 * (j - (c + 1))) (drop 25 s))
+  told-under j h m l =
+      let at : c + (m + 1) ≡ c + 1 + m = omega arith in
+      let by : 25 * (m + 1) ≡ 25 + 25 * m = omega arith in
+      let cut : take 25 (drop (25 * (m + 1)) s) ≡ take 25 (drop (25 * m) (take (25 * (j - (c + 1))) (drop 25 s))) =
+      ap (λ (n : ℕ). take 25 (drop n s)) by
+      ∙ ap (take 25) (sym (drop-drop (25 * m) 25 s))
+      ∙ sym (line-within m (25 * (j - (c + 1))) (drop 25 s) (omega arith)) in
+      subst (λ (n : ℕ). SaysAt lo t n (take 25 (drop (25 * m) (take (25 * (j - (c + 1))) (drop 25 s))))) at
+      (subst (SaysAt lo t (c + (m + 1))) cut (told (m + 1) (omega arith)))
+
+-- ---- the tree in the slices is laid out in the text
+
+spans-le : (t : Slices) (c e : ℕ) (f : Forest ℕ) → Spans t c e f → c ≤ e
+unfolding Spans
+spans-le t c e end x = omega (arith, x)
+spans-le t c e (leaf n w h rest) x = omega (arith, spans-le t (c + 1) e rest (x .5))
+spans-le t c e (inner n w k under rest) x =
+    let j : ℕ = getD (t .stops) c 0 in
+    omega (arith, spans-le t (c + 1) j under (x .3), spans-le t j e rest (x .4))
+
+spans-lay : (lo : ℤ) (t : Slices) (c e : ℕ) (s : List ℕ) (f : Forest ℕ) → Spans t c e f → Told lo t c e s → Lays (t .stops) lo c e s f
+unfolding Spans Lays
+spans-lay lo t c e s end x told = x
+spans-lay lo t c e s (leaf n w h rest) x told =
+    let j : ℕ = getD (t .stops) c 0 in
+    let l = told-first lo t c e s told (omega (arith, spans-le t (c + 1) e rest (x .5))) in (
+      l .kind ∙ x .1,
+      x .2,
+      l .weight ∙ x .3,
+      l .height (x .1) ∙ x .4,
+      spans-lay lo t j e (drop (25 * (j - c)) s) rest (subst (λ (n : ℕ). Spans t n e rest) (sym (x .2)) (x .5)) (told-rest lo t c e s told j (omega (arith, x .2))),
+    )
+spans-lay lo t c e s (inner n w k under rest) x told =
+    let j : ℕ = getD (t .stops) c 0 in
+    let a : c + 1 ≤ j = spans-le t (c + 1) j under (x .3) in
+    let b : j ≤ e = spans-le t j e rest (x .4) in
+    let l = told-first lo t c e s told (omega arith) in (
+      l .kind ∙ x .1,
+      l .weight ∙ x .2,
+      spans-lay lo t (c + 1) j (take (25 * (j - (c + 1))) (drop 25 s)) under (x .3) (told-under lo t c e s told j b),
+      spans-lay lo t j e (drop (25 * (j - c)) s) rest (x .4) (told-rest lo t c e s told j (omega arith)),
+    )
+
+-- ---- the lines that were read
+
+prefix-fine : (done : List Line) (v : Verdict (List Line)) (ls : List Line) → prefix done v ≡ fine ls
+    → (rest : List Line) × (v ≡ fine rest) × (ls ≡ done ++ rest)
+prefix-fine done (refused r) ls e = fine-refused r ls e
+prefix-fine done (fine rest) ls e = (rest, refl, cc)
+
+module _ (h : Head) (lo : ℤ) where
+  -- a leaf's height is the one that its line says
+  leaf-height : (l : Line) (z : ℤ) → l .utility ≡ z → l .kind ≡ 0 → heightOf lo (record { node = 0; kind = 0; parent = 0; weight = 0; utility = z; chances = 0 }) ≡ heightOf lo l
+  leaf-height l z u k = rw (k, u) refl
+
+  placed-says : (i : ℕ) (P : List Step) (s : List ℕ) (p : Placed) → nodeLine h i P s ≡ fine p
+      → Says lo s (p .line .kind) (p .line .weight) (heightOf lo (p .line))
+  placed-says i P s p e =
+      let k : ℕ = letterCode (entryOf s .letter) in
+      let a : Above = ancestors (entryOf s .parent) P in
+      let q = unless-fine (lineChecks h i (entryOf s) (getD s 4 0) (getD s 24 0) a) (placed i k (entryOf s) (stepped i k (stepsOf a))) p e .1 in
+      record {
+        kind = ap (λ (x : Placed). x .line .kind) q;
+        weight = ap (λ (x : Placed). x .line .weight) q;
+        height = leaf-height (p .line) _ (sym (ap (λ (x : Placed). x .line .utility) q));
+      }
+
+  abbrev SaysOf : List Line → ℕ → List ℕ → Type 0
+  SaysOf ls m l =
+      Says lo l (getD (map (λ (l : Line). l .kind) ls) m 0) (getD (map (λ (l : Line). l .weight) ls) m 0) (getD (map (heightOf lo) ls) m 0)
+
+  lines-say : (n i : ℕ) (P : List Step) (s : List ℕ) (ls : List Line) → nodeLines h n i P s ≡ fine ls
+      → (m : ℕ) → m < length ls → SaysOf ls m (take 25 (drop (25 * m) s))
+  unfolding nodeLines
+  lines-say zero i P s ls e m l = let f : [] ≡ ls = cc in absurd (omega (arith, ap length f))
+  lines-say (suc n) i P s ls e m l =
+      let (p, f, g) = next-fine (nodeLine h i P (take 25 s)) (λ (p : Placed). prefix (p .line ∷ []) (nodeLines h n (suc i) (p .steps) (drop 25 s))) ls e in
+      let (rest, more, lines) = prefix-fine (p .line ∷ []) (nodeLines h n (suc i) (p .steps) (drop 25 s)) ls g in
+      let d : m < suc (length rest) = omega (arith, l, ap length lines) in
+      subst (λ (x : List Line). SaysOf x m (take 25 (drop (25 * m) s))) (sym lines)
+      (go p rest (placed-says i P (take 25 s) p f) (lines-say n (suc i) (p .steps) (drop 25 s) rest more) m d)
+    where
+      go : (p : Placed) (rest : List Line) → Says lo (take 25 s) (p .line .kind) (p .line .weight) (heightOf lo (p .line))
+          → ((m : ℕ) → m < length rest → SaysOf rest m (take 25 (drop (25 * m) (drop 25 s))))
+          → (m : ℕ) → m < suc (length rest) → SaysOf (p .line ∷ rest) m (take 25 (drop (25 * m) s))
+      go p rest first more zero d = first
+      go p rest first more (suc m) d =
+          let by : 25 + 25 * m ≡ 25 * suc m = omega arith in
+          subst (λ (r : List ℕ). SaysOf rest m (take 25 r)) (drop-drop (25 * m) 25 s ∙ ap (λ (n : ℕ). drop n s) by) (more m (omega arith))
+
+-- ---- an accepted table
+
+completed : (a t : Table) → complete a ≡ fine t → a ≡ t
+unfolding complete
+completed a t e =
+    let f : ℕ → Refusal = λ n. Childless (n + 1) in
+    let g : ℕ → Refusal = λ n. WrongSum (n + 1) in
+    let (b, p, q) = next-fine (unlessAt f (childless (tree a)) a) (λ (t : Table). unlessAt g (unbalanced (t .head .total) (tree t)) t) t e in
+    unlessAt-fine f (childless (tree a)) a b p .1 ∙ unlessAt-fine g (unbalanced (b .head .total) (tree b)) b t q .1
+
+lines-read : (s : List ℕ) (t : Table) → readText s ≡ fine t → nodeLines (t .head) (count s) 0 [] (drop 25 s) ≡ fine (t .lines)
+unfolding readText
+lines-read s t e = go (badLength (length s)) e
+  where
+    on : Head → Verdict Table
+    on h = next (nodeLines h (count s) 0 [] (drop 25 s)) (λ (ls : List Line). complete (record { head = h; lines = ls }))
+
+    go : (b : Bool) → cond b (refused Length) (next (header (count s) (take 25 s)) on) ≡ fine t → nodeLines (t .head) (count s) 0 [] (drop 25 s) ≡ fine (t .lines)
+    go true e = fine-refused Length t e
+    go false e =
+        let (h, head, f) = next-fine (header (count s) (take 25 s)) on t e in
+        let (ls, lines, g) = next-fine (nodeLines h (count s) 0 [] (drop 25 s)) (λ (ls : List Line). complete (record { head = h; lines = ls })) t f in
+        subst (λ (x : Table). nodeLines (x .head) (count s) 0 [] (drop 25 s) ≡ fine (x .lines)) (completed (record { head = h; lines = ls }) t g) lines
+
+pub accepted-lays : (s : List ℕ) (t : Table) → readText s ≡ fine t → Lays (stopsOf t) (t .head .lowest) 0 (length (t .lines)) (drop 25 s) (heightTree t)
+accepted-lays s t h = spans-lay lo (slicesOf t) 0 (length (t .lines)) (drop 25 s) (heightTree t) (accepted-spans s t h) told
+  where
+    lo : ℤ
+    lo = t .head .lowest
+
+    told : Told lo (slicesOf t) 0 (length (t .lines)) (drop 25 s)
+    told m l =
+        let z : m ≡ 0 + m = omega arith in
+        subst (λ (n : ℕ). SaysAt lo (slicesOf t) n (take 25 (drop (25 * m) (drop 25 s)))) z
+        (lines-say (t .head) lo (count s) 0 [] (drop 25 s) (t .lines) (lines-read s t h) m (omega arith))
+
+-- ---- a lent slice that begins with the same ends
+
+lays-other : (S U : List ℕ) (lo : ℤ) (c e : ℕ) (s : List ℕ) (f : Forest ℕ) → ((m : ℕ) → m < e → getD U m 0 ≡ getD S m 0) → Lays S lo c e s f → Lays U lo c e s f
+unfolding Lays
+lays-other S U lo c e s end same l = l
+lays-other S U lo c e s (leaf n w h rest) same l =
+    let j : ℕ = getD S c 0 in
+    let q : getD U c 0 ≡ j = same c (omega (arith, l .1, lays-le S lo j e (drop (25 * (j - c)) s) rest (l .4))) in (
+      l .0,
+      q ∙ l .1,
+      l .2,
+      l .3,
+      subst (λ (i : ℕ). Lays U lo i e (drop (25 * (i - c)) s) rest) (sym q) (lays-other S U lo j e (drop (25 * (j - c)) s) rest same (l .4)),
+    )
+lays-other S U lo c e s (inner n w k under rest) same l =
+    let j : ℕ = getD S c 0 in
+    let part : List ℕ = take (25 * (j - (c + 1))) (drop 25 s) in
+    let a : c + 1 ≤ j = lays-le S lo (c + 1) j part under (l .2) in
+    let b : j ≤ e = lays-le S lo j e (drop (25 * (j - c)) s) rest (l .3) in
+    let q : getD U c 0 ≡ j = same c (omega arith) in (
+      l .0,
+      l .1,
+      subst (λ (i : ℕ). Lays U lo (c + 1) i (take (25 * (i - (c + 1))) (drop 25 s)) under) (sym q)
+          (lays-other S U lo (c + 1) j part under (λ m d. same m (omega arith)) (l .2)),
+      subst (λ (i : ℕ). Lays U lo i e (drop (25 * (i - c)) s) rest) (sym q) (lays-other S U lo j e (drop (25 * (j - c)) s) rest same (l .3)),
+    )
+
+getD-front : (xs ys : List ℕ) (m : ℕ) → m < length xs → getD (xs ++ ys) m 0 ≡ getD xs m 0
+getD-front [] ys m h = absurd (omega arith)
+getD-front (x ∷ xs) ys zero h = refl
+getD-front (x ∷ xs) ys (suc m) h = getD-front xs ys m (omega arith)
+
+pub ends-length : (ls : List Line) → length (ends ls) ≡ length ls
+unfolding ends
+ends-length [] = refl
+ends-length (l ∷ ls) = omega (arith, ends-length ls)
+
+-- the slice that `table::read` leaves, where it has room
+pub accepted-lent : (s : List ℕ) (t : Table) → readText s ≡ fine t → (a : List ℕ) → length (t .lines) ≤ length a
+    → Lays (fitted (stopsOf t) a) (t .head .lowest) 0 (length (t .lines)) (drop 25 s) (heightTree t)
+accepted-lent s t h a room =
+    lays-other (stopsOf t) (fitted (stopsOf t) a) (t .head .lowest) 0 (length (t .lines)) (drop 25 s) (heightTree t)
+    (λ m l.
+    rw (take-all (length a) (stopsOf t) (omega (arith, ends-length (t .lines))))
+    (getD-front (stopsOf t) (drop (length (stopsOf t)) a) m (omega (arith, ends-length (t .lines)))))
+    (accepted-lays s t h)

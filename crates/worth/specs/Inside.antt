@@ -1,0 +1,89 @@
+-- The worth straight from the text: how a run of lines holds nodes, and what the code computes with. Assumes nothing: these are definitions.
+use Prim.Native.Nat.{ℕ, _+_, _-_, _*_, _/_, _≤_, _<_, min, max}
+use mathlib.Core.Path.{_≡_}
+use mathlib.Core.Bool.{true, false}
+use mathlib.Core.List.{List, [], _∷_}
+use lib.ListN.{length, getD, take, drop}
+use lib.IntN.{ℤ, _-ℤ_}
+use lib.Signed.{mag}
+use Rattle.field.specs.Field.{fieldOf}
+use Rattle.line.specs.Line.{letterCode, countOf, valueOf, toNat}
+use Rattle.table.specs.Tree.{Kind, MAX, MIN, CHANCE, Forest, end, leaf, inner, codeOf, isChance, isEnd}
+use Rattle.table.specs.Accepted.{Filled}
+use Rattle.worth.specs.declared.Scale.{Scale}
+use Rattle.worth.specs.Worth.{Share}
+use Rattle.worth.specs.Heights.{heightValue, heightShares, summed, Small}
+
+-- what a node line says
+abbrev pub kindIn : List ℕ → ℕ
+kindIn s = letterCode (getD s 5 0)
+
+abbrev pub weightIn : List ℕ → ℕ
+weightIn s = countOf (fieldOf s 11 5)
+
+abbrev pub heightIn : ℤ → List ℕ → ℕ
+heightIn lowest s = toNat (valueOf (fieldOf s 16 8) -ℤ lowest)
+
+-- The lines s of the nodes from c up to e are these nodes with one parent; S has one past the run of each node.
+unfoldable pub Lays : List ℕ → ℤ → ℕ → ℕ → List ℕ → Forest ℕ → Type 0
+Lays S lowest c e s end = c ≡ e
+Lays S lowest c e s (leaf n w h rest) =
+    (kindIn (take 25 s) ≡ 0)
+    × (getD S c 0 ≡ c + 1)
+    × (weightIn (take 25 s) ≡ w)
+    × (heightIn lowest (take 25 s) ≡ h)
+    × Lays S lowest (getD S c 0) e (drop (25 * (getD S c 0 - c)) s) rest
+Lays S lowest c e s (inner n w k under rest) =
+    (kindIn (take 25 s) ≡ codeOf k)
+    × (weightIn (take 25 s) ≡ w)
+    × Lays S lowest (c + 1) (getD S c 0) (take (25 * (getD S c 0 - (c + 1))) (drop 25 s)) under
+    × Lays S lowest (getD S c 0) e (drop (25 * (getD S c 0 - c)) s) rest
+
+-- Equation (1) child by child: what stands before the first child, after one more, and at the end. `top` is the greatest height.
+abbrev pub begin : ℕ → Kind → ℕ
+begin top MAX = 0
+begin top MIN = top
+begin top CHANCE = 0
+
+abbrev pub taken : Kind → ℕ → ℕ → ℕ → ℕ
+taken MAX a w h = max a h
+taken MIN a w h = min a h
+taken CHANCE a w h = a + w * h
+
+abbrev pub sealed : ℕ → Kind → ℕ → ℕ
+sealed T MAX a = a
+sealed T MIN a = a
+sealed T CHANCE a = a / T
+
+unfoldable pub takeAll : Kind → ℕ → List (Share ℕ) → ℕ
+takeAll k a [] = a
+takeAll k a (x ∷ xs) = takeAll k (taken k a (x .weight) (x .worth)) xs
+
+-- the numbers of an accepted table
+pub record OkScale (g : Scale) : Type 0 where
+  pub some : 0 < g .total
+  pub total : g .total ≤ 64
+  pub lowest : mag (g .lowest) ≤ 1000000
+  pub grain : g .grain ≤ 16777216
+  pub top : g .top ≤ 35184372088832
+
+-- nodes whose worths fit
+pub record Fits (g : Scale) (k : Kind) (f : Forest ℕ) : Type 0 where
+  pub filled : Filled f
+  pub small : Small (g .total) (g .grain) (g .top) f
+  pub sums : isChance k ≡ true → summed (heightShares (g .total) (g .grain) f) ≤ g .total * g .top
+
+-- a run of lines that can be judged: the children of a node of the kind k
+pub record Ready (S : List ℕ) (g : Scale) (k : Kind) (c e : ℕ) (s : List ℕ) : Type 0 where
+  pub nodes : Forest ℕ
+  pub lays : Lays S (g .lowest) c e s nodes
+  pub fits : Fits g k nodes
+  pub some : isEnd nodes ≡ false
+  pub long : length s ≡ 25 * (e - c)
+  pub room : e ≤ length S
+  pub few : e ≤ 1024
+  pub scale : OkScale g
+
+-- what the nodes of a run that can be judged are worth to their parent
+abbrev pub Worthy : List ℕ → Scale → Kind → ℕ → ℕ → List ℕ → ℕ → Type 0
+Worthy S g k c e s r = (R : Ready S g k c e s) → r ≡ heightValue (g .total) k (heightShares (g .total) (g .grain) (R .nodes))
