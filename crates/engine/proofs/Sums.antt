@@ -1,0 +1,63 @@
+-- Grains over the lowest end in signed numbers of 64 bits: each step fits, and the bits hold the number. Assumes nothing.
+use Prim.Native.Nat.{ℕ, zero, suc, _+_, _*_, _^_, _≤_, _<_}
+use native.Mathlib.Nat.{mul-le-mul}
+use native.Mathlib.Omega.{arith}
+use mathlib.Core.Path.{_≡_, refl}
+use mathlib.Core.Bool.{Bool, true, false}
+use lib.Dec.{ltb}
+use lib.IntN.{ℤ, pos, negsuc, negℤ, subℕ, _+ℤ_, _*ℤ_}
+use lib.Signed.{mag}
+use borrow.Author.Needs.{sfits-of}
+use mir.Syntax.{w64}
+use mir.Val.{SFits, toZ, ofZ}
+use mir.ValLaws.{toZ-ofZ}
+
+as-pos : (n : ℕ) → n < 2 ^ 63 → toZ w64 n ≡ pos n
+as-pos n h = toZ-ofZ w64 (pos n) (sfits-of h)
+
+pub read-back : (z : ℤ) → mag z < 2 ^ 63 → toZ w64 (ofZ w64 z) ≡ z
+read-back z h = toZ-ofZ w64 z (sfits-of h)
+
+mag-neg : (r : ℕ) → mag (negℤ (pos r)) ≤ r
+mag-neg zero = omega arith
+mag-neg (suc r) = omega arith
+
+mag-sub : (a b : ℕ) (t : Bool) → ltb a b ≡ t → mag (subℕ a b) ≤ a + b
+mag-sub a b true e = rw e (omega arith)
+mag-sub a b false e = rw e (omega arith)
+
+mag-add : (z : ℤ) (h : ℕ) → mag (z +ℤ pos h) ≤ mag z + h + 1
+mag-add (pos a) h = omega arith
+mag-add (negsuc a) h = omega (arith, mag-sub h (suc a) (ltb h (suc a)) refl)
+
+mag-mul : (z : ℤ) (g : ℕ) → mag (z *ℤ pos g) ≤ (mag z + 1) * g
+mag-mul (pos a) g = mul-le-mul (omega arith) (omega arith)
+mag-mul (negsuc a) g =
+    let k : mag (negℤ (pos (suc a * g))) ≤ suc a * g = mag-neg (suc a * g) in
+    let e : a + 1 ≡ suc a = omega arith in
+    rw e k
+
+module _ (z : ℤ) (g h : ℕ) (hz : mag z ≤ 1000000) (hg : g ≤ 16777216) (hh : h ≤ 35184372088832) where
+  product : mag (z *ℤ pos g) ≤ 16777232777216
+  product =
+      let up : mag z + 1 ≤ 1000001 = omega arith in
+      let k : (mag z + 1) * g ≤ 1000001 * 16777216 = mul-le-mul up hg in
+      omega (arith, mag-mul z g)
+
+  pub sum : mag (z *ℤ pos g +ℤ pos h) < 2 ^ 63
+  sum = omega (arith, product, mag-add (z *ℤ pos g) h)
+
+  mul-is : toZ w64 (ofZ w64 z) *ℤ toZ w64 g ≡ z *ℤ pos g
+  mul-is = rw (read-back z (omega arith), as-pos g (omega arith))
+
+  pub mul-fits : SFits w64 (toZ w64 (ofZ w64 z) *ℤ toZ w64 g)
+  mul-fits = rw mul-is (sfits-of (omega (arith, product)))
+
+  add-is : toZ w64 (ofZ w64 (toZ w64 (ofZ w64 z) *ℤ toZ w64 g)) +ℤ toZ w64 h ≡ z *ℤ pos g +ℤ pos h
+  add-is = rw (mul-is, read-back (z *ℤ pos g) (omega (arith, product)), as-pos h (omega arith))
+
+  pub add-fits : SFits w64 (toZ w64 (ofZ w64 (toZ w64 (ofZ w64 z) *ℤ toZ w64 g)) +ℤ toZ w64 h)
+  add-fits = rw add-is (sfits-of sum)
+
+  pub over-is : toZ w64 (ofZ w64 (toZ w64 (ofZ w64 (toZ w64 (ofZ w64 z) *ℤ toZ w64 g)) +ℤ toZ w64 h)) ≡ z *ℤ pos g +ℤ pos h
+  over-is = rw add-is (read-back (z *ℤ pos g +ℤ pos h) sum)

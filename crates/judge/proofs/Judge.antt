@@ -1,0 +1,192 @@
+-- The judgement of every accepted table: its losses over heights, none negative, and a best child. Assumes nothing.
+use Prim.Native.Nat.{ℕ, suc, _+_, _≤_, _<_}
+use mathlib.Core.Path.{_≡_, refl, sym, ap, ap₂, _∙_}
+use mathlib.Core.Bool.{Bool, true, false}
+use mathlib.Core.List.{List, _∷_, map}
+use mathlib.Core.Option.{Option, none, some}
+use native.Mathlib.Nat.{one-le-pow}
+use native.Mathlib.Omega.{arith}
+use lib.IntN.{ℤ, pos, _+ℤ_, _*ℤ_}
+use lib.Signed.{leZ}
+use lib.Dec.{leb·zero}
+use Rattle.line.specs.declared.Head.{Head}
+use Rattle.line.specs.Refusal.{fine}
+use Rattle.line.specs.Line.{Within}
+use Rattle.table.specs.Tree.{Forest, end, leaf, inner, isChance}
+use Rattle.table.specs.Table.{Table, tree, readText, greatest, grain}
+use Rattle.table.specs.Slices.{heightTree}
+use Rattle.table.specs.Accepted.{one, Filled, Balanced, Proper}
+use Rattle.table.proofs.Heights.{above, mapForest, heights-map}
+use Rattle.table.proofs.Accepted.{accepted-ranged, accepted-proper, accepted-filled, accepted-balanced, heights-filled}
+use Rattle.worth.specs.Worth.{Share, shares, worthOf}
+use Rattle.worth.specs.Heights.{heightShares, heightWorth, raised}
+use Rattle.worth.proofs.Bounds.{Each}
+use Rattle.worth.proofs.Shift.{shares-shift}
+use Rattle.worth.proofs.Worth.{shift}
+use Rattle.judge.specs.Judge.{Side, Root, undecided, decided, rootOf, children, nodes, numbered, worths, lossAt, levels, noDecision, judged, judgeChild, judgeAt, judge}
+use Rattle.judge.specs.Heights.{heightWorths, heightLoss, heightLevels, heightJudgeChild, heightJudgeAt, heightJudge, Ahead}
+use Rattle.judge.proofs.Best.{Met, none-lost, met-level, best-ahead, best-met}
+use Rattle.judge.proofs.Shift.{mapped, numbered-map, numbered-each, loss-shift, levels-shift, judge-shift}
+
+-- ---- other values at the leaves
+
+module _ {A B : Type 0} (g : A → B) where
+  root-map : (F : Forest A) → rootOf (mapForest g F) ≡ rootOf F
+  root-map end = refl
+  root-map (leaf n w v rest) = refl
+  root-map (inner n w k under rest) = refl
+
+  children-map : (F : Forest A) → children (mapForest g F) ≡ mapForest g (children F)
+  children-map end = refl
+  children-map (leaf n w v rest) = refl
+  children-map (inner n w k under rest) = refl
+
+  nodes-map : (F : Forest A) → nodes (mapForest g F) ≡ nodes F
+  unfolding nodes
+  nodes-map end = refl
+  nodes-map (leaf n w v rest) = ap (λ (ns : List ℕ). n ∷ ns) (nodes-map rest)
+  nodes-map (inner n w k under rest) = ap (λ (ns : List ℕ). n ∷ ns) (nodes-map rest)
+
+-- the children of the first node
+children-shift : (T G : ℕ) (h : Head) (T-pos : 0 < T) (K d c : ℕ) (u : Bool) (F : Forest ℤ)
+    → Proper T K (Within h) d c u F → Filled F → Balanced T F
+    → shares T G (children F) ≡ map (raised (h .lowest *ℤ pos G)) (heightShares T G (mapForest (above (h .lowest)) (children F)))
+unfolding shares heightShares
+children-shift T G h T-pos K d c u end p f b = refl
+children-shift T G h T-pos K d c u (leaf n w v rest) p f b = refl
+children-shift T G h T-pos K d c u (inner n w k under rest) p f b =
+    shares-shift T G h T-pos K (suc d) (c + one k) (isChance k) under (p .3) (f .1) (b .1)
+
+-- ---- one child over heights and over the integers
+
+-- a child with a worth over the integers has one over heights
+back : (b : ℤ) (o : Option (Share ℕ)) (x : Share ℤ) → mapped (raised b) o ≡ some x → (y : Share ℕ) × (o ≡ some y) × (raised b y ≡ x)
+back b none x e = let z : _≡_ {A = ℕ} 0 1 = cc in absurd (omega arith)
+back b (some y) x e = (y, refl, cc)
+
+-- a judgement that gives a loss gives that of a child
+child-judged : (s : Side) (G best : ℕ) (xs : List (Share ℕ)) (o : Option (Share ℕ)) (loss : ℤ) (level : ℕ)
+    → heightJudgeChild s G best xs o ≡ judged loss level → (n : ℕ) × (pos n ≡ loss) × (heightLevels s G best xs ≡ level)
+child-judged s G best xs none loss level e = let z : _≡_ {A = ℕ} 0 1 = cc in absurd (omega arith)
+child-judged s G best xs (some x) loss level e = (heightLoss s best (x .worth), cc, cc)
+
+root-judged : (r : Root) (G best : ℕ) (xs : List (Share ℕ)) (i loss : ℤ) (level : ℕ)
+    → heightJudgeAt r G best xs i ≡ judged loss level
+    → (s : Side) × (n : ℕ) × (r ≡ decided s) × (pos n ≡ loss) × (heightLevels s G best xs ≡ level)
+root-judged undecided G best xs i loss level e = let z : _≡_ {A = ℕ} 0 1 = cc in absurd (omega arith)
+root-judged (decided s) G best xs i loss level e =
+    let (n, p, q) = child-judged s G best xs (numbered i xs) loss level e in
+    (s, n, refl, p, q)
+
+not-below : (n : ℕ) (z : ℤ) → pos n ≡ z → leZ (pos 0) z ≡ true
+not-below n z e = sym (ap (leZ (pos 0)) e) ∙ leb·zero n
+
+-- ---- the theorems
+
+module _ (s : List ℕ) (t : Table) (h : readText s ≡ fine t) where
+  -- the lowest end in grains
+  abbrev base : ℤ
+  base = t .head .lowest *ℤ pos (grain t)
+
+  pub some-grains : 1 ≤ grain t
+  some-grains = one-le-pow (greatest (t .lines)) (t .head .total) (accepted-ranged s t h .some)
+
+  -- ---- over heights
+
+  pub root-heights : rootOf (heightTree t) ≡ rootOf (tree t)
+  root-heights = ap rootOf (heights-map t) ∙ root-map (above (t .head .lowest)) (tree t)
+
+  children-heights : mapForest (above (t .head .lowest)) (children (tree t)) ≡ children (heightTree t)
+  children-heights = sym (ap children (heights-map t) ∙ children-map (above (t .head .lowest)) (tree t))
+
+  -- the root's children by node number
+  pub nodes-heights : nodes (children (heightTree t)) ≡ nodes (children (tree t))
+  nodes-heights = ap nodes (sym children-heights) ∙ nodes-map (above (t .head .lowest)) (children (tree t))
+
+  pub worths-heights : worths t ≡ map (raised base) (heightWorths t)
+  worths-heights =
+      children-shift (t .head .total) (grain t) (t .head) (accepted-ranged s t h .some) (greatest (t .lines)) 0 0 false (tree t)
+      (accepted-proper s t h) (accepted-filled s t h) (accepted-balanced s t h)
+      ∙ ap (λ (F : Forest ℕ). map (raised base) (heightShares (t .head .total) (grain t) F)) children-heights
+
+  pub heights-ahead : (side : Side) → rootOf (tree t) ≡ decided side → Each (Ahead side (heightWorth t)) (heightWorths t)
+  heights-ahead side e = best-ahead (t .head .total) (grain t) side (heightTree t) (root-heights ∙ e)
+
+  -- the whole judgement
+  pub judge-heights : (i : ℤ) → judge t i ≡ heightJudge t i
+  judge-heights i =
+      ap₂ (λ (z : ℤ) (xs : List (Share ℤ)). judgeAt (rootOf (tree t)) (grain t) z xs i) (shift s t h) worths-heights
+      ∙ judge-shift base (rootOf (tree t)) (grain t) (heightWorth t) (heightWorths t) i heights-ahead
+      ∙ ap (λ (r : Root). heightJudgeAt r (grain t) (heightWorth t) (heightWorths t) i) (sym root-heights)
+
+  module _ (side : Side) (e : rootOf (tree t) ≡ decided side) where
+    -- a child's loss is the difference of the heights
+    pub loss-heights : (i : ℤ) (x : Share ℤ) → numbered i (worths t) ≡ some x
+        → (y : Share ℕ) × (numbered i (heightWorths t) ≡ some y) × (lossAt side (worthOf t) (x .worth) ≡ pos (heightLoss side (heightWorth t) (y .worth)))
+    loss-heights i x f =
+        let g : mapped (raised base) (numbered i (heightWorths t)) ≡ some x =
+        sym (numbered-map (raised base) i (heightWorths t)) ∙ ap (numbered i) (sym worths-heights) ∙ f in
+        let (y, p, q) = back base (numbered i (heightWorths t)) x g in (
+          y,
+          p,
+          ap₂ (λ (z : ℤ) (v : Share ℤ). lossAt side z (v .worth)) (shift s t h) (sym q)
+              ∙ loss-shift base side (heightWorth t) (y .worth) (numbered-each (Ahead side (heightWorth t)) (heightWorths t) i y (heights-ahead side e) p),
+        )
+
+    -- a loss is never negative
+    pub loss-natural : (i : ℤ) (x : Share ℤ) → numbered i (worths t) ≡ some x → leZ (pos 0) (lossAt side (worthOf t) (x .worth)) ≡ true
+    loss-natural i x f =
+        let (y, p, q) = loss-heights i x f in
+        not-below (heightLoss side (heightWorth t) (y .worth)) (lossAt side (worthOf t) (x .worth)) (sym q)
+
+    met : Met (heightWorths t) (heightWorth t)
+    met = best-met (t .head .total) (grain t) side (heightTree t) (heights-filled s t h) (root-heights ∙ e)
+
+    -- some child has loss 0
+    pub best-child : (i : ℤ) × (x : Share ℤ) × (numbered i (worths t) ≡ some x) × (lossAt side (worthOf t) (x .worth) ≡ pos 0)
+    best-child =
+        let f : numbered (pos (suc (met .place))) (worths t) ≡ some (raised base (met .share)) =
+        ap (numbered (pos (suc (met .place)))) worths-heights
+        ∙ numbered-map (raised base) (pos (suc (met .place))) (heightWorths t)
+        ∙ ap (mapped (raised base)) (met .there) in (
+          pos (suc (met .place)),
+          raised base (met .share),
+          f,
+          ap (λ (z : ℤ). lossAt side z (base +ℤ pos (met .share .worth))) (shift s t h)
+              ∙ loss-shift base side (heightWorth t) (met .share .worth)
+              (numbered-each (Ahead side (heightWorth t)) (heightWorths t) (pos (suc (met .place))) (met .share) (heights-ahead side e) (met .there))
+              ∙ ap pos (none-lost side (heightWorth t) (met .share .worth) (met .worth)),
+        )
+
+    pub levels-heights : levels side (grain t) (worthOf t) (worths t) ≡ heightLevels side (grain t) (heightWorth t) (heightWorths t)
+    levels-heights =
+        ap₂ (levels side (grain t)) (shift s t h) worths-heights
+        ∙ levels-shift base side (grain t) (heightWorth t) (heightWorths t) (heights-ahead side e)
+
+    -- at least one child is level
+    level-heights : 1 ≤ heightLevels side (grain t) (heightWorth t) (heightWorths t)
+    level-heights =
+        met-level side (grain t) (heightWorth t) (met .place) (heightWorths t) (met .share) (met .there) (met .worth) some-grains
+
+    pub some-level : 1 ≤ levels side (grain t) (worthOf t) (worths t)
+    some-level = rw levels-heights level-heights
+
+    pub best-judged : (i : ℤ) × (level : ℕ) × (judge t i ≡ judged (pos 0) level)
+    best-judged =
+        let (i, x, f, z) = best-child in (
+          i,
+          levels side (grain t) (worthOf t) (worths t),
+          ap (λ (r : Root). judgeAt r (grain t) (worthOf t) (worths t) i) e
+              ∙ ap (judgeChild side (grain t) (worthOf t) (worths t)) f
+              ∙ ap (λ (l : ℤ). judged l (levels side (grain t) (worthOf t) (worths t))) z,
+        )
+
+  -- of every judgement with a loss: the loss is not negative, and a child is level
+  pub judged-sound : (i loss : ℤ) (level : ℕ) → judge t i ≡ judged loss level → (leZ (pos 0) loss ≡ true) × (1 ≤ level)
+  judged-sound i loss level e =
+      let (side, n, r, p, q) = root-judged (rootOf (heightTree t)) (grain t) (heightWorth t) (heightWorths t) i loss level (sym (judge-heights i) ∙ e) in
+      (not-below n loss p, rw q at (level-heights side (sym root-heights ∙ r)))
+
+  -- at a C or L root there is no decision, for every number
+  pub undecided-judged : rootOf (tree t) ≡ undecided → (i : ℤ) → judge t i ≡ noDecision
+  undecided-judged e i = ap (λ (r : Root). judgeAt r (grain t) (worthOf t) (worths t) i) e

@@ -1,0 +1,78 @@
+-- The judgement over the integers is the judgement over heights, where no child is better than the best. Assumes nothing.
+use Prim.Native.Nat.{ℕ, zero, suc, _+_, _-_}
+use mathlib.Core.Path.{_≡_, refl, ap, ap₂, _∙_}
+use mathlib.Core.Bool.{cond}
+use mathlib.Core.List.{List, [], _∷_, map}
+use mathlib.Core.Option.{Option, none, some}
+use native.Mathlib.Omega.{arith}
+use lib.ListN.{getElem?}
+use lib.IntN.{ℤ, pos, negsuc, _+ℤ_, _-ℤ_}
+use lib.Signed.{ltZ}
+use Rattle.worth.specs.Worth.{Share}
+use Rattle.worth.specs.Heights.{raised}
+use Rattle.worth.proofs.Signs.{plus, minus, parts, is-unique, is-minus}
+use Rattle.worth.proofs.Bounds.{Each}
+use Rattle.worth.proofs.Shift.{lift}
+use Rattle.judge.specs.Judge.{Side, AtM, AtN, Root, undecided, decided, numbered, lossAt, levels, judgeChild, judgeAt}
+use Rattle.judge.specs.Heights.{heightLoss, heightLevels, heightJudgeChild, heightJudgeAt, Ahead}
+
+-- ---- entries by number
+
+abbrev pub mapped : {A B : Type 0} → (A → B) → Option A → Option B
+mapped f none = none
+mapped f (some x) = some (f x)
+
+entry-map : {A B : Type 0} (f : A → B) (xs : List A) (k : ℕ) → getElem? (map f xs) k ≡ mapped f (getElem? xs k)
+entry-map f [] k = refl
+entry-map f (x ∷ xs) zero = refl
+entry-map f (x ∷ xs) (suc k) = entry-map f xs k
+
+pub numbered-map : {A B : Type 0} (f : A → B) (i : ℤ) (xs : List A) → numbered i (map f xs) ≡ mapped f (numbered i xs)
+numbered-map f (pos zero) xs = refl
+numbered-map f (pos (suc k)) xs = entry-map f xs k
+numbered-map f (negsuc k) xs = refl
+
+entry-each : (P : ℕ → Type 0) (xs : List (Share ℕ)) (k : ℕ) (x : Share ℕ) → Each P xs → getElem? xs k ≡ some x → P (x .worth)
+entry-each P [] k x p e = let z : _≡_ {A = ℕ} 0 1 = cc in absurd (omega arith)
+entry-each P (y ∷ ys) zero x p e = let same : y ≡ x = cc in rw same at (p .0)
+entry-each P (y ∷ ys) (suc k) x p e = entry-each P ys k x (p .1) e
+
+pub numbered-each : (P : ℕ → Type 0) (xs : List (Share ℕ)) (i : ℤ) (x : Share ℕ) → Each P xs → numbered i xs ≡ some x → P (x .worth)
+numbered-each P xs (pos zero) x p e = let z : _≡_ {A = ℕ} 0 1 = cc in absurd (omega arith)
+numbered-each P xs (pos (suc k)) x p e = entry-each P xs k x p e
+numbered-each P xs (negsuc k) x p e = let z : _≡_ {A = ℕ} 0 1 = cc in absurd (omega arith)
+
+-- ---- the difference of two worths
+
+minus-shift : (b : ℤ) (m n d : ℕ) → d + n ≡ m → (b +ℤ pos m) -ℤ (b +ℤ pos n) ≡ pos d
+minus-shift b m n d h =
+    let p : ℕ = plus b in
+    let q : ℕ = minus b in
+    is-unique ((b +ℤ pos m) -ℤ (b +ℤ pos n)) (pos d) ((p + m) + q) (q + (p + n))
+    (is-minus (b +ℤ pos m) (b +ℤ pos n) (p + m) q (p + n) q (lift b p q m (parts b)) (lift b p q n (parts b))) (omega arith)
+
+-- where the lowest end is b grains
+module _ (b : ℤ) where
+  pub loss-shift : (s : Side) (best v : ℕ) → Ahead s best v → lossAt s (b +ℤ pos best) (b +ℤ pos v) ≡ pos (heightLoss s best v)
+  loss-shift AtM best v h = minus-shift b best v (best - v) (omega arith)
+  loss-shift AtN best v h = minus-shift b v best (v - best) (omega arith)
+
+  pub levels-shift : (s : Side) (G best : ℕ) (xs : List (Share ℕ)) → Each (Ahead s best) xs
+      → levels s G (b +ℤ pos best) (map (raised b) xs) ≡ heightLevels s G best xs
+  unfolding levels heightLevels
+  levels-shift s G best [] p = refl
+  levels-shift s G best (x ∷ xs) p =
+      ap₂ (λ (z : ℤ) (n : ℕ). cond (ltZ z (pos G)) 1 0 + n) (loss-shift s best (x .worth) (p .0)) (levels-shift s G best xs (p .1))
+
+  child-shift : (s : Side) (G best : ℕ) (xs : List (Share ℕ)) (o : Option (Share ℕ)) → Each (Ahead s best) xs
+      → ((x : Share ℕ) → o ≡ some x → Ahead s best (x .worth))
+      → judgeChild s G (b +ℤ pos best) (map (raised b) xs) (mapped (raised b) o) ≡ heightJudgeChild s G best xs o
+  child-shift s G best xs none p f = refl
+  child-shift s G best xs (some x) p f = rw (loss-shift s best (x .worth) (f x refl), levels-shift s G best xs p)
+
+  pub judge-shift : (r : Root) (G best : ℕ) (xs : List (Share ℕ)) (i : ℤ) → ((s : Side) → r ≡ decided s → Each (Ahead s best) xs)
+      → judgeAt r G (b +ℤ pos best) (map (raised b) xs) i ≡ heightJudgeAt r G best xs i
+  judge-shift undecided G best xs i f = refl
+  judge-shift (decided s) G best xs i f =
+      ap (judgeChild s G (b +ℤ pos best) (map (raised b) xs)) (numbered-map (raised b) i xs)
+      ∙ child-shift s G best xs (numbered i xs) (f s refl) (λ (x : Share ℕ) e. numbered-each (Ahead s best) xs i x (f s refl) e)

@@ -1,0 +1,56 @@
+-- The judgement over heights, in grains above the lowest end: what is computed with. Assumes nothing.
+use Prim.Native.Nat.{ℕ, zero, suc, _+_, _-_, _≤_}
+use mathlib.Core.Bool.{cond}
+use mathlib.Core.List.{List, [], _∷_}
+use mathlib.Core.Option.{Option, none, some}
+use lib.Dec.{ltb}
+use lib.IntN.{ℤ, pos}
+use Rattle.table.specs.Tree.{Forest, end, leaf, inner}
+use Rattle.table.specs.Table.{Table, grain}
+use Rattle.table.specs.Slices.{heightTree}
+use Rattle.worth.specs.Worth.{Share}
+use Rattle.worth.specs.Heights.{heightShares, heightWorth}
+use Rattle.judge.specs.Judge.{Side, AtM, AtN, Root, undecided, decided, rootOf, children, numbered, Judgement, noDecision, judged, noSuchChild}
+
+-- the root's children with their worths
+abbrev pub heightWorths : Table → List (Share ℕ)
+heightWorths t = heightShares (t .head .total) (grain t) (children (heightTree t))
+
+abbrev pub heightLoss : Side → (best height : ℕ) → ℕ
+heightLoss AtM best height = best - height
+heightLoss AtN best height = height - best
+
+-- how many children have a loss below G
+unfoldable pub heightLevels : Side → (G best : ℕ) → List (Share ℕ) → ℕ
+heightLevels s G best [] = 0
+heightLevels s G best (x ∷ xs) = cond (ltb (heightLoss s best (x .worth)) G) 1 0 + heightLevels s G best xs
+
+abbrev pub heightJudgeChild : Side → (G best : ℕ) (xs : List (Share ℕ)) → Option (Share ℕ) → Judgement
+heightJudgeChild s G best xs none = noSuchChild
+heightJudgeChild s G best xs (some x) = judged (pos (heightLoss s best (x .worth))) (heightLevels s G best xs)
+
+abbrev pub heightJudgeAt : Root → (G best : ℕ) (xs : List (Share ℕ)) → ℤ → Judgement
+heightJudgeAt undecided G best xs i = noDecision
+heightJudgeAt (decided s) G best xs i = heightJudgeChild s G best xs (numbered i xs)
+
+abbrev pub heightJudge : Table → ℤ → Judgement
+heightJudge t i = heightJudgeAt (rootOf (heightTree t)) (grain t) (heightWorth t) (heightWorths t) i
+
+-- no child is better than the best
+abbrev pub Ahead : Side → (best height : ℕ) → Type 0
+Ahead AtM best height = height ≤ best
+Ahead AtN best height = best ≤ height
+
+module _ {A : Type 0} where
+  -- nodes with one parent without the first k: the child of number k + 1 with all under it, and those after it
+  unfoldable pub from : ℕ → Forest A → Forest A
+  from zero F = F
+  from (suc k) end = end
+  from (suc k) (leaf n w v rest) = from k rest
+  from (suc k) (inner n w kind under rest) = from k rest
+
+  -- the number of the first node
+  abbrev pub firstNode : Forest A → Option ℕ
+  firstNode end = none
+  firstNode (leaf n w v rest) = some n
+  firstNode (inner n w kind under rest) = some n

@@ -1,0 +1,1 @@
+// Judging the play made.
