@@ -1,15 +1,19 @@
--- An accepted table's numbers are small, and so is a refusal's. Assumes nothing.
+-- What an answer tells of the text, and that its numbers are small. Assumes nothing.
 use Prim.Native.Nat.{ℕ, _≤_}
-use mathlib.Core.Path.{_≡_, subst}
+use mathlib.Core.Path.{_≡_, ap₂, subst, _∙_}
 use mathlib.Core.List.{List}
 use native.Mathlib.Omega.{arith}
+use lib.ListN.{set}
+use lib.IntN.{ℤ}
 use Rattle.line.specs.declared.Refusal.{Refusal}
 use Rattle.line.specs.declared.Refusal.the-variants.{Length, IllWritten, OutOfRange, Misnumbered, UnknownKind, WrongParent, Misfilled, Childless, WrongSum, TooDeep}
-use Rattle.line.specs.Refusal.{numberOf}
+use Rattle.line.specs.Refusal.{Verdict, refused, fine, numberOf}
 use Rattle.table.specs.declared.Summary.{Summary}
 use Rattle.table.specs.declared.Reading.the-variants.{Accepted}
-use Rattle.table.specs.Table.{readText, answer}
+use Rattle.table.specs.Table.{Table, readText, answer, grain}
 use Rattle.table.proofs.Accepted.{answer-accepted, accepted-ranged, accepted-size, accepted-few, accepted-grain, accepted-leaf-lines}
+use Rattle.engine.specs.declared.Exact.the-variants.{Grains, Refused}
+use Rattle.engine.specs.Calls.{exactCall}
 use Rattle.abi.specs.Numbers.{Small}
 
 pub small : (s : List ℕ) (t : Summary) → answer (readText s) ≡ Accepted t → Small t
@@ -34,3 +38,20 @@ number-small (Misfilled n) = omega arith
 number-small (Childless n) = omega arith
 number-small (WrongSum n) = omega arith
 number-small (TooDeep n) = omega arith
+
+pub exact-refused : (v : Verdict Table) (r : Refusal) → exactCall v ≡ Refused r → v ≡ refused r
+exact-refused (refused x) r e = cc
+exact-refused (fine t) r e = let z : _≡_ {A = ℕ} 0 1 = cc in absurd (omega arith)
+
+exact-grains : (v : Verdict Table) (z : ℤ) (g : ℕ) → exactCall v ≡ Grains z g → (T : Table) × (v ≡ fine T) × (grain T ≡ g)
+exact-grains (refused x) z g e = let z : _≡_ {A = ℕ} 0 1 = cc in absurd (omega arith)
+exact-grains (fine T) z g e = (T, cc, cc)
+
+pub exact-small : (s : List ℕ) (z : ℤ) (g : ℕ) → exactCall (readText s) ≡ Grains z g → g ≤ 16777216
+exact-small s z g e =
+    let (T, p, q) = exact-grains (readText s) z g e in
+    omega (arith, q, accepted-grain s T p)
+
+-- an entry more was written
+pub stored : {a b b′ : List ℤ} {z z′ : ℤ} (i : ℕ) → a ≡ set b i z → b ≡ b′ → z ≡ z′ → a ≡ set b′ i z′
+stored i p q r = p ∙ ap₂ (λ (x : List ℤ) (y : ℤ). set x i y) q r

@@ -7,6 +7,8 @@ use Rattle.table.specs.declared.Summary.{Summary}
 use Rattle.table.specs.declared.Reading.{Reading}
 use Rattle.table.specs.declared.Reading.the-variants.{Accepted, Refused}
 use Rattle.line.specs.Refusal.{numberOf, lineOf}
+use Rattle.engine.specs.declared.Exact
+use Rattle.engine.specs.declared.Exact.{Exact}
 
 -- 0, or the refusal's line and number as one: the number in the last two decimal digits, so that 309 is refusal 9 at line 3
 abbrev pub codeOf : Reading → ℕ
@@ -18,6 +20,15 @@ abbrev pub numbersOf : Reading → List ℤ
 numbersOf (Accepted t) =
     pos (t .nodes) ∷ pos (t .total) ∷ t .lowest ∷ t .highest ∷ pos (t .chances) ∷ pos (t .grain) ∷ pos (t .leaves) ∷ []
 numbersOf (Refused r) = []
+
+-- the same of the exact worth: the worth and G
+abbrev pub worthCode : Exact → ℕ
+worthCode (Exact.the-variants.Grains z g) = 0
+worthCode (Exact.the-variants.Refused r) = codeOf (Refused r)
+
+abbrev pub worthNumbers : Exact → List ℤ
+worthNumbers (Exact.the-variants.Grains z g) = z ∷ pos g ∷ []
+worthNumbers (Exact.the-variants.Refused r) = []
 
 -- the list l with xs written from its entry i on, as far as it goes
 abbrev pub put : ℕ → List ℤ → List ℤ → List ℤ

@@ -7,7 +7,9 @@ ghost use lib.IntN.{pos};
 ghost use Rattle.line.specs.Refusal.{lineOf};
 ghost use Rattle.table.specs.Table.{readText, answer};
 ghost use Rattle.table.specs.Slices.{fitted, kindsOf, stopsOf, weightsOf, heightsOf, decoded};
-ghost use Rattle.abi.specs.Numbers.{codeOf, numbersOf, put, Small};
+ghost use Rattle.engine.specs.Calls.{exactCall};
+ghost use Rattle.abi.specs.Numbers.{codeOf, numbersOf, worthCode, worthNumbers, put, Small};
+use engine::Exact;
 use line::Refusal;
 use table::Reading;
 use table::Summary;
@@ -69,6 +71,29 @@ pub extern "C" fn margin_read(
         Reading::Refused(r) => refusal_code(r),
         Reading::Accepted(t) => {
             put_table(t, numbers);
+            0
+        }
+    }
+}
+
+fn put_worth(z: i64, g: u64, numbers: &mut [i64])
+    requires { ⌜ g < 2 ^ 63 ⌝ }
+    ensures { λ _. ⌜ now (numbers .exit) ≡ put 0 (worthNumbers (Exact.Grains z g)) (now (numbers .entry)) ⌝ }
+{
+    put_at(numbers, 0, z);
+    put_at(numbers, 1, signed(g));
+}
+
+// The exact worth in grains and G go to `numbers`. Where the table is refused, nothing is written.
+#[no_mangle]
+pub extern "C" fn margin_worth(text: &[u8], numbers: &mut [i64]) -> u64
+    ensures code { λ r. ⌜ r ≡ worthCode (exactCall (readText (now (text .entry)))) ⌝ }
+    ensures numbers { λ _. ⌜ now (numbers .exit) ≡ put 0 (worthNumbers (exactCall (readText (now (text .entry))))) (now (numbers .entry)) ⌝ }
+{
+    match engine::exact_worth(text) {
+        Exact::Refused(r) => refusal_code(r),
+        Exact::Grains(z, g) => {
+            put_worth(z, g, numbers);
             0
         }
     }

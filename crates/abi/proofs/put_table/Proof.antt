@@ -1,13 +1,10 @@
 -- `abi::put_table` meets its contract. Assumes nothing.
-use Prim.Native.Nat.{ℕ}
-use mathlib.Core.Path.{_≡_, refl, ap₂, _∙_}
-use mathlib.Core.List.{List}
+use mathlib.Core.Path.{_≡_, refl, _∙_}
 use borrow.Author.Needs.{needs}
 use denote.Ref.{now}
-use lib.ListN.{set}
-use lib.IntN.{ℤ}
 use mir.Syntax.{w64}
 use mir.Val.{toZ, ofZ}
+use Rattle.abi.proofs.Answers.{stored}
 use Rattle.abi.proofs.put_table.Statement.{statement}
 use Rattle.abi.proofs.put_table.Tie as tie
 
@@ -16,9 +13,6 @@ lowest-back s = search needs
 
 highest-back : (s : tie.Start) → toZ w64 (ofZ w64 (s .args .t .highest)) ≡ s .args .t .highest
 highest-back s = search needs
-
-stored : {a b b′ : List ℤ} {z z′ : ℤ} (i : ℕ) → a ≡ set b i z → b ≡ b′ → z ≡ z′ → a ≡ set b′ i z′
-stored i p q r = p ∙ ap₂ (λ (x : List ℤ) (y : ℤ). set x i y) q r
 
 signed-requires : tie.Need-signed-requires
 signed-requires c κs = search needs
