@@ -1,6 +1,6 @@
 //! Calls the proved engine through its C interface.
 //!
-//! The only `unsafe` of this crate is here, in `read_into`.
+//! The only `unsafe` of this crate is here, in `read_into` and `worth`.
 
 use crate::second::MOST_NODES;
 
@@ -19,6 +19,13 @@ mod abi {
             weight_len: usize,
             height: *mut u32,
             height_len: usize,
+        ) -> u64;
+
+        pub fn margin_worth(
+            text: *const u8,
+            text_len: usize,
+            numbers: *mut i64,
+            numbers_len: usize,
         ) -> u64;
     }
 }
@@ -96,6 +103,24 @@ pub fn read_into(
             weight.len(),
             height.as_mut_ptr(),
             height.len(),
+        )
+    }
+}
+
+/// The exact worth of the table in `text`. Returns what `read` returns; for an
+/// accepted table the worth in grains and G stand first in `numbers`, as far as
+/// there is room. All else in it is left as it was, and everything where the
+/// table is refused.
+#[allow(unsafe_code)]
+pub fn worth(text: &[u8], numbers: &mut [i64]) -> u64 {
+    // Sound: each pointer stands with the length of what it points to, and the
+    // two slices are apart from each other and lent for the length of the call.
+    unsafe {
+        abi::margin_worth(
+            text.as_ptr(),
+            text.len(),
+            numbers.as_mut_ptr(),
+            numbers.len(),
         )
     }
 }

@@ -2,7 +2,7 @@
 //!
 //! - `engine` calls the proved engine.
 //! - `second` is the second engine, written from document 01 alone.
-//! - `random` and `texts` make the random texts that both are given.
+//! - `random` and `texts` make the texts that both are given.
 //!
 //! The comparisons are in `tests`, the benchmark in `src/bin/bench.rs`.
 

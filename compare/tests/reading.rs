@@ -5,38 +5,31 @@
 //! The environment variable SEED sets the seed of the random texts, CASES their
 //! number.
 
-use std::io::Write;
-use std::time::Instant;
+mod common;
 
+use common::{code, demand, Tally};
 use compare::engine::{self, Lent};
 use compare::random::{number_from_environment, seed, Random};
 use compare::second::{self, Kind, Refusal, Table, LINE, MOST_NODES};
 use compare::texts;
+use compare::texts::examples::*;
+use compare::texts::small::{for_each, lines, Utilities};
 
 // ---------------------------------------------------------------------------
 // The comparison
 // ---------------------------------------------------------------------------
 
-/// Compares the two engines on texts, and counts what came of them.
+/// Compares the two engines on texts.
 struct Comparison {
-    name: &'static str,
-    seed: u64,
-    began: Instant,
+    tally: Tally,
     lent: Box<Lent>,
-    cases: u64,
-    /// How often each refusal came, by its number; at 0 the accepted tables.
-    counts: [u64; 11],
 }
 
 impl Comparison {
     fn new(name: &'static str) -> Comparison {
         Comparison {
-            name,
-            seed: seed(),
-            began: Instant::now(),
+            tally: Tally::new(name),
             lent: Box::new(Lent::PATTERN),
-            cases: 0,
-            counts: [0; 11],
         }
     }
 
@@ -47,72 +40,44 @@ impl Comparison {
         let got = engine::read(text, &mut self.lent);
         if got != returned || *self.lent != expected {
             panic!(
-                "{}: seed {}, case {}: the engines differ\n{}text of {} bytes:\n{}",
-                self.name,
-                self.seed,
-                self.cases,
+                "{}: the engines differ\n{}text of {} bytes:\n{}",
+                self.tally.place(),
                 differences(returned, &expected, got, &self.lent),
                 text.len(),
                 escaped(text),
             );
         }
-        self.cases += 1;
-        self.counts[(returned % 100) as usize] += 1;
+        self.tally.add(returned);
         answer
     }
-
-    fn report(&self) {
-        let mut report = format!(
-            "{}: seed {}, {} texts in {:.1} s; accepted {}; refused",
-            self.name,
-            self.seed,
-            self.cases,
-            self.began.elapsed().as_secs_f64(),
-            self.counts[0],
-        );
-        for (number, count) in self.counts.iter().enumerate().skip(1) {
-            report += &format!("  {number}: {count}");
-        }
-        say(&report);
-    }
-}
-
-/// Writes a line where the test harness does not hold it back, as it does the
-/// output of a test that passes.
-fn say(line: &str) {
-    let line = format!("\n{line}\n");
-    std::io::stderr().write_all(line.as_bytes()).expect("write");
 }
 
 /// What the proved engine must return, and what must then stand in the arrays.
 fn expected(answer: &Result<Table, Refusal>) -> (u64, Lent) {
     let mut lent = Lent::PATTERN;
-    match answer {
-        Err(refusal) => (100 * refusal.line as u64 + u64::from(refusal.number), lent),
-        Ok(table) => {
-            lent.numbers[..7].copy_from_slice(&[
-                table.nodes.len() as i64,
-                table.total,
-                table.lowest,
-                table.highest,
-                i64::from(table.chances),
-                table.grains,
-                table.leaves as i64,
-            ]);
-            for (i, node) in table.nodes.iter().enumerate() {
-                lent.kind[i] = match node.kind {
-                    Kind::Leaf => 0,
-                    Kind::Max => 1,
-                    Kind::Min => 2,
-                    Kind::Chance => 3,
-                };
-                lent.stop[i] = node.stop as u16;
-                lent.weight[i] = node.weight.unwrap_or(0) as u8;
-                lent.height[i] = node.utility.map_or(0, |u| (u - table.lowest) as u32);
-            }
-            (0, lent)
+    if let Ok(table) = answer {
+        lent.numbers[..7].copy_from_slice(&[
+            table.nodes.len() as i64,
+            table.total,
+            table.lowest,
+            table.highest,
+            i64::from(table.chances),
+            table.grains,
+            table.leaves as i64,
+        ]);
+        for (i, node) in table.nodes.iter().enumerate() {
+            lent.kind[i] = match node.kind {
+                Kind::Leaf => 0,
+                Kind::Max => 1,
+                Kind::Min => 2,
+                Kind::Chance => 3,
+            };
+            lent.stop[i] = node.stop as u16;
+            lent.weight[i] = node.weight.unwrap_or(0) as u8;
+            lent.height[i] = node.utility.map_or(0, |u| (u - table.lowest) as u32);
         }
     }
+    (code(answer), lent)
 }
 
 /// Names what differs: the numbers whole, of each other array the first entry.
@@ -138,13 +103,6 @@ fn differences(returned: u64, expected: &Lent, got_returned: u64, got: &Lent) ->
     report += &first("weight", &expected.weight, &got.weight);
     report += &first("height", &expected.height, &got.height);
     report
-}
-
-/// The text with every byte visible, 25 bytes to a line.
-fn escaped(text: &[u8]) -> String {
-    text.chunks(LINE)
-        .map(|line| format!("\"{}\"\n", line.escape_ascii()))
-        .collect()
 }
 
 // ---------------------------------------------------------------------------
@@ -209,13 +167,13 @@ fn random_texts() {
     let mut seen = Seen::default();
     let cases = number_from_environment("CASES", 200_000);
     for number in 0..cases {
-        let mut random = Random::of_case(comparison.seed, number);
+        let mut random = Random::of_case(comparison.tally.seed, number);
         let case = texts::case(&mut random);
         let answer = comparison.hold(&case.text);
         if let (true, Err(refusal)) = (case.valid, &answer) {
             panic!(
                 "seed {}, case {number}: a table made valid is refused: {refusal:?}\n{}",
-                comparison.seed,
+                comparison.tally.seed,
                 escaped(&case.text),
             );
         }
@@ -223,18 +181,16 @@ fn random_texts() {
             seen.add(table);
         }
     }
-    comparison.report();
-    let sorts = seen.sorts();
-    let lines: Vec<String> = sorts.iter().map(|(s, n)| format!("{s}: {n}")).collect();
-    say(&format!("accepted tables with {}", lines.join("; ")));
+    comparison.tally.report();
+    demand(100, &seen.sorts());
 
     assert!(cases >= 100_000, "only {cases} texts");
-    assert!(comparison.counts[0] >= 10_000, "too few accepted tables");
-    for (number, count) in comparison.counts.iter().enumerate().skip(1) {
+    assert!(
+        comparison.tally.counts[0] >= 10_000,
+        "too few accepted tables"
+    );
+    for (number, count) in comparison.tally.counts.iter().enumerate().skip(1) {
         assert!(*count >= 100, "refusal {number} came only {count} times");
-    }
-    for (sort, count) in sorts {
-        assert!(count >= 100, "tables with {sort} came only {count} times");
     }
 }
 
@@ -257,7 +213,7 @@ fn every_byte() {
             text[place] = kept;
         }
     }
-    comparison.report();
+    comparison.tally.report();
 }
 
 /// Every length up to two lines past the greatest: the beginning of a long flat
@@ -277,86 +233,42 @@ fn every_length() {
         }
         let _ = comparison.hold(&cut);
     }
-    comparison.report();
+    comparison.tally.report();
     // All from 2 to 1,024 nodes; a root alone is an M without a child.
-    assert_eq!(comparison.counts[0], 1_023);
-    assert_eq!(comparison.counts[8], 1);
-}
-
-/// Writes one node line with every choice of these entries.
-fn lines(node: usize, kinds: &[&str], parents: &[&str], utilities: Utilities) -> Vec<String> {
-    let mut lines = Vec::new();
-    for kind in kinds {
-        let utilities = match utilities {
-            Utilities::Any => &["", "0"][..],
-            Utilities::OnLeaves if *kind == "L" => &["0"],
-            Utilities::OnLeaves => &[""],
-        };
-        for parent in parents {
-            for weight in ["", "1", "2"] {
-                for utility in utilities {
-                    lines.push(format!(
-                        "{node:>4} {kind}{parent:>5}{weight:>5}{utility:>8}\n"
-                    ));
-                }
-            }
-        }
-    }
-    lines
-}
-
-#[derive(Clone, Copy)]
-enum Utilities {
-    Any,
-    OnLeaves,
-}
-
-/// Gives both engines the lines before, followed by each choice of the others.
-fn hold_all(comparison: &mut Comparison, before: &str, nodes: usize, others: &[Vec<String>]) {
-    if nodes > 0 {
-        let text = format!("{nodes:>4}   2       0       0\n{before}");
-        let _ = comparison.hold(text.as_bytes());
-    }
-    if let Some((lines, others)) = others.split_first() {
-        for line in lines {
-            hold_all(comparison, &format!("{before}{line}"), nodes + 1, others);
-        }
-    }
+    assert_eq!(comparison.tally.counts[0], 1_023);
+    assert_eq!(comparison.tally.counts[8], 1);
 }
 
 /// Every table over a few entries, valid or not: up to three nodes with any of
 /// them, and up to five with earlier nodes as parents and utilities on leaves.
 #[test]
 fn every_small_table() {
+    const KINDS: &[&str] = &["M", "N", "C", "L"];
     let mut comparison = Comparison::new("every small table");
-    let any = [
-        lines(0, &["M", "N", "C", "L"], &["", "0"], Utilities::Any),
-        lines(1, &["M", "N", "C", "L"], &["", "0", "1"], Utilities::Any),
-        lines(
-            2,
-            &["M", "N", "C", "L"],
-            &["", "0", "1", "2"],
-            Utilities::Any,
-        ),
+    let any = Utilities::Any(&["0"]);
+    let on_leaves = Utilities::OnLeaves(&["0"]);
+    let three = [
+        lines(0, KINDS, &["", "0"], any),
+        lines(1, KINDS, &["", "0", "1"], any),
+        lines(2, KINDS, &["", "0", "1", "2"], any),
     ];
-    hold_all(&mut comparison, "", 0, &any);
-    let closer = [
+    let five = [
         vec![
             "   0 M                  \n".to_string(),
             "   0 C                  \n".to_string(),
         ],
-        lines(1, &["M", "C", "L"], &["0"], Utilities::OnLeaves),
-        lines(2, &["N", "C", "L"], &["0", "1"], Utilities::OnLeaves),
-        lines(3, &["M", "C", "L"], &["0", "1", "2"], Utilities::OnLeaves),
-        lines(
-            4,
-            &["N", "C", "L"],
-            &["0", "1", "2", "3"],
-            Utilities::OnLeaves,
-        ),
+        lines(1, &["M", "C", "L"], &["0"], on_leaves),
+        lines(2, &["N", "C", "L"], &["0", "1"], on_leaves),
+        lines(3, &["M", "C", "L"], &["0", "1", "2"], on_leaves),
+        lines(4, &["N", "C", "L"], &["0", "1", "2", "3"], on_leaves),
     ];
-    hold_all(&mut comparison, "", 0, &closer);
-    comparison.report();
+    for nodes in [&three[..], &five] {
+        for_each((0, 0), nodes, &mut |text| {
+            let _ = comparison.hold(text);
+            true
+        });
+    }
+    comparison.tally.report();
 }
 
 /// Every content of each field over a few characters; of the wide fields a
@@ -365,7 +277,7 @@ fn every_small_table() {
 fn every_field() {
     const CHARACTERS: &[u8] = b" -0149+M";
     let mut comparison = Comparison::new("every field");
-    let mut random = Random::new(comparison.seed);
+    let mut random = Random::new(comparison.tally.seed);
     let text = dotted(TABLE_B);
     // The fields of the header, of the leaf in line 5 (a child of the C) and of
     // the C in line 3.
@@ -411,180 +323,12 @@ fn every_field() {
             let _ = comparison.hold(&text);
         }
     }
-    comparison.report();
+    comparison.tally.report();
 }
 
 // ---------------------------------------------------------------------------
 // The second engine alone, against document 01
 // ---------------------------------------------------------------------------
-
-/// Table A of document 01; dots stand for blanks.
-const TABLE_A: &str = "\
-...7...1.......0......10
-...0.M..................
-...1.N....0.............
-...2.L....1............3
-...3.L....1............5
-...4.N....0.............
-...5.L....4............2
-...6.L....4............9
-";
-
-/// Table B of document 01.
-const TABLE_B: &str = "\
-...5...4.......0.......8
-...0.M..................
-...1.L....0............5
-...2.C....0.............
-...3.L....2....3.......2
-...4.L....2....1.......8
-";
-
-fn dotted(table: &str) -> Vec<u8> {
-    table.replace('.', " ").into_bytes()
-}
-
-/// Table B with one line written otherwise.
-fn table_b_with(line: usize, written: &str) -> Vec<u8> {
-    assert_eq!(written.len(), LINE - 1);
-    let mut text = dotted(TABLE_B);
-    text[LINE * line..LINE * line + LINE - 1].copy_from_slice(&dotted(written));
-    text
-}
-
-/// A chain of inner nodes of these kinds over one leaf; every weight is T.
-fn chain(kinds: &[u8], total: i64) -> Vec<u8> {
-    let mut text = format!("{:>4}{total:>4}       0       0\n", kinds.len() + 1);
-    for (node, kind) in kinds.iter().chain(b"L").enumerate() {
-        let parent = node.checked_sub(1);
-        let written = parent.map_or(String::new(), |parent| parent.to_string());
-        let weight = match parent {
-            Some(parent) if kinds[parent] == b'C' => total.to_string(),
-            _ => String::new(),
-        };
-        let utility = if *kind == b'L' { "0" } else { "" };
-        let kind = char::from(*kind);
-        text += &format!("{node:>4} {kind}{written:>5}{weight:>5}{utility:>8}\n");
-    }
-    text.into_bytes()
-}
-
-/// Refused tables, each with its refusal's number and line.
-fn refused_examples() -> Vec<(Vec<u8>, u8, usize)> {
-    let b = || dotted(TABLE_B);
-    let long = |length: usize| vec![b' '; length];
-    let mut cr = b();
-    cr[2 * LINE + 24] = b'\r';
-    let mut tab = b();
-    tab[LINE + 4] = b'\t';
-    vec![
-        // 1: no text; one line; no multiple of 25; 1,026 lines.
-        (Vec::new(), 1, 0),
-        (b()[..25].to_vec(), 1, 0),
-        (b()[..149].to_vec(), 1, 0),
-        (long(25_650), 1, 0),
-        // The greatest length is no refusal 1; blanks are no newline, so 2.
-        (long(25_625), 2, 0),
-        // 2: byte 25 of node 1's line is no newline.
-        (cr, 2, 2),
-        // 2: column 5 of node 0's line is no blank.
-        (tab, 2, 1),
-        // 2: the header's T is blank; the kind of node 2 is blank.
-        (table_b_with(0, "...5...........0.......8"), 2, 0),
-        (table_b_with(3, "...2......0............."), 2, 3),
-        // 2: a leading zero; -0; a plus; a digit short of the last column; a
-        // blank between minus and digit.
-        (table_b_with(2, "...1.L....0...........05"), 2, 2),
-        (table_b_with(2, "...1.L....0...........-0"), 2, 2),
-        (table_b_with(2, "...1.L....0...........+5"), 2, 2),
-        (table_b_with(2, "...1.L....0...........5."), 2, 2),
-        (table_b_with(2, "...1.L....0..........-.5"), 2, 2),
-        // 2 before 3 in the header: the lowest end has a leading zero, and T is 0.
-        (table_b_with(0, "...5...0......00.......8"), 2, 0),
-        // 2 before 4: the utility has a leading zero, and the number is wrong.
-        (table_b_with(4, "...4.L....2....3......02"), 2, 4),
-        // 3: T is 0; T is 65; an end too far out; the lowest above the highest.
-        (table_b_with(0, "...5...0.......0.......8"), 3, 0),
-        (table_b_with(0, "...5..65.......0.......8"), 3, 0),
-        (table_b_with(0, "...5...4-1000001.......8"), 3, 0),
-        (table_b_with(0, "...5...4.......9.......8"), 3, 0),
-        // 3: a weight above T; a weight of 0; a utility above the highest end.
-        (table_b_with(4, "...3.L....2....5.......2"), 3, 4),
-        (table_b_with(4, "...3.L....2....0.......2"), 3, 4),
-        (table_b_with(4, "...3.L....2....3.......9"), 3, 4),
-        // 3 before 4 in the header: T is 0 and the count is wrong.
-        (table_b_with(0, "...6...0.......0.......8"), 3, 0),
-        // 4: the header counts 6 of the 5 node lines, or -5.
-        (table_b_with(0, "...6...4.......0.......8"), 4, 0),
-        (table_b_with(0, "..-5...4.......0.......8"), 4, 0),
-        // 4: node 3's line says 4.
-        (table_b_with(4, "...4.L....2....3.......2"), 4, 4),
-        // 4 before 5: the number and the kind of one line are wrong.
-        (table_b_with(4, "...4.X....2....3.......2"), 4, 4),
-        // 5: X is no kind, nor is a small m.
-        (table_b_with(1, "...0.X.................."), 5, 1),
-        (table_b_with(1, "...0.m.................."), 5, 1),
-        // 5 before 6: no kind, and a leaf as parent.
-        (table_b_with(3, "...2.X....1............."), 5, 3),
-        // 6: node 0 has a parent; node 2 has none.
-        (table_b_with(1, "...0.M....0............."), 6, 1),
-        (table_b_with(3, "...2.C.................."), 6, 3),
-        // 6: node 2's parent is a leaf; is itself; is below zero.
-        (table_b_with(3, "...2.C....1............."), 6, 3),
-        (table_b_with(3, "...2.C....2............."), 6, 3),
-        (table_b_with(3, "...2.C...-1............."), 6, 3),
-        // 6: node 6 stands under node 1, whose run ended when node 4 came.
-        (dotted(&TABLE_A.replace("...6.L....4", "...6.L....1")), 6, 7),
-        // 7: node 3, a child of a C, has no weight; node 1, no such child, has
-        // one; and so has the root.
-        (table_b_with(4, "...3.L....2............2"), 7, 4),
-        (table_b_with(2, "...1.L....0....1.......5"), 7, 2),
-        (table_b_with(1, "...0.M.........1........"), 7, 1),
-        // 7: the leaf 1 has no utility; node 2, no leaf, has one.
-        (table_b_with(2, "...1.L....0............."), 7, 2),
-        (table_b_with(3, "...2.C....0............5"), 7, 3),
-        // 7 before 3: no weight, and a utility out of range, on one line.
-        (table_b_with(4, "...3.L....2............9"), 7, 4),
-        // 8: node 1 is an N, but the next line stands under node 0.
-        (table_b_with(2, "...1.N....0............."), 8, 2),
-        // 8: node 4 is an M and the last line.
-        (table_b_with(5, "...4.M....2....1........"), 8, 5),
-        // 9: the weights of node 2 are 2 and 1, and T is 4 (document 01's own
-        // example).
-        (table_b_with(4, "...3.L....2....2.......2"), 9, 3),
-        // 9: they are 4 and 1.
-        (table_b_with(4, "...3.L....2....4.......2"), 9, 3),
-        // 8 before 9, although 9's line is the lower one: node 2's weights do
-        // not sum to T, and node 4 has no child.
-        (table_b_with(5, "...4.M....2....2........"), 8, 5),
-        // 10: the leaf is the 65th node of its path, so its line is 65.
-        (chain(&[b'M'; 64], 1), 10, 65),
-        // 6 before 10: node 64 stands under the leaf that is the 64th node of its path.
-        (
-            {
-                let mut text = chain(&[b'M'; 63], 1);
-                text[..4].copy_from_slice(b"  65");
-                text.extend_from_slice(b"  64 L   63            0\n");
-                text
-            },
-            6,
-            65,
-        ),
-        // 10: node 4 is the fifth C of its path.
-        (chain(b"CCCCC", 1), 10, 5),
-        (chain(b"CNCMCNCMC", 1), 10, 9),
-        // 10 before 7: the fifth C's line also lacks its weight.
-        (
-            {
-                let mut text = chain(b"CCCCC", 1);
-                text[5 * LINE + 15] = b' ';
-                text
-            },
-            10,
-            5,
-        ),
-    ]
-}
 
 #[test]
 fn second_engine_accepts_tables_a_and_b() {
@@ -618,9 +362,7 @@ fn second_engine_accepts_tables_a_and_b() {
 #[test]
 fn second_engine_accepts_the_limits() {
     // A lone leaf, the least table.
-    let leaf = second::read(&dotted(
-        "...1...1.......7.......7\n...0.L.................7\n",
-    ));
+    let leaf = second::read(&dotted(LONE_LEAF));
     assert_eq!(leaf.expect("lone leaf").leaves, 1);
 
     // 64 nodes on a path.
@@ -669,7 +411,7 @@ fn examples() {
     for (text, _, _) in refused_examples() {
         comparison.hold(&text).expect_err("refused");
     }
-    comparison.report();
+    comparison.tally.report();
 }
 
 // ---------------------------------------------------------------------------

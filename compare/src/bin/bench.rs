@@ -1,4 +1,5 @@
-//! Benchmark of reading: both engines on the same texts in the same run.
+//! Benchmark of reading and of the exact worth: both engines on the same texts
+//! in the same run.
 //!
 //! Run it in release mode: `cargo run --release --bin bench`.
 
@@ -21,12 +22,17 @@ const ROUNDS: usize = 60;
 /// The least time that an engine works on one shape and size in a round.
 const SPELL: Duration = Duration::from_millis(3);
 
-/// The texts of one shape and size, and the times that they took.
-struct Case {
+/// The texts of one shape and size.
+struct Sort {
     shape: &'static str,
     size: usize,
     texts: Vec<Vec<u8>>,
-    /// How often all texts are read in a round.
+}
+
+/// The times that one sort of texts took.
+struct Case<'a> {
+    sort: &'a Sort,
+    /// How often all texts are gone through in a round.
     turns: usize,
     /// The best nanoseconds per call so far.
     proved: f64,
@@ -35,81 +41,126 @@ struct Case {
 
 fn main() {
     let seed = seed();
-    println!("Reading a table: the proved engine and the second engine (Rust).");
+    println!("The proved engine and the second engine (Rust) on the same texts.");
     println!("Seed {seed}; {TEXTS} texts each; best of {ROUNDS} rounds, the engines by turns.");
-    println!("The proved engine's arrays are allocated once, outside of the timing, and are");
-    println!("not cleared between calls; the second engine allocates its table in each call.");
-    println!("Growth is the time per line over that of the same shape with 64 lines.");
-    println!();
+    println!("Growth is the time per line over that of the same shape with 64 lines; of these");
+    println!("the deep one is a single path of 64 nodes.");
 
-    let mut lent = Box::new(Lent::PATTERN);
     let shapes: [(&str, Shape); 3] = [("flat", flat), ("deep", deep), ("bushy", bushy)];
-    let mut cases = Vec::new();
-    for (name, shape) in shapes {
+    let mut sorts = Vec::new();
+    for (shape, make) in shapes {
         for size in SIZES {
             let mut random = Random::new(seed);
-            let texts = (0..TEXTS).map(|_| shape(size, &mut random)).collect();
-            cases.push(Case::new(name, size, texts, &mut lent));
+            let texts = (0..TEXTS).map(|_| make(size, &mut random)).collect();
+            sorts.push(Sort { shape, size, texts });
         }
     }
+    check(&sorts);
+
+    println!();
+    println!("Reading a table. The proved engine's arrays are allocated once, outside of the");
+    println!("timing, and are not cleared between calls; the second engine allocates its table");
+    println!("in each call.");
+    println!();
+    let mut lent = Box::new(Lent::PATTERN);
+    measure(
+        &sorts,
+        |text| {
+            black_box(engine::call(black_box(text), black_box(&mut lent)));
+        },
+        |text| {
+            let _ = black_box(second::read(black_box(text)));
+        },
+    );
+
+    println!();
+    println!("The exact worth from the text. The second engine reads the table, then takes the");
+    println!("worth of it.");
+    println!();
+    let mut numbers = [0; 2];
+    measure(
+        &sorts,
+        |text| {
+            black_box(engine::worth(black_box(text), black_box(&mut numbers)));
+        },
+        |text| {
+            let _ = black_box(second_worth(black_box(text)));
+        },
+    );
+}
+
+/// The second engine's worth and G.
+fn second_worth(text: &[u8]) -> Result<[i64; 2], second::Refusal> {
+    let table = second::read(text)?;
+    Ok([second::worth(&table), table.grains])
+}
+
+/// All texts are valid tables of the size that they should have, and the
+/// engines agree on them.
+fn check(sorts: &[Sort]) {
+    let mut lent = Box::new(Lent::PATTERN);
+    for sort in sorts {
+        for text in &sort.texts {
+            let table = second::read(text).expect("a valid table");
+            assert_eq!(table.nodes.len(), sort.size);
+            assert_eq!(engine::call(text, &mut lent), 0, "a valid table");
+            assert_eq!(lent.numbers[0], sort.size as i64);
+
+            let mut numbers = [0; 2];
+            assert_eq!(engine::worth(text, &mut numbers), 0, "a valid table");
+            assert_eq!(Ok(numbers), second_worth(text));
+        }
+    }
+}
+
+/// Times a call of each engine on all texts, and prints the times.
+fn measure(sorts: &[Sort], mut proved: impl FnMut(&[u8]), mut second: impl FnMut(&[u8])) {
+    let mut cases: Vec<Case> = sorts
+        .iter()
+        .map(|sort| Case::new(sort, &mut proved, &mut second))
+        .collect();
 
     // Every round goes through all cases, so that a time in which the machine is
     // slow spoils one round of each and not all rounds of one.
     for _ in 0..ROUNDS {
         for case in &mut cases {
-            case.round(&mut lent);
+            case.round(&mut proved, &mut second);
         }
     }
     print(&cases);
 }
 
-impl Case {
-    fn new(shape: &'static str, size: usize, texts: Vec<Vec<u8>>, lent: &mut Lent) -> Case {
-        for text in &texts {
-            let table = second::read(text).expect("a valid table");
-            assert_eq!(table.nodes.len(), size);
-            assert_eq!(engine::call(text, lent), 0, "a valid table");
-            assert_eq!(lent.numbers[0], size as i64);
-        }
+impl<'a> Case<'a> {
+    fn new(
+        sort: &'a Sort,
+        proved: &mut impl FnMut(&[u8]),
+        second: &mut impl FnMut(&[u8]),
+    ) -> Case<'a> {
         let mut case = Case {
-            shape,
-            size,
-            texts,
+            sort,
             turns: 1,
             proved: f64::INFINITY,
             second: f64::INFINITY,
         };
         let spell = SPELL.as_nanos() as f64;
-        while case.time_proved(lent).min(case.time_second()) < spell {
+        while case.time(proved).min(case.time(second)) < spell {
             case.turns *= 2;
         }
         case
     }
 
-    fn round(&mut self, lent: &mut Lent) {
-        let calls = (self.turns * self.texts.len()) as f64;
-        self.proved = self.proved.min(self.time_proved(lent) / calls);
-        self.second = self.second.min(self.time_second() / calls);
-    }
-
-    fn time_proved(&self, lent: &mut Lent) -> f64 {
-        self.time(|text| {
-            black_box(engine::call(black_box(text), black_box(lent)));
-        })
-    }
-
-    fn time_second(&self) -> f64 {
-        self.time(|text| {
-            let _ = black_box(second::read(black_box(text)));
-        })
+    fn round(&mut self, proved: &mut impl FnMut(&[u8]), second: &mut impl FnMut(&[u8])) {
+        let calls = (self.turns * self.sort.texts.len()) as f64;
+        self.proved = self.proved.min(self.time(proved) / calls);
+        self.second = self.second.min(self.time(second) / calls);
     }
 
     /// The nanoseconds that all turns take.
-    fn time(&self, mut read: impl FnMut(&[u8])) -> f64 {
+    fn time(&self, call: &mut impl FnMut(&[u8])) -> f64 {
         let began = Instant::now();
         for _ in 0..self.turns {
-            for text in &self.texts {
-                read(text);
+            for text in &self.sort.texts {
+                call(text);
             }
         }
         began.elapsed().as_nanos() as f64
@@ -127,7 +178,7 @@ fn print(cases: &[Case]) {
     );
     for sizes in cases.chunks(SIZES.len()) {
         let per_line = |case: &Case| {
-            let lines = case.size as f64;
+            let lines = case.sort.size as f64;
             (case.proved / lines, case.second / lines)
         };
         let least = per_line(&sizes[0]);
@@ -135,8 +186,8 @@ fn print(cases: &[Case]) {
             let (proved, second) = per_line(case);
             println!(
                 "{:<8}{:>6}  {:>10.0}{:>10.0}  {:>9.2}{:>9.2}  {:>8.2}  {:>8.2}{:>8.2}",
-                case.shape,
-                case.size,
+                case.sort.shape,
+                case.sort.size,
                 case.proved,
                 case.second,
                 proved,

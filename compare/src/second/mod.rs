@@ -5,6 +5,8 @@
 
 mod read;
 mod table;
+mod worth;
 
 pub use read::read;
 pub use table::*;
+pub use worth::worth;

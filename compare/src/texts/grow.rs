@@ -55,6 +55,18 @@ fn valid_of(random: &mut Random, nodes: usize) -> Draft {
     grower.grow_all(random, nodes)
 }
 
+/// A valid table of 1,024 nodes with T 64 and the widest ends, where chance
+/// nodes are frequent.
+pub fn largest(random: &mut Random) -> Draft {
+    let mut grower = Grower::new(random);
+    grower.draft.total = MOST_TOTAL;
+    grower.draft.lowest = -FARTHEST_END;
+    grower.draft.highest = FARTHEST_END;
+    grower.shape = random.pick(&[Shape::Deep, Shape::Bushy, Shape::Any]);
+    grower.rarity = 1 + random.below(4);
+    grower.grow_all(random, MOST_NODES)
+}
+
 /// A table that is valid but for paths of 65 or 66 nodes.
 pub fn too_deep(random: &mut Random) -> Draft {
     let mut grower = Grower::new(random);

@@ -1,8 +1,12 @@
-//! Random texts for both engines: valid tables, and tables damaged on purpose.
+//! Texts for both engines: random ones, which are valid tables or damaged on
+//! purpose; examples; all small tables; and the greatest.
 
 mod damage;
 mod draft;
+pub mod examples;
 mod grow;
+pub mod largest;
+pub mod small;
 
 use crate::random::Random;
 

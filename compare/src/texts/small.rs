@@ -1,0 +1,64 @@
+//! All small tables over a few entries.
+
+/// The utilities to choose from.
+#[derive(Clone, Copy)]
+pub enum Utilities {
+    /// One of these or none, whatever the kind.
+    Any(&'static [&'static str]),
+    /// One of these on a leaf, none elsewhere.
+    OnLeaves(&'static [&'static str]),
+}
+
+/// Writes one node line with every choice of these entries; the weight is
+/// none, 1 or 2.
+pub fn lines(node: usize, kinds: &[&str], parents: &[&str], utilities: Utilities) -> Vec<String> {
+    let mut lines = Vec::new();
+    for kind in kinds {
+        let (blank, written) = match utilities {
+            Utilities::Any(written) => (true, written),
+            Utilities::OnLeaves(written) if *kind == "L" => (false, written),
+            Utilities::OnLeaves(_) => (true, &[][..]),
+        };
+        let utilities = blank.then_some(&"").into_iter().chain(written);
+        for parent in parents {
+            for weight in ["", "1", "2"] {
+                for utility in utilities.clone() {
+                    lines.push(format!(
+                        "{node:>4} {kind}{parent:>5}{weight:>5}{utility:>8}\n"
+                    ));
+                }
+            }
+        }
+    }
+    lines
+}
+
+/// Hands on every text with T 2, these ends, and one node or more, each with
+/// one of its lines. Where `hand_on` returns false, the longer texts that begin
+/// with the same node lines are left out.
+pub fn for_each(ends: (i64, i64), nodes: &[Vec<String>], hand_on: &mut dyn FnMut(&[u8]) -> bool) {
+    let (lowest, highest) = ends;
+    let ends = format!("{lowest:>8}{highest:>8}");
+    extend("", 0, &ends, nodes, hand_on);
+}
+
+/// Adds each choice of the next line to the lines before, then of the others.
+fn extend(
+    before: &str,
+    nodes: usize,
+    ends: &str,
+    others: &[Vec<String>],
+    hand_on: &mut dyn FnMut(&[u8]) -> bool,
+) {
+    let Some((lines, others)) = others.split_first() else {
+        return;
+    };
+    let nodes = nodes + 1;
+    for line in lines {
+        let longer = format!("{before}{line}");
+        let text = format!("{nodes:>4}   2{ends}\n{longer}");
+        if hand_on(text.as_bytes()) {
+            extend(&longer, nodes, ends, others, hand_on);
+        }
+    }
+}
