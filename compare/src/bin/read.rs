@@ -1,5 +1,5 @@
-//! Reads a table with the proved engine and says what it found: the table in
-//! the file named, or on standard input.
+//! Reads a table with the proved engine and says what it found, and what the
+//! table is worth: the table in the file named, or on standard input.
 
 use std::io::Read;
 use std::process::ExitCode;
@@ -40,6 +40,10 @@ fn main() -> ExitCode {
     if code == 0 {
         let [nodes, total, lowest, highest, chances, grain, leaves, _] = lent.numbers;
         println!("accepted: {nodes} nodes, {leaves} of them leaves; T {total}, ends {lowest} and {highest}, K {chances}, G {grain}");
+        let mut worth = [0; 2];
+        engine::worth(&text, &mut worth);
+        let [worth, grain] = worth;
+        println!("worth: {worth} grains, {grain} to the point");
         return ExitCode::SUCCESS;
     }
     let (line, number) = (code / 100, code % 100);
