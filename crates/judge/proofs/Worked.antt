@@ -7,6 +7,7 @@ use Rattle.field.specs.Field.{strip, digits, whole, signed}
 use Rattle.line.specs.Refusal.{Verdict, fine, unless, unlessAt, next}
 use Rattle.line.specs.Line.{climb}
 use Rattle.table.specs.Tree.{run, after, forest, weigh, nodesWhere}
+use Rattle.table.specs.Examples.{max-root, b-head, chance, b3, b4, table-b, turned-b, lone-leaf}
 use Rattle.table.specs.Table.{Table, nodeLines, complete, readText, greatest}
 use Rattle.worth.specs.Worth.{maxZ, minZ, floorZ, largest, smallest, weighted, value, shares}
 use Rattle.judge.specs.Judge.{levels, Judgement, noDecision, judged, noSuchChild, judge}
@@ -15,53 +16,9 @@ use Rattle.judge.specs.Judge.{levels, Judgement, noDecision, judged, noS
 found : List ℤ → Table → Verdict (List Judgement)
 found is t = fine (map (judge t) is)
 
--- "   5   4       0       8"
-b-head : List ℕ
-b-head = 32 ∷ 32 ∷ 32 ∷ 53 ∷ 32 ∷ 32 ∷ 32 ∷ 52 ∷ 32 ∷ 32 ∷ 32 ∷ 32 ∷ 32 ∷ 32 ∷ 32 ∷ 48 ∷ 32 ∷ 32 ∷ 32 ∷ 32 ∷ 32 ∷ 32 ∷ 32 ∷ 56 ∷ 10 ∷ []
-
--- "   0 M                  "
-max-root : List ℕ
-max-root = 32 ∷ 32 ∷ 32 ∷ 48 ∷ 32 ∷ 77 ∷ 32 ∷ 32 ∷ 32 ∷ 32 ∷ 32 ∷ 32 ∷ 32 ∷ 32 ∷ 32 ∷ 32 ∷ 32 ∷ 32 ∷ 32 ∷ 32 ∷ 32 ∷ 32 ∷ 32 ∷ 32 ∷ 10 ∷ []
-
--- "   1 L    0            5"
-b1 : List ℕ
-b1 = 32 ∷ 32 ∷ 32 ∷ 49 ∷ 32 ∷ 76 ∷ 32 ∷ 32 ∷ 32 ∷ 32 ∷ 48 ∷ 32 ∷ 32 ∷ 32 ∷ 32 ∷ 32 ∷ 32 ∷ 32 ∷ 32 ∷ 32 ∷ 32 ∷ 32 ∷ 32 ∷ 53 ∷ 10 ∷ []
-
--- "   2 C    0             "
-chance : List ℕ
-chance = 32 ∷ 32 ∷ 32 ∷ 50 ∷ 32 ∷ 67 ∷ 32 ∷ 32 ∷ 32 ∷ 32 ∷ 48 ∷ 32 ∷ 32 ∷ 32 ∷ 32 ∷ 32 ∷ 32 ∷ 32 ∷ 32 ∷ 32 ∷ 32 ∷ 32 ∷ 32 ∷ 32 ∷ 10 ∷ []
-
--- "   3 L    2    3       2"
-b3 : List ℕ
-b3 = 32 ∷ 32 ∷ 32 ∷ 51 ∷ 32 ∷ 76 ∷ 32 ∷ 32 ∷ 32 ∷ 32 ∷ 50 ∷ 32 ∷ 32 ∷ 32 ∷ 32 ∷ 51 ∷ 32 ∷ 32 ∷ 32 ∷ 32 ∷ 32 ∷ 32 ∷ 32 ∷ 50 ∷ 10 ∷ []
-
--- "   4 L    2    1       8"
-b4 : List ℕ
-b4 = 32 ∷ 32 ∷ 32 ∷ 52 ∷ 32 ∷ 76 ∷ 32 ∷ 32 ∷ 32 ∷ 32 ∷ 50 ∷ 32 ∷ 32 ∷ 32 ∷ 32 ∷ 49 ∷ 32 ∷ 32 ∷ 32 ∷ 32 ∷ 32 ∷ 32 ∷ 32 ∷ 56 ∷ 10 ∷ []
-
 -- "   1 L    0            4"
 near1 : List ℕ
 near1 = 32 ∷ 32 ∷ 32 ∷ 49 ∷ 32 ∷ 76 ∷ 32 ∷ 32 ∷ 32 ∷ 32 ∷ 48 ∷ 32 ∷ 32 ∷ 32 ∷ 32 ∷ 32 ∷ 32 ∷ 32 ∷ 32 ∷ 32 ∷ 32 ∷ 32 ∷ 32 ∷ 52 ∷ 10 ∷ []
-
--- "   5   4      -8       0"
-turned-head : List ℕ
-turned-head = 32 ∷ 32 ∷ 32 ∷ 53 ∷ 32 ∷ 32 ∷ 32 ∷ 52 ∷ 32 ∷ 32 ∷ 32 ∷ 32 ∷ 32 ∷ 32 ∷ 45 ∷ 56 ∷ 32 ∷ 32 ∷ 32 ∷ 32 ∷ 32 ∷ 32 ∷ 32 ∷ 48 ∷ 10 ∷ []
-
--- "   0 N                  "
-min-root : List ℕ
-min-root = 32 ∷ 32 ∷ 32 ∷ 48 ∷ 32 ∷ 78 ∷ 32 ∷ 32 ∷ 32 ∷ 32 ∷ 32 ∷ 32 ∷ 32 ∷ 32 ∷ 32 ∷ 32 ∷ 32 ∷ 32 ∷ 32 ∷ 32 ∷ 32 ∷ 32 ∷ 32 ∷ 32 ∷ 10 ∷ []
-
--- "   1 L    0           -5"
-turned1 : List ℕ
-turned1 = 32 ∷ 32 ∷ 32 ∷ 49 ∷ 32 ∷ 76 ∷ 32 ∷ 32 ∷ 32 ∷ 32 ∷ 48 ∷ 32 ∷ 32 ∷ 32 ∷ 32 ∷ 32 ∷ 32 ∷ 32 ∷ 32 ∷ 32 ∷ 32 ∷ 32 ∷ 45 ∷ 53 ∷ 10 ∷ []
-
--- "   3 L    2    3      -2"
-turned3 : List ℕ
-turned3 = 32 ∷ 32 ∷ 32 ∷ 51 ∷ 32 ∷ 76 ∷ 32 ∷ 32 ∷ 32 ∷ 32 ∷ 50 ∷ 32 ∷ 32 ∷ 32 ∷ 32 ∷ 51 ∷ 32 ∷ 32 ∷ 32 ∷ 32 ∷ 32 ∷ 32 ∷ 45 ∷ 50 ∷ 10 ∷ []
-
--- "   4 L    2    1      -8"
-turned4 : List ℕ
-turned4 = 32 ∷ 32 ∷ 32 ∷ 52 ∷ 32 ∷ 76 ∷ 32 ∷ 32 ∷ 32 ∷ 32 ∷ 50 ∷ 32 ∷ 32 ∷ 32 ∷ 32 ∷ 49 ∷ 32 ∷ 32 ∷ 32 ∷ 32 ∷ 32 ∷ 32 ∷ 45 ∷ 56 ∷ 10 ∷ []
 
 -- "   3   1       0      10"
 point-head : List ℕ
@@ -74,14 +31,6 @@ point1 = 32 ∷ 32 ∷ 32 ∷ 49 ∷ 32 ∷ 76 ∷ 32 ∷ 32 ∷ 32 ∷ 32 ∷ 4
 -- "   2 L    0            2"
 point2 : List ℕ
 point2 = 32 ∷ 32 ∷ 32 ∷ 50 ∷ 32 ∷ 76 ∷ 32 ∷ 32 ∷ 32 ∷ 32 ∷ 48 ∷ 32 ∷ 32 ∷ 32 ∷ 32 ∷ 32 ∷ 32 ∷ 32 ∷ 32 ∷ 32 ∷ 32 ∷ 32 ∷ 32 ∷ 50 ∷ 10 ∷ []
-
--- "   1   1       7       7"
-lone-head : List ℕ
-lone-head = 32 ∷ 32 ∷ 32 ∷ 49 ∷ 32 ∷ 32 ∷ 32 ∷ 49 ∷ 32 ∷ 32 ∷ 32 ∷ 32 ∷ 32 ∷ 32 ∷ 32 ∷ 55 ∷ 32 ∷ 32 ∷ 32 ∷ 32 ∷ 32 ∷ 32 ∷ 32 ∷ 55 ∷ 10 ∷ []
-
--- "   0 L                 7"
-lone0 : List ℕ
-lone0 = 32 ∷ 32 ∷ 32 ∷ 48 ∷ 32 ∷ 76 ∷ 32 ∷ 32 ∷ 32 ∷ 32 ∷ 32 ∷ 32 ∷ 32 ∷ 32 ∷ 32 ∷ 32 ∷ 32 ∷ 32 ∷ 32 ∷ 32 ∷ 32 ∷ 32 ∷ 32 ∷ 55 ∷ 10 ∷ []
 
 -- "   3   4       0       8"
 toss-head : List ℕ
@@ -100,28 +49,28 @@ toss2 : List ℕ
 toss2 = 32 ∷ 32 ∷ 32 ∷ 50 ∷ 32 ∷ 76 ∷ 32 ∷ 32 ∷ 32 ∷ 32 ∷ 48 ∷ 32 ∷ 32 ∷ 32 ∷ 32 ∷ 49 ∷ 32 ∷ 32 ∷ 32 ∷ 32 ∷ 32 ∷ 32 ∷ 32 ∷ 56 ∷ 10 ∷ []
 
 -- table B: the second child played loses 6 and one child is level; there is no child 0, 3 or -1
-judged-b : next (readText (b-head ++ (max-root ++ (b1 ++ (chance ++ (b3 ++ b4)))))) (found (pos 2 ∷ pos 1 ∷ pos 0 ∷ pos 3 ∷ negsuc 0 ∷ [])) ≡ fine (judged (pos 6) 1 ∷ judged (pos 0) 1 ∷ noSuchChild ∷ noSuchChild ∷ noSuchChild ∷ [])
-unfolding b-head max-root b1 chance b3 b4 found maxZ minZ floorZ largest smallest weighted value shares levels strip digits whole signed unless unlessAt climb run after forest weigh nodesWhere nodeLines complete readText greatest
+judged-b : next (readText table-b) (found (pos 2 ∷ pos 1 ∷ pos 0 ∷ pos 3 ∷ negsuc 0 ∷ [])) ≡ fine (judged (pos 6) 1 ∷ judged (pos 0) 1 ∷ noSuchChild ∷ noSuchChild ∷ noSuchChild ∷ [])
+unfolding found maxZ minZ floorZ largest smallest weighted value shares levels strip digits whole signed unless unlessAt climb run after forest weigh nodesWhere nodeLines complete readText greatest
 judged-b = refl
 
 -- B with 4 in place of 5: the second child loses 2 grains of the 4 that a point has, and both are level
 judged-near : next (readText (b-head ++ (max-root ++ (near1 ++ (chance ++ (b3 ++ b4)))))) (found (pos 2 ∷ pos 1 ∷ [])) ≡ fine (judged (pos 2) 2 ∷ judged (pos 0) 2 ∷ [])
-unfolding b-head max-root near1 chance b3 b4 found maxZ minZ floorZ largest smallest weighted value shares levels strip digits whole signed unless unlessAt climb run after forest weigh nodesWhere nodeLines complete readText greatest
+unfolding near1 found maxZ minZ floorZ largest smallest weighted value shares levels strip digits whole signed unless unlessAt climb run after forest weigh nodesWhere nodeLines complete readText greatest
 judged-near = refl
 
 -- B turned: the same at an N root
-judged-turned : next (readText (turned-head ++ (min-root ++ (turned1 ++ (chance ++ (turned3 ++ turned4)))))) (found (pos 2 ∷ pos 1 ∷ pos 0 ∷ pos 3 ∷ negsuc 0 ∷ [])) ≡ fine (judged (pos 6) 1 ∷ judged (pos 0) 1 ∷ noSuchChild ∷ noSuchChild ∷ noSuchChild ∷ [])
-unfolding turned-head min-root turned1 chance turned3 turned4 found maxZ minZ floorZ largest smallest weighted value shares levels strip digits whole signed unless unlessAt climb run after forest weigh nodesWhere nodeLines complete readText greatest
+judged-turned : next (readText turned-b) (found (pos 2 ∷ pos 1 ∷ pos 0 ∷ pos 3 ∷ negsuc 0 ∷ [])) ≡ fine (judged (pos 6) 1 ∷ judged (pos 0) 1 ∷ noSuchChild ∷ noSuchChild ∷ noSuchChild ∷ [])
+unfolding found maxZ minZ floorZ largest smallest weighted value shares levels strip digits whole signed unless unlessAt climb run after forest weigh nodesWhere nodeLines complete readText greatest
 judged-turned = refl
 
 -- leaves of 3 and 2 under an M: a loss of just one point is not level
 judged-point : next (readText (point-head ++ (max-root ++ (point1 ++ point2)))) (found (pos 2 ∷ pos 1 ∷ [])) ≡ fine (judged (pos 1) 1 ∷ judged (pos 0) 1 ∷ [])
-unfolding point-head max-root point1 point2 found maxZ minZ floorZ largest smallest weighted value shares levels strip digits whole signed unless unlessAt climb run after forest weigh nodesWhere nodeLines complete readText greatest
+unfolding point-head point1 point2 found maxZ minZ floorZ largest smallest weighted value shares levels strip digits whole signed unless unlessAt climb run after forest weigh nodesWhere nodeLines complete readText greatest
 judged-point = refl
 
 -- a lone leaf: no decision, whatever the number
-judged-lone : next (readText (lone-head ++ lone0)) (found (pos 1 ∷ pos 7 ∷ pos 0 ∷ negsuc 0 ∷ [])) ≡ fine (noDecision ∷ noDecision ∷ noDecision ∷ noDecision ∷ [])
-unfolding lone-head lone0 found maxZ minZ floorZ largest smallest weighted value shares levels strip digits whole signed unless unlessAt climb run after forest weigh nodesWhere nodeLines complete readText greatest
+judged-lone : next (readText lone-leaf) (found (pos 1 ∷ pos 7 ∷ pos 0 ∷ negsuc 0 ∷ [])) ≡ fine (noDecision ∷ noDecision ∷ noDecision ∷ noDecision ∷ [])
+unfolding found maxZ minZ floorZ largest smallest weighted value shares levels strip digits whole signed unless unlessAt climb run after forest weigh nodesWhere nodeLines complete readText greatest
 judged-lone = refl
 
 -- a C root: the same

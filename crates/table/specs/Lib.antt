@@ -3,3 +3,4 @@ pub mod Table
 pub mod Slices
 pub mod Accepted
 pub mod Inside
+pub mod Examples
