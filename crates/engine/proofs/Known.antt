@@ -1,4 +1,4 @@
--- What an accepted text's answer tells: its numbers are small, and its run of lines can be judged. Assumes nothing.
+-- What an accepted text's answer tells: its numbers are small, and its lines can be judged. Assumes nothing.
 use Prim.Native.Nat.{ℕ, _-_, _≤_}
 use mathlib.Core.Path.{_≡_, refl, sym, ap, subst, _∙_}
 use mathlib.Core.List.{List}
@@ -21,9 +21,21 @@ use Rattle.worth.specs.Worth.{worthOf}
 use Rattle.worth.specs.Heights.{heightWorth}
 use Rattle.worth.proofs.Worth.{shift, height-within, span-grains}
 use Rattle.worth.proofs.Judged.{accepted-ready, judged-worth}
+use Rattle.judge.specs.declared.Judged.{Judged}
+use Rattle.judge.specs.declared.Judged.the-variants.{NoDecision, Judged as Lost, NoChild}
+use Rattle.judge.specs.Judge.{judge}
+use Rattle.judge.specs.Inside.{judgedOf, Whole, WellJudged}
+use Rattle.judge.proofs.Answer.{accepted-whole, judged-table}
 use Rattle.engine.specs.declared.Exact.the-variants.{Grains}
-use Rattle.engine.specs.Calls.{exactCall}
+use Rattle.engine.specs.declared.Opinion.the-variants.{Given}
+use Rattle.engine.specs.Calls.{exactCall, told, judgeCall}
 use Rattle.engine.specs.Inside.{Spread, scaleFor}
+
+-- what is told of a judgement is the answer that means it
+told-back : (r : Judged) → r ≡ told (judgedOf r)
+told-back NoDecision = refl
+told-back (Lost loss level) = refl
+told-back NoChild = refl
 
 -- t is the summary of an accepted text s
 module _ (s : List ℕ) (t : Summary) (e : answer (readText s) ≡ Accepted t) where
@@ -54,6 +66,25 @@ module _ (s : List ℕ) (t : Summary) (e : answer (readText s) ≡ Accepted t) w
     ready =
         let (T, p, q) = answer-accepted (readText s) t e in
         subst (λ (x : Summary). Ready stops (scaleFor x) MAX 0 (x .nodes) (drop 25 s)) q (ready-of T p)
+
+    whole-of : (T : Table) → readText s ≡ fine T → Whole stops (scaleFor (summary T)) (summary T .nodes) (drop 25 s)
+    whole-of T p = rw p (accepted-whole s T p a (omega (arith, accepted-size s T p .1)))
+
+    whole : Whole stops (scaleFor t) (t .nodes) (drop 25 s)
+    whole =
+        let (T, p, q) = answer-accepted (readText s) t e in
+        subst (λ (x : Summary). Whole stops (scaleFor x) (x .nodes) (drop 25 s)) q (whole-of T p)
+
+    -- r is what `judge_table` gave
+    judged-of : (i : ℤ) (r : Judged) (T : Table) → readText s ≡ fine T → summary T ≡ t → WellJudged stops (scaleFor t) (t .nodes) (drop 25 s) i r → judgedOf r ≡ judge T i
+    judged-of i r T p q w =
+        let u : WellJudged stops (scaleFor (summary T)) (summary T .nodes) (drop 25 s) i r = subst (λ (x : Summary). WellJudged stops (scaleFor x) (x .nodes) (drop 25 s) i r) (sym q) w in
+        judged-table s T p a (omega (arith, accepted-size s T p .1)) i r (subst (λ (v : Verdict Table). WellJudged (fitted (decoded stopsOf v) a) (scaleFor (summary T)) (summary T .nodes) (drop 25 s) i r) p u)
+
+    given : (i : ℤ) (r : Judged) → WellJudged stops (scaleFor t) (t .nodes) (drop 25 s) i r → Given r ≡ judgeCall (readText s) i
+    given i r w =
+        let (T, p, q) = answer-accepted (readText s) t e in
+        ap Given (told-back r ∙ ap told (judged-of i r T p q w)) ∙ ap (λ (v : Verdict Table). judgeCall v i) (sym p)
 
     -- h is what `worth_of` gave
     module _ (h : ℕ) (w : Worthy stops (scaleFor t) MAX 0 (t .nodes) (drop 25 s) h) where
@@ -97,3 +128,9 @@ module _ (s : List ℕ) (t : Summary) (e : answer (readText s) ≡ Accepted t) w
 
       pub answered-at : Grains (t .lowest *ℤ pos (t .grain) +ℤ pos h) (t .grain) ≡ exactCall (readText s)
       answered-at = answered a room h worthy
+
+    pub whole-at : Whole S g (t .nodes) (take (length s - 25) (drop 25 s))
+    whole-at = rw (p, q, from-all) (whole a room)
+
+    pub given-at : (i : ℤ) (r : Judged) → WellJudged S g (t .nodes) (take (length s - 25) (drop 25 s)) i r → Given r ≡ judgeCall (readText s) i
+    given-at i r w = given a room i r (rw (p, q, from-all) at w)

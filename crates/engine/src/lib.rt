@@ -4,8 +4,9 @@ ghost use Prim.Native.Nat.{_≤_};
 ghost use lib.IntN.{pos, _+ℤ_, _*ℤ_};
 ghost use lib.Signed.{mag};
 ghost use Rattle.table.specs.Table.{readText};
-ghost use Rattle.engine.specs.Calls.{exactCall};
+ghost use Rattle.engine.specs.Calls.{exactCall, judgeCall};
 ghost use Rattle.engine.specs.Inside.{Spread, scaleFor};
+use judge::Judged;
 use line::Refusal;
 use table::Reading;
 use table::Summary;
@@ -14,6 +15,12 @@ use worth::Scale;
 // The worth in grains and G, or a refusal.
 pub enum Exact {
     Grains(i64, u64),
+    Refused(Refusal),
+}
+
+// The judgement, or a table's refusal.
+pub enum Opinion {
+    Given(Judged),
     Refused(Refusal),
 }
 
@@ -52,6 +59,23 @@ pub fn exact_worth(text: &[u8]) -> Exact
             let g = scale_of(t);
             let h = worth::worth_of(&text[25..], &stop, 0, t.nodes, g);
             Exact::Grains(in_grains(t.lowest, t.grain, h), t.grain)
+        }
+    }
+}
+
+// The play of root child `number`, counted from 1, judged: for any text and any number.
+pub fn judge_play(text: &[u8], number: i64) -> Opinion
+    ensures { λ r. ⌜ r ≡ judgeCall (readText (now (text .entry))) number ⌝ }
+{
+    let mut kind = [0u8; 1024];
+    let mut stop = [0u16; 1024];
+    let mut weight = [0u8; 1024];
+    let mut height = [0u32; 1024];
+    match table::read(text, &mut kind, &mut stop, &mut weight, &mut height) {
+        Reading::Refused(r) => Opinion::Refused(r),
+        Reading::Accepted(t) => {
+            let g = scale_of(t);
+            Opinion::Given(judge::judge_table(&text[25..], &stop, t.nodes, g, number))
         }
     }
 }

@@ -3,3 +3,9 @@ pub mod Shift
 pub mod Judge
 pub mod Child
 pub mod Worked
+pub mod Losses
+pub mod Walk
+pub mod Run
+pub mod Root
+pub mod Answer
+pub mod Plays

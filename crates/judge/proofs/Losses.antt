@@ -1,0 +1,29 @@
+-- The loss by the root's side, and whether it is level. Assumes nothing.
+use Prim.Native.Nat.{ℕ, _-_, _≤_, _<_}
+use mathlib.Core.Path.{_≡_, sym, ap, subst}
+use mathlib.Core.Bool.{Bool, true, false, cond}
+use native.Mathlib.Omega.{arith}
+use borrow.Author.Tests.{lt-ltb, le-ltb}
+use Rattle.judge.specs.Judge.{Side}
+use Rattle.judge.specs.Heights.{heightLoss, Ahead}
+use Rattle.judge.specs.Inside.{sideIf, levelOne}
+
+module _ (m : Bool) (best h : ℕ) where
+  pub ahead-m : m ≡ true → Ahead (sideIf m) best h → h ≤ best
+  ahead-m e a = subst (λ (b : Bool). Ahead (sideIf b) best h) e a
+
+  pub ahead-n : m ≡ false → Ahead (sideIf m) best h → best ≤ h
+  ahead-n e a = subst (λ (b : Bool). Ahead (sideIf b) best h) e a
+
+  pub loss-m : m ≡ true → best - h ≡ heightLoss (sideIf m) best h
+  loss-m e = ap (λ (b : Bool). heightLoss (sideIf b) best h) (sym e)
+
+  pub loss-n : m ≡ false → h - best ≡ heightLoss (sideIf m) best h
+  loss-n e = ap (λ (b : Bool). heightLoss (sideIf b) best h) (sym e)
+
+module _ (s : Side) (G best h l : ℕ) (e : l ≡ heightLoss s best h) where
+  pub level-yes : l < G → 1 ≡ levelOne s G best h
+  level-yes q = ap (λ (b : Bool). cond b 1 0) (sym (lt-ltb (heightLoss s best h) G (omega (arith, e))))
+
+  pub level-no : G ≤ l → 0 ≡ levelOne s G best h
+  level-no q = ap (λ (b : Bool). cond b 1 0) (sym (le-ltb (heightLoss s best h) G (omega (arith, e))))

@@ -1,0 +1,262 @@
+-- A root with all under it in the lines: its children by number, the best worth, and the judgement. Assumes nothing.
+use Prim.Native.Nat.{ℕ, zero, suc, _+_, _-_, _*_, _≤_, _<_}
+use mathlib.Core.Path.{_≡_, refl, sym, ap, ap₂, subst, _∙_}
+use mathlib.Core.List.{List, [], _∷_}
+use mathlib.Core.Option.{Option, none, some}
+use native.Mathlib.Decide.{decLe}
+use native.Mathlib.Omega.{arith}
+use lib.ListN.{length, getD, getElem?, take, drop, length-drop}
+use lib.Seq.{take-all}
+use lib.IntN.{ℤ, pos, negsuc}
+use Rattle.line.specs.Line.{letterCode}
+use Rattle.table.specs.Tree.{MAX, MIN, CHANCE, Forest, end, leaf, inner}
+use Rattle.table.specs.Accepted.{Filled, Rooted}
+use Rattle.worth.specs.declared.Scale.{Scale}
+use Rattle.worth.specs.Worth.{Share}
+use Rattle.worth.specs.Heights.{tallest, heightValue, heightShares, firstHeight, Small}
+use Rattle.worth.specs.Inside.{kindIn, Lays, Worthy}
+use Rattle.worth.proofs.Bounds.{Each}
+use Rattle.worth.proofs.Run.{lays-le}
+use Rattle.judge.specs.declared.Play.{Play}
+use Rattle.judge.specs.declared.Play.the-variants.{Child as Kid, NoPlay}
+use Rattle.judge.specs.Judge.{Side, AtM, AtN, Root, undecided, decided, rootOf, children, numbered, noDecision, judged, noSuchChild}
+use Rattle.judge.specs.Heights.{heightLoss, heightLevels, heightJudgeChild, heightJudgeAt, Ahead}
+use Rattle.judge.specs.Inside.{Chained, Chain, playOf, AllAhead, Here, Room, Under, Levelled, forestJudge, Decided}
+use Rattle.judge.proofs.Best.{no-decision, best-ahead}
+use Rattle.judge.proofs.Shift.{numbered-each}
+use Rattle.judge.proofs.Walk.{none-left}
+use Rattle.judge.proofs.Run.{starts, Child, child-at}
+
+-- ---- the children by number
+
+lays-chained : (S : List ℕ) (lo : ℤ) (c e : ℕ) (s : List ℕ) (f : Forest ℕ) → Lays S lo c e s f → Chained S e c (starts S c f)
+unfolding Lays
+lays-chained S lo c e s end l = l
+lays-chained S lo c e s (leaf n w v rest) l =
+    (refl, omega (arith, l .1), lays-chained S lo (getD S c 0) e (drop (25 * (getD S c 0 - c)) s) rest (l .4))
+lays-chained S lo c e s (inner n w k under rest) l =
+    let j : ℕ = getD S c 0 in
+    let later : c + 1 ≤ j = lays-le S lo (c + 1) j (take (25 * (j - (c + 1))) (drop 25 s)) under (l .2) in
+    (refl, omega (arith, later), lays-chained S lo j e (drop (25 * (j - c)) s) rest (l .3))
+
+-- the node i is entry k of the nodes f
+record Reached (S : List ℕ) (g : Scale) (n : ℕ) (s : List ℕ) (k i : ℕ) (f : Forest ℕ) : Type 0 where
+  rest : Forest ℕ
+  child : Child S g n s i rest
+  there : getElem? (heightShares (g .total) (g .grain) f) k ≡ some (child .share)
+
+module _ (S : List ℕ) (g : Scale) (n : ℕ) (s : List ℕ) (room : Room S g n s) where
+  none-there : (k c i : ℕ) (f : Forest ℕ) → Here S g n s c f → n ≤ c → getElem? (starts S c f) k ≡ some i → ⊥
+  none-there k c i f H h e =
+      let nothing : starts S c f ≡ [] = none-left S n c (starts S c f) (lays-chained S (g .lowest) c n (drop (25 * c) s) f (H .lays)) h in
+      let missing : none ≡ some i = sym (ap (λ (ns : List ℕ). getElem? ns k) nothing) ∙ e in
+      let z : _≡_ {A = ℕ} 0 1 = cc in
+      omega arith
+
+  reach : (k c i : ℕ) (f : Forest ℕ) → Here S g n s c f → getElem? (starts S c f) k ≡ some i → Reached S g n s k i f
+  reach zero c i f H e = elim (decLe n c) [
+    | yes h ↦ absurd (none-there zero c i f H h e)
+    | no h ↦ first (child-at S g n s room c f H (omega arith))
+  ]
+    where
+      first : Child S g n s c f → Reached S g n s 0 i f
+      first C =
+          let one : some c ≡ some i = sym (ap (λ (ns : List ℕ). getElem? ns 0) (C .starts)) ∙ e in
+          let same : c ≡ i = cc in
+          subst (λ (j : ℕ). Reached S g n s 0 j f) same
+          (record { rest = f; child = C; there = ap (λ (xs : List (Share ℕ)). getElem? xs 0) (C .shares) })
+  reach (suc k) c i f H e = elim (decLe n c) [
+    | yes h ↦ absurd (none-there (suc k) c i f H h e)
+    | no h ↦
+        let C = child-at S g n s room c f H (omega arith) in
+        let r = reach k (getD S c 0) i (C .rest) (C .here) (sym (ap (λ (ns : List ℕ). getElem? ns (suc k)) (C .starts)) ∙ e) in
+        record { rest = r .rest; child = r .child; there = ap (λ (xs : List (Share ℕ)). getElem? xs (suc k)) (C .shares) ∙ r .there }
+  ]
+
+missing : (S : List ℕ) (T G k c : ℕ) (f : Forest ℕ) → getElem? (starts S c f) k ≡ none → getElem? (heightShares T G f) k ≡ none
+unfolding heightShares
+missing S T G k c end e = refl
+missing S T G zero c (leaf n w v rest) e = let z : _≡_ {A = ℕ} 0 1 = cc in absurd (omega arith)
+missing S T G zero c (inner n w kind under rest) e = let z : _≡_ {A = ℕ} 0 1 = cc in absurd (omega arith)
+missing S T G (suc k) c (leaf n w v rest) e = missing S T G k (getD S c 0) rest e
+missing S T G (suc k) c (inner n w kind under rest) e = missing S T G k (getD S c 0) rest e
+
+number-missing : (S : List ℕ) (T G c : ℕ) (f : Forest ℕ) (z : ℤ) → numbered z (starts S c f) ≡ none → numbered z (heightShares T G f) ≡ none
+number-missing S T G c f (pos zero) e = refl
+number-missing S T G c f (pos (suc k)) e = missing S T G k c f e
+number-missing S T G c f (negsuc k) e = refl
+
+-- what a play says of the number
+play-child : (o : Option ℕ) (i : ℕ) → Kid i ≡ playOf o → o ≡ some i
+play-child none i e = let z : _≡_ {A = ℕ} 0 1 = cc in absurd (omega arith)
+play-child (some j) i e = let same : i ≡ j = cc in ap some (sym same)
+
+play-none : (o : Option ℕ) → NoPlay ≡ playOf o → o ≡ none
+play-none none e = refl
+play-none (some j) e = let z : _≡_ {A = ℕ} 0 1 = cc in absurd (omega arith)
+
+-- ---- the root
+
+all-ahead : (side : Side) (best : ℕ) (xs : List (Share ℕ)) → Each (Ahead side best) xs → AllAhead side best xs
+all-ahead side best [] e = tt
+all-ahead side best (x ∷ xs) e = (e .0, all-ahead side best xs (e .1))
+
+-- one node is worth to a MAX what it is worth
+root-worth : (T G : ℕ) (f : Forest ℕ) → Rooted f → heightValue T MAX (heightShares T G f) ≡ firstHeight (heightShares T G f)
+unfolding heightValue heightShares tallest
+root-worth T G end r = absurd r
+root-worth T G (leaf n w h rest) r = rw (r .2) refl
+root-worth T G (inner n w k under rest) r = rw (r .2) refl
+
+module _ (S : List ℕ) (g : Scale) (n : ℕ) (s : List ℕ) where
+  -- the lines after the root's own are its children's
+  children-here : (side : Side) (f : Forest ℕ) → Lays S (g .lowest) 0 n s f → Filled f → Small (g .total) (g .grain) (g .top) f
+      → length s ≡ 25 * n → Rooted f → rootOf f ≡ decided side → Here S g n s 1 (children f)
+  unfolding Lays
+  children-here side end l F M h r e = absurd r
+  children-here side (leaf m w v rest) l F M h r e = absurd (no-decision side e)
+  children-here side (inner m w k under rest) l F M h r e =
+      let j : ℕ = getD S 0 0 in
+      let stop : j ≡ n = subst (λ (f : Forest ℕ). Lays S (g .lowest) j n (drop (25 * (j - 0)) s) f) (r .2) (l .3) in
+      let all : take (25 * (n - 1)) (drop 25 s) ≡ drop 25 s = take-all (25 * (n - 1)) (drop 25 s) (omega (arith, length-drop 25 s)) in
+      record {
+        lays = subst (λ (t : List ℕ). Lays S (g .lowest) 1 n t under) all (subst (λ (i : ℕ). Lays S (g .lowest) 1 i (take (25 * (i - 1)) (drop 25 s)) under) stop (l .2));
+        filled = F .1;
+        small = M .2;
+      }
+
+  module _ (side : Side) (D : Decided S g n s side) where
+    abbrev tree : Forest ℕ
+    tree = D .whole .ready .nodes
+
+    abbrev pub height : ℕ
+    height = firstHeight (heightShares (g .total) (g .grain) tree)
+
+    abbrev pub kids : List (Share ℕ)
+    kids = heightShares (g .total) (g .grain) (children tree)
+
+    pub room-of : Room S g n s
+    room-of =
+        let R = D .whole .ready in
+        record { long = omega (arith, R .long); room = R .room; few = R .few; scale = R .scale }
+
+    here : Here S g n s 1 (children tree)
+    here =
+        let R = D .whole .ready in
+        children-here side tree (R .lays) (R .fits .filled) (R .fits .small) (room-of .long) (D .whole .rooted) (D .root)
+
+    pub chain-of : Chain S n
+    chain-of =
+        record {
+          nodes = starts S 1 (children tree);
+          chained = lays-chained S (g .lowest) 1 n (drop (25 * 1) s) (children tree) (here .lays);
+          room = room-of .room;
+        }
+
+    pub best-of : (r : ℕ) → Worthy S g MAX 0 n s r → r ≡ height
+    best-of r w = w (D .whole .ready) ∙ root-worth (g .total) (g .grain) tree (D .whole .rooted)
+
+    pub under-of : (best : ℕ) → best ≡ height → Under S g n s side best
+    under-of best e =
+        record {
+          nodes = children tree;
+          here = here;
+          ahead = rw e (all-ahead side height kids (best-ahead (g .total) (g .grain) side tree (D .root)));
+          fits = room-of;
+        }
+
+    pub level-of : (best r : ℕ) → best ≡ height → Levelled S g n s side best r → r ≡ heightLevels side (g .grain) height kids
+    unfolding under-of
+    level-of best r e l = l (under-of best e) ∙ ap (λ (b : ℕ). heightLevels side (g .grain) b kids) e
+
+    -- ---- the child of a number
+
+    pub record Found (z : ℤ) (i : ℕ) : Type 0 where
+      pub rest : Forest ℕ
+      pub child : Child S g n s i rest
+      pub there : numbered z kids ≡ some (child .share)
+
+    at-number : (z : ℤ) (i : ℕ) → numbered z (starts S 1 (children tree)) ≡ some i → Found z i
+    at-number (pos zero) i e = let z : _≡_ {A = ℕ} 0 1 = cc in absurd (omega arith)
+    at-number (negsuc k) i e = let z : _≡_ {A = ℕ} 0 1 = cc in absurd (omega arith)
+    at-number (pos (suc k)) i e =
+        let r = reach S g n s room-of k 1 i (children tree) here e in
+        record { rest = r .rest; child = r .child; there = r .there }
+
+    pub found : (z : ℤ) (i : ℕ) (p : Play) → p ≡ Kid i → p ≡ playOf (numbered z (chain-of .nodes)) → Found z i
+    unfolding chain-of
+    found z i p e f = at-number z i (play-child (numbered z (starts S 1 (children tree))) i (sym e ∙ f))
+
+    -- ---- the judgement
+
+    decided-judge : (z : ℤ) → forestJudge g tree z ≡ heightJudgeChild side (g .grain) height kids (numbered z kids)
+    decided-judge z = ap (λ (r : Root). heightJudgeAt r (g .grain) height kids z) (D .root)
+
+    pub well-none : (z : ℤ) (p : Play) → p ≡ NoPlay → p ≡ playOf (numbered z (chain-of .nodes)) → noSuchChild ≡ forestJudge g tree z
+    unfolding chain-of
+    well-none z p e f =
+        let o : List ℕ = starts S 1 (children tree) in
+        sym (decided-judge z ∙ ap (heightJudgeChild side (g .grain) height kids) (number-missing S (g .total) (g .grain) 1 (children tree) z (play-none (numbered z o) (sym e ∙ f))))
+
+    pub well-lost : (z : ℤ) (i : ℕ) (K : Found z i) (best h l level : ℕ) → best ≡ height → h ≡ K .child .share .worth
+        → l ≡ heightLoss side best h → level ≡ heightLevels side (g .grain) height kids → judged (pos l) level ≡ forestJudge g tree z
+    well-lost z i K best h l level b w x y =
+        ap₂ (λ (m : ℕ) (v : ℕ). judged (pos m) v) (x ∙ ap₂ (heightLoss side) b w) y
+        ∙ sym (decided-judge z ∙ ap (heightJudgeChild side (g .grain) height kids) (K .there))
+
+    pub found-ahead : (z : ℤ) (i : ℕ) (K : Found z i) → Ahead side height (K .child .share .worth)
+    found-ahead z i K = numbered-each (Ahead side height) kids z (K .child .share) (best-ahead (g .total) (g .grain) side tree (D .root)) (K .there)
+
+-- ---- the root's letter
+
+getD-take : (m k : ℕ) (l : List ℕ) → k < m → getD (take m l) k 0 ≡ getD l k 0
+getD-take zero k l h = absurd (omega arith)
+getD-take (suc m) k [] h = refl
+getD-take (suc m) zero (x ∷ l) h = refl
+getD-take (suc m) (suc k) (x ∷ l) h = getD-take m k l (omega arith)
+
+module _ (S : List ℕ) (lo : ℤ) (n : ℕ) (s : List ℕ) where
+  -- the root has a line
+  pub root-line : (f : Forest ℕ) → Lays S lo 0 n s f → Rooted f → 1 ≤ n
+  unfolding Lays
+  root-line end l r = absurd r
+  root-line (leaf m w v rest) l r =
+      omega (arith, l .1, lays-le S lo (getD S 0 0) n (drop (25 * (getD S 0 0 - 0)) s) rest (l .4))
+  root-line (inner m w k under rest) l r =
+      let j : ℕ = getD S 0 0 in
+      let a : 1 ≤ j = lays-le S lo 1 j (take (25 * (j - 1)) (drop 25 s)) under (l .2) in
+      omega (arith, a, lays-le S lo j n (drop (25 * (j - 0)) s) rest (l .3))
+
+  module _ (q : ℕ) (letter : q ≡ letterCode (getD s 5 0)) where
+    code : q ≡ kindIn (take 25 s)
+    code = letter ∙ ap letterCode (sym (getD-take 25 5 s (omega arith)))
+
+    pub root-m : (f : Forest ℕ) → Lays S lo 0 n s f → Rooted f → q ≡ 1 → rootOf f ≡ decided AtM
+    unfolding Lays
+    root-m end l r e = absurd r
+    root-m (leaf m w v rest) l r e = absurd (omega (arith, code, l .0))
+    root-m (inner m w MAX under rest) l r e = refl
+    root-m (inner m w MIN under rest) l r e = absurd (omega (arith, code, l .0))
+    root-m (inner m w CHANCE under rest) l r e = absurd (omega (arith, code, l .0))
+
+    pub root-n : (f : Forest ℕ) → Lays S lo 0 n s f → Rooted f → q ≡ 2 → rootOf f ≡ decided AtN
+    unfolding Lays
+    root-n end l r e = absurd r
+    root-n (leaf m w v rest) l r e = absurd (omega (arith, code, l .0))
+    root-n (inner m w MAX under rest) l r e = absurd (omega (arith, code, l .0))
+    root-n (inner m w MIN under rest) l r e = refl
+    root-n (inner m w CHANCE under rest) l r e = absurd (omega (arith, code, l .0))
+
+    pub root-else : (f : Forest ℕ) → Lays S lo 0 n s f → Rooted f → (q ≡ 1 → ⊥) → (q ≡ 2 → ⊥) → rootOf f ≡ undecided
+    unfolding Lays
+    root-else end l r a b = absurd r
+    root-else (leaf m w v rest) l r a b = refl
+    root-else (inner m w MAX under rest) l r a b = absurd (a (code ∙ l .0))
+    root-else (inner m w MIN under rest) l r a b = absurd (b (code ∙ l .0))
+    root-else (inner m w CHANCE under rest) l r a b = refl
+
+pub whole-undecided : (g : Scale) (f : Forest ℕ) (i : ℤ) → rootOf f ≡ undecided → noDecision ≡ forestJudge g f i
+whole-undecided g f i e =
+    let G : ℕ = g .grain in
+    let xs : List (Share ℕ) = heightShares (g .total) G (children f) in
+    sym (ap (λ (r : Root). heightJudgeAt r G (firstHeight (heightShares (g .total) G f)) xs i) e)

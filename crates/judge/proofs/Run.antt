@@ -1,0 +1,270 @@
+-- The root's children in the lines, one after another: each one's run is a part of them. Assumes nothing.
+use Prim.Native.Nat.{ℕ, zero, suc, _+_, _-_, _*_, _≤_, _<_}
+use mathlib.Core.Path.{_≡_, refl, sym, ap, subst, _∙_}
+use mathlib.Core.Bool.{Bool, true, false, cond}
+use mathlib.Core.List.{List, [], _∷_}
+use native.Mathlib.Omega.{arith}
+use lib.ListN.{getD, take, drop, length-drop}
+use lib.Seq.{length-take-le, take-nil, take-take, drop-drop}
+use lib.Dec.{ltb}
+use lib.IntN.{ℤ}
+use Rattle.line.proofs.Signs.{true-ne-false}
+use Rattle.table.specs.Tree.{MAX, Forest, end, leaf, inner, isEnd}
+use Rattle.table.specs.Accepted.{Filled}
+use Rattle.worth.specs.declared.Scale.{Scale}
+use Rattle.worth.specs.Worth.{Share}
+use Rattle.worth.specs.Heights.{tallest, heightValue, heightShares, Small}
+use Rattle.worth.specs.Inside.{kindIn, weightIn, heightIn, Lays, Ready, Worthy}
+use Rattle.worth.proofs.Run.{lays-le}
+use Rattle.judge.specs.Judge.{Side}
+use Rattle.judge.specs.Heights.{heightLoss, heightLevels, Ahead}
+use Rattle.judge.specs.Inside.{levelOne, AllAhead, Here, Room, Under}
+
+-- ---- a part of the lines
+
+drop-take : (a n : ℕ) (l : List ℕ) → drop a (take n l) ≡ take (n - a) (drop a l)
+drop-take zero n l = let z : n ≡ n - 0 = omega arith in ap (λ (m : ℕ). take m l) z
+drop-take (suc a) zero l = let z : 0 ≡ 0 - suc a = omega arith in ap (λ (m : ℕ). take m (drop (suc a) l)) z
+drop-take (suc a) (suc n) [] = sym (take-nil (suc n - suc a))
+drop-take (suc a) (suc n) (x ∷ l) =
+    let z : n - a ≡ suc n - suc a = omega arith in
+    drop-take a n l ∙ ap (λ (m : ℕ). take m (drop a l)) z
+
+module _ (c j : ℕ) (s : List ℕ) (h : c < j) where
+  -- the first line of the part
+  first-line : take 25 s ≡ take 25 (take (25 * (j - c)) s)
+  first-line = sym (take-take 25 (25 * (j - c)) s (omega arith))
+
+  -- the lines under it
+  under-lines : take (25 * (j - (c + 1))) (drop 25 s) ≡ take (25 * (j - (c + 1))) (drop 25 (take (25 * (j - c)) s))
+  under-lines =
+      let m : ℕ = 25 * (j - (c + 1)) in
+      let z : m ≤ 25 * (j - c) - 25 = omega arith in
+      sym (ap (take m) (drop-take 25 (25 * (j - c)) s) ∙ take-take m (25 * (j - c) - 25) (drop 25 s) z)
+
+-- ---- the first node of a run
+
+-- the first node by itself
+abbrev only : Forest ℕ → Forest ℕ
+only end = end
+only (leaf n w v rest) = leaf n w v end
+only (inner n w k under rest) = inner n w k under end
+
+-- the node numbers of nodes with one parent, by the stops
+abbrev pub starts : List ℕ → ℕ → Forest ℕ → List ℕ
+starts S c end = []
+starts S c (leaf n w v rest) = c ∷ starts S (getD S c 0) rest
+starts S c (inner n w k under rest) = c ∷ starts S (getD S c 0) rest
+
+record Lead (S : List ℕ) (g : Scale) (c e : ℕ) (s : List ℕ) (f : Forest ℕ) : Type 0 where
+  share : Share ℕ
+  rest : Forest ℕ
+  later : c < getD S c 0
+  within : getD S c 0 ≤ e
+  shares : heightShares (g .total) (g .grain) f ≡ share ∷ heightShares (g .total) (g .grain) rest
+  starts : starts S c f ≡ c ∷ starts S (getD S c 0) rest
+  lays : Lays S (g .lowest) (getD S c 0) e (drop (25 * (getD S c 0 - c)) s) rest
+  filled : Filled rest
+  small : Small (g .total) (g .grain) (g .top) rest
+  single : Lays S (g .lowest) c (getD S c 0) (take (25 * (getD S c 0 - c)) s) (only f)
+  some : isEnd (only f) ≡ false
+  whole : Filled (only f)
+  fits : Small (g .total) (g .grain) (g .top) (only f)
+  worth : heightValue (g .total) MAX (heightShares (g .total) (g .grain) (only f)) ≡ share .worth
+
+module _ (S : List ℕ) (g : Scale) (c e : ℕ) (s : List ℕ) where
+  lead : (f : Forest ℕ) → Lays S (g .lowest) c e s f → Filled f → Small (g .total) (g .grain) (g .top) f → c < e → Lead S g c e s f
+  unfolding Lays heightShares heightValue tallest
+  lead end l F M h = absurd (omega (arith, l))
+  lead (leaf n w v rest) l F M h =
+      let j : ℕ = getD S c 0 in
+      let later : c < j = omega (arith, l .1) in
+      let line = first-line c j s later in
+      record {
+        share = record { weight = w; worth = v * g .grain };
+        rest = rest;
+        later = later;
+        within = lays-le S (g .lowest) j e (drop (25 * (j - c)) s) rest (l .4);
+        shares = refl;
+        starts = refl;
+        lays = l .4;
+        filled = F;
+        small = M .1;
+        single = (
+          ap kindIn (sym line) ∙ l .0,
+          l .1,
+          ap weightIn (sym line) ∙ l .2,
+          ap (heightIn (g .lowest)) (sym line) ∙ l .3,
+          refl,
+        );
+        some = refl;
+        whole = tt;
+        fits = (M .0, tt);
+        worth = refl;
+      }
+  lead (inner n w k under rest) l F M h =
+      let j : ℕ = getD S c 0 in
+      let part : List ℕ = take (25 * (j - (c + 1))) (drop 25 s) in
+      let after : c + 1 ≤ j = lays-le S (g .lowest) (c + 1) j part under (l .2) in
+      let later : c < j = omega (arith, after) in
+      let line = first-line c j s later in
+      record {
+        share = record { weight = w; worth = heightValue (g .total) k (heightShares (g .total) (g .grain) under) };
+        rest = rest;
+        later = later;
+        within = lays-le S (g .lowest) j e (drop (25 * (j - c)) s) rest (l .3);
+        shares = refl;
+        starts = refl;
+        lays = l .3;
+        filled = F .2;
+        small = M .3;
+        single = (
+          ap kindIn (sym line) ∙ l .0,
+          ap weightIn (sym line) ∙ l .1,
+          subst (λ (t : List ℕ). Lays S (g .lowest) (c + 1) j t under) (under-lines c j s later) (l .2),
+          refl,
+        );
+        some = refl;
+        whole = (F .0, F .1, tt);
+        fits = (M .0, M .1, M .2, tt);
+        worth = refl;
+      }
+
+-- ---- node i in all the lines
+
+pub record Child (S : List ℕ) (g : Scale) (n : ℕ) (s : List ℕ) (i : ℕ) (f : Forest ℕ) : Type 0 where
+  pub share : Share ℕ
+  pub rest : Forest ℕ
+  pub later : i < getD S i 0
+  pub within : getD S i 0 ≤ n
+  pub shares : heightShares (g .total) (g .grain) f ≡ share ∷ heightShares (g .total) (g .grain) rest
+  pub starts : starts S i f ≡ i ∷ starts S (getD S i 0) rest
+  pub here : Here S g n s (getD S i 0) rest
+  pub ready : Ready S g MAX i (getD S i 0) (take (25 * getD S i 0 - 25 * i) (drop (25 * i) s))
+  pub worth : heightValue (g .total) MAX (heightShares (g .total) (g .grain) (ready .nodes)) ≡ share .worth
+
+module _ (S : List ℕ) (g : Scale) (n : ℕ) (s : List ℕ) (room : Room S g n s) where
+  pub child-at : (i : ℕ) (f : Forest ℕ) → Here S g n s i f → i < n → Child S g n s i f
+  child-at i f H h =
+      let j : ℕ = getD S i 0 in
+      let L = lead S g i n (drop (25 * i) s) f (H .lays) (H .filled) (H .small) h in
+      let at : 25 * i + 25 * (j - i) ≡ 25 * j = omega (arith, L .later) in
+      let size : 25 * (j - i) ≡ 25 * j - 25 * i = omega arith in
+      let cut : drop (25 * (j - i)) (drop (25 * i) s) ≡ drop (25 * j) s =
+      drop-drop (25 * (j - i)) (25 * i) s ∙ ap (λ (m : ℕ). drop m s) at in
+      record {
+        share = L .share;
+        rest = L .rest;
+        later = L .later;
+        within = L .within;
+        shares = L .shares;
+        starts = L .starts;
+        here = record {
+          lays = subst (λ (t : List ℕ). Lays S (g .lowest) j n t (L .rest)) cut (L .lays);
+          filled = L .filled;
+          small = L .small;
+        };
+        ready = record {
+          nodes = only f;
+          lays = subst (λ (m : ℕ). Lays S (g .lowest) i j (take m (drop (25 * i) s)) (only f)) size (L .single);
+          fits = record { filled = L .whole; small = L .fits; sums = λ z. absurd (true-ne-false (sym z)) };
+          some = L .some;
+          long = length-take-le (25 * j - 25 * i) (drop (25 * i) s) (omega (arith, length-drop (25 * i) s, room .long, L .within)) ∙ sym size;
+          room = omega (arith, L .within, room .room);
+          few = omega (arith, L .within, room .few);
+          scale = room .scale;
+        };
+        worth = L .worth;
+      }
+
+  -- the part that ends at `e`, and what it is said to be worth
+  module _ (i : ℕ) (f : Forest ℕ) (C : Child S g n s i f) (e : ℕ) (stop : e ≡ getD S i 0) where
+    pub part-ready : Ready S g MAX i e (take (25 * e - 25 * i) (drop (25 * i) s))
+    part-ready = subst (λ (m : ℕ). Ready S g MAX i m (take (25 * m - 25 * i) (drop (25 * i) s))) (sym stop) (C .ready)
+
+    pub part-worth : (r : ℕ) → Worthy S g MAX i e (take (25 * e - 25 * i) (drop (25 * i) s)) r → r ≡ C .share .worth
+    part-worth r w =
+        subst (λ (m : ℕ). Worthy S g MAX i m (take (25 * m - 25 * i) (drop (25 * i) s)) r) stop w (C .ready) ∙ C .worth
+
+-- no lines are left, and so no nodes
+nothing-left : (S : List ℕ) (lo : ℤ) (T G c e : ℕ) (s : List ℕ) (f : Forest ℕ) → Lays S lo c e s f → e ≤ c → heightShares T G f ≡ []
+unfolding Lays heightShares
+nothing-left S lo T G c e s end l h = refl
+nothing-left S lo T G c e s (leaf n w v rest) l h =
+    absurd (omega (arith, l .1, lays-le S lo (getD S c 0) e (drop (25 * (getD S c 0 - c)) s) rest (l .4)))
+nothing-left S lo T G c e s (inner n w k under rest) l h =
+    let j : ℕ = getD S c 0 in
+    absurd (omega (arith, lays-le S lo (c + 1) j (take (25 * (j - (c + 1))) (drop 25 s)) under (l .2), lays-le S lo j e (drop (25 * (j - c)) s) rest (l .3)))
+
+-- ---- counting the level children
+
+level-low : (b : Bool) → cond b 1 0 ≤ 1
+level-low true = omega arith
+level-low false = omega arith
+
+-- up to node i there are `count` level ones
+pub record Counting (S : List ℕ) (g : Scale) (n : ℕ) (s : List ℕ) (side : Side) (best : ℕ) (f : Forest ℕ) (count i : ℕ) : Type 0 where
+  pub rest : Forest ℕ
+  pub here : Here S g n s i rest
+  pub ahead : AllAhead side best (heightShares (g .total) (g .grain) rest)
+  pub low : count ≤ i
+  pub upto : i ≤ n
+  pub same : heightLevels side (g .grain) best (heightShares (g .total) (g .grain) f)
+      ≡ count + heightLevels side (g .grain) best (heightShares (g .total) (g .grain) rest)
+
+module _ (S : List ℕ) (g : Scale) (n : ℕ) (s : List ℕ) (side : Side) (best : ℕ) where
+  abbrev pub CountingAll : ℕ → ℕ → Type 0
+  CountingAll count i = (U : Under S g n s side best) → Counting S g n s side best (U .nodes) count i
+
+  pub count-start : CountingAll 0 1
+  count-start U =
+      record {
+        rest = U .nodes;
+        here = U .here;
+        ahead = U .ahead;
+        low = omega arith;
+        upto = lays-le S (g .lowest) 1 n (drop (25 * 1) s) (U .nodes) (U .here .lays);
+        same = omega arith;
+      }
+
+  module _ (count i : ℕ) (U : Under S g n s side best) (all : CountingAll count i) where
+    pub count-child : i < n → Child S g n s i (all U .rest)
+    count-child h = child-at S g n s (U .fits) i (all U .rest) (all U .here) h
+
+    both : (h : i < n) → Ahead side best (count-child h .share .worth) × AllAhead side best (heightShares (g .total) (g .grain) (count-child h .rest))
+    both h = subst (AllAhead side best) (count-child h .shares) (all U .ahead)
+
+    pub count-ahead : (h : i < n) → Ahead side best (count-child h .share .worth)
+    count-ahead h = both h .0
+
+    pub count-turn : (h : i < n) (w more j : ℕ) → w ≡ count-child h .share .worth → more ≡ count + levelOne side (g .grain) best w → j ≡ getD S i 0
+        → Counting S g n s side best (U .nodes) more j
+    unfolding heightLevels
+    count-turn h w more j x y z =
+        let C = count-child h in
+        let T : ℕ = g .total in
+        let G : ℕ = g .grain in
+        let step : more ≡ count + levelOne side G best (C .share .worth) = y ∙ ap (λ (v : ℕ). count + levelOne side G best v) x in
+        let sum : heightLevels side G best (heightShares T G (U .nodes)) ≡ count + (levelOne side G best (C .share .worth) + heightLevels side G best (heightShares T G (C .rest))) =
+        all U .same ∙ ap (λ (xs : List (Share ℕ)). count + heightLevels side G best xs) (C .shares) in
+        rw z
+        (record {
+          rest = C .rest;
+          here = C .here;
+          ahead = both h .1;
+          low = omega (arith, step, all U .low, C .later, level-low (ltb (heightLoss side best (C .share .worth)) G));
+          upto = C .within;
+          same = omega (arith, sum, step);
+        })
+
+    pub count-low : (w : ℕ) → i < n → count + levelOne side (g .grain) best w ≤ 1025
+    count-low w h = omega (arith, all U .low, U .fits .few, level-low (ltb (heightLoss side best w) (g .grain)))
+
+    pub count-end : n ≤ i → count ≡ heightLevels side (g .grain) best (heightShares (g .total) (g .grain) (U .nodes))
+    unfolding heightLevels
+    count-end h =
+        let C = all U in
+        let none = nothing-left S (g .lowest) (g .total) (g .grain) i n (drop (25 * i) s) (C .rest) (C .here .lays) h in
+        let sum : heightLevels side (g .grain) best (heightShares (g .total) (g .grain) (U .nodes)) ≡ count + 0 =
+        C .same ∙ ap (λ (xs : List (Share ℕ)). count + heightLevels side (g .grain) best xs) none in
+        omega (arith, sum)

@@ -1,0 +1,107 @@
+-- The judge straight from the text: what its code asks of the lines and of the stops, and what it answers. Assumes nothing.
+use Prim.Native.Nat.{ℕ, _*_, _≤_, _<_}
+use mathlib.Core.Path.{_≡_}
+use mathlib.Core.Bool.{Bool, true, false, cond}
+use mathlib.Core.List.{List, [], _∷_}
+use mathlib.Core.Option.{Option, none, some}
+use lib.Dec.{ltb}
+use lib.ListN.{length, getD, drop}
+use lib.IntN.{ℤ, pos}
+use Rattle.table.specs.Tree.{MAX, Forest}
+use Rattle.table.specs.Accepted.{Filled, Rooted}
+use Rattle.worth.specs.declared.Scale.{Scale}
+use Rattle.worth.specs.Worth.{Share}
+use Rattle.worth.specs.Heights.{heightShares, firstHeight, Small}
+use Rattle.worth.specs.Inside.{Lays, OkScale, Ready}
+use Rattle.judge.specs.declared.Play.{Play}
+use Rattle.judge.specs.declared.Play.the-variants.{Child, NoPlay}
+use Rattle.judge.specs.declared.Judged.{Judged}
+use Rattle.judge.specs.declared.Judged.the-variants.{NoDecision, Judged as Told, NoChild}
+use Rattle.judge.specs.Judge.{Side, AtM, AtN, decided, rootOf, children, numbered, Judgement, noDecision, judged, noSuchChild}
+use Rattle.judge.specs.Heights.{heightLoss, heightLevels, heightJudgeAt, Ahead}
+
+abbrev pub sideIf : Bool → Side
+sideIf true = AtM
+sideIf false = AtN
+
+-- ---- the root's children by node number
+
+-- the nodes from i on up to n, each the stop of the one before it
+abbrev pub Chained : (S : List ℕ) (n i : ℕ) → List ℕ → Type 0
+Chained S n i [] = i ≡ n
+Chained S n i (m ∷ ms) = (m ≡ i) × (i < getD S i 0) × Chained S n (getD S i 0) ms
+
+-- the root's children: the first is node 1
+pub record Chain (S : List ℕ) (n : ℕ) : Type 0 where
+  pub nodes : List ℕ
+  pub chained : Chained S n 1 nodes
+  pub room : n ≤ length S
+
+abbrev pub playOf : Option ℕ → Play
+playOf none = NoPlay
+playOf (some n) = Child n
+
+abbrev pub Played : List ℕ → ℕ → ℤ → Play → Type 0
+Played S n i r = (C : Chain S n) → r ≡ playOf (numbered i (C .nodes))
+
+-- ---- level children
+
+abbrev pub levelOne : Side → (G best height : ℕ) → ℕ
+levelOne s G best height = cond (ltb (heightLoss s best height) G) 1 0
+
+abbrev pub AllAhead : Side → ℕ → List (Share ℕ) → Type 0
+AllAhead s best [] = Unit {0}
+AllAhead s best (x ∷ xs) = Ahead s best (x .worth) × AllAhead s best xs
+
+-- the lines s from node i on are these nodes, and their worths fit
+pub record Here (S : List ℕ) (g : Scale) (n : ℕ) (s : List ℕ) (i : ℕ) (f : Forest ℕ) : Type 0 where
+  pub lays : Lays S (g .lowest) i n (drop (25 * i) s) f
+  pub filled : Filled f
+  pub small : Small (g .total) (g .grain) (g .top) f
+
+-- how long the lines and the stops are
+pub record Room (S : List ℕ) (g : Scale) (n : ℕ) (s : List ℕ) : Type 0 where
+  pub long : length s ≡ 25 * n
+  pub room : n ≤ length S
+  pub few : n ≤ 1024
+  pub scale : OkScale g
+
+-- the lines of a root with its children, none of which is better than `best`
+pub record Under (S : List ℕ) (g : Scale) (n : ℕ) (s : List ℕ) (side : Side) (best : ℕ) : Type 0 where
+  pub nodes : Forest ℕ
+  pub here : Here S g n s 1 nodes
+  pub ahead : AllAhead side best (heightShares (g .total) (g .grain) nodes)
+  pub fits : Room S g n s
+
+abbrev pub Levelled : List ℕ → Scale → ℕ → List ℕ → Side → ℕ → ℕ → Type 0
+Levelled S g n s side best r =
+    (U : Under S g n s side best) → r ≡ heightLevels side (g .grain) best (heightShares (g .total) (g .grain) (U .nodes))
+
+-- ---- the judgement
+
+-- what each answer means
+abbrev pub judgedOf : Judged → Judgement
+judgedOf NoDecision = noDecision
+judgedOf (Told loss level) = judged (pos loss) level
+judgedOf NoChild = noSuchChild
+
+-- the judgement at the first of the nodes f; for a table's nodes this is `heightJudge`
+abbrev pub forestJudge : Scale → Forest ℕ → ℤ → Judgement
+forestJudge g f i =
+    heightJudgeAt (rootOf f) (g .grain) (firstHeight (heightShares (g .total) (g .grain) f)) (heightShares (g .total) (g .grain) (children f)) i
+
+-- the lines of one root with all under it
+pub record Whole (S : List ℕ) (g : Scale) (n : ℕ) (s : List ℕ) : Type 0 where
+  pub ready : Ready S g MAX 0 n s
+  pub rooted : Rooted (ready .nodes)
+
+abbrev pub WellJudged : List ℕ → Scale → ℕ → List ℕ → ℤ → Judged → Type 0
+WellJudged S g n s i r = (W : Whole S g n s) → judgedOf r ≡ forestJudge g (W .ready .nodes) i
+
+-- the same of an M or N root
+pub record Decided (S : List ℕ) (g : Scale) (n : ℕ) (s : List ℕ) (side : Side) : Type 0 where
+  pub whole : Whole S g n s
+  pub root : rootOf (whole .ready .nodes) ≡ decided side
+
+abbrev pub WellDecided : List ℕ → Scale → ℕ → List ℕ → Side → ℤ → Judged → Type 0
+WellDecided S g n s side i r = (D : Decided S g n s side) → judgedOf r ≡ forestJudge g (D .whole .ready .nodes) i
