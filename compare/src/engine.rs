@@ -1,6 +1,6 @@
 //! Calls the proved engine through its C interface.
 //!
-//! The only `unsafe` of this crate is here, in `read_into` and `worth`.
+//! The only `unsafe` of this crate is here, in `read_into`, `worth` and `judge`.
 
 use crate::second::MOST_NODES;
 
@@ -25,6 +25,14 @@ mod abi {
             text: *const u8,
             text_len: usize,
             numbers: *mut i64,
+            numbers_len: usize,
+        ) -> u64;
+
+        pub fn margin_judge(
+            text: *const u8,
+            text_len: usize,
+            number: i64,
+            numbers: *mut u64,
             numbers_len: usize,
         ) -> u64;
     }
@@ -120,6 +128,26 @@ pub fn worth(text: &[u8], numbers: &mut [i64]) -> u64 {
             text.as_ptr(),
             text.len(),
             numbers.as_mut_ptr(),
+            numbers.len(),
+        )
+    }
+}
+
+/// Judges the play of the root child with this number, counted from 1. Returns
+/// 0 or the refusal as `read` does, where refusal 14 has line 0. At an M or N
+/// root 1, the loss in grains and the count of level children stand first in
+/// `numbers`, as far as there is room; at a C or L root a 0 does. All else in it
+/// is left as it was, and everything where the call is refused.
+#[allow(unsafe_code)]
+pub fn judge(text: &[u8], number: i64, numbers: &mut [i64]) -> u64 {
+    // Sound: each pointer stands with the length of what it points to, and the
+    // two slices are apart from each other and lent for the length of the call.
+    unsafe {
+        abi::margin_judge(
+            text.as_ptr(),
+            text.len(),
+            number,
+            numbers.as_mut_ptr().cast::<u64>(),
             numbers.len(),
         )
     }

@@ -7,7 +7,7 @@
 
 mod common;
 
-use common::{code, demand, Tally};
+use common::{code, demand, Tally, OF_TABLES};
 use compare::engine::{self, Lent};
 use compare::random::{number_from_environment, seed, Random};
 use compare::second::{self, Kind, Refusal, Table, LINE, MOST_NODES};
@@ -47,7 +47,7 @@ impl Comparison {
                 escaped(text),
             );
         }
-        self.tally.add(returned);
+        self.tally.add(&[returned]);
         answer
     }
 }
@@ -183,15 +183,7 @@ fn random_texts() {
     }
     comparison.tally.report();
     demand(100, &seen.sorts());
-
-    assert!(cases >= 100_000, "only {cases} texts");
-    assert!(
-        comparison.tally.counts[0] >= 10_000,
-        "too few accepted tables"
-    );
-    for (number, count) in comparison.tally.counts.iter().enumerate().skip(1) {
-        assert!(*count >= 100, "refusal {number} came only {count} times");
-    }
+    comparison.tally.demand(&OF_TABLES);
 }
 
 // ---------------------------------------------------------------------------

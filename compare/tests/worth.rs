@@ -6,24 +6,21 @@
 //! number.
 
 mod common;
+#[path = "common/numbers.rs"]
+mod numbers;
 
-use common::{code, demand, Tally};
+use common::{code, demand, Tally, OF_TABLES};
 use compare::engine;
 use compare::random::{number_from_environment, Random};
 use compare::second::{self, Kind, Refusal, Table, FARTHEST_END, LINE, MOST_NODES};
 use compare::texts::examples::*;
-use compare::texts::small::{for_each, lines, Utilities};
+use compare::texts::small::{for_each, six_nodes};
 use compare::texts::{self, largest};
+use numbers::{agree, ROOM};
 
 // ---------------------------------------------------------------------------
 // The comparison
 // ---------------------------------------------------------------------------
-
-/// No table has this worth or G, so a number that was written shows.
-const PATTERN: i64 = -0x5a5a_5a5a_5a5a_5a5a;
-
-/// The most numbers lent to a call; one more is kept as a guard after them.
-const ROOM: usize = 5;
 
 /// Gives a text to both engines, to the proved one twice: with room to spare,
 /// and with room for 0, 1 or 2 numbers, by turns. Fails the test unless they
@@ -34,28 +31,23 @@ fn hold(tally: &mut Tally, text: &[u8]) -> Result<(Table, i64), Refusal> {
         (table, worth)
     });
     let returned = code(&answer);
+    let written = match &answer {
+        Ok((table, worth)) => &[*worth, table.grains][..],
+        Err(_) => &[],
+    };
     for room in [ROOM, (tally.cases % 3) as usize] {
-        let mut expected = [PATTERN; ROOM + 1];
-        if let Ok((table, worth)) = &answer {
-            let kept = room.min(2);
-            expected[..kept].copy_from_slice(&[*worth, table.grains][..kept]);
-        }
-        let mut numbers = [PATTERN; ROOM + 1];
-        let got = engine::worth(text, &mut numbers[..room]);
-        if got != returned || numbers != expected {
-            panic!(
-                "{}: the engines differ, with room for {room}\n\
-                 returned: expected {returned}, got {got}\n\
-                 numbers: expected {expected:?}, got {numbers:?}\n\
-                 text of {} bytes:\n{}",
-                tally.place(),
-                text.len(),
-                escaped(text),
-            );
-        }
+        hold_to(tally, text, room, returned, written);
     }
-    tally.add(returned);
+    tally.add(&[returned]);
     answer
+}
+
+/// Holds the proved engine to this answer.
+fn hold_to(tally: &Tally, text: &[u8], room: usize, returned: u64, written: &[i64]) {
+    let asked = format_args!("the worth");
+    agree(tally, text, asked, room, (returned, written), |numbers| {
+        engine::worth(text, numbers)
+    });
 }
 
 // ---------------------------------------------------------------------------
@@ -129,14 +121,7 @@ fn random_texts() {
     }
     tally.report();
     demand(100, &seen.sorts());
-
-    assert!(cases >= 100_000, "only {cases} texts");
-    let [accepted, refused @ ..] = tally.counts;
-    assert!(accepted >= 10_000, "too few accepted tables");
-    for (index, count) in refused.iter().enumerate() {
-        let number = index + 1;
-        assert!(*count >= 100, "refusal {number} came only {count} times");
-    }
+    tally.demand(&OF_TABLES);
 }
 
 // ---------------------------------------------------------------------------
@@ -148,26 +133,19 @@ fn random_texts() {
 /// the refusal would stay the same.
 #[test]
 fn every_small_table() {
-    const KINDS: &[&str] = &["M", "N", "C", "L"];
     let mut tally = Tally::new("worth of every small table");
     let mut seen = Seen::default();
-    let utilities = Utilities::OnLeaves(&["-1", "2"]);
-    let nodes = [
-        lines(0, KINDS, &[""], utilities),
-        lines(1, KINDS, &["0"], utilities),
-        lines(2, KINDS, &["0", "1"], utilities),
-        lines(3, KINDS, &["0", "1", "2"], utilities),
-        lines(4, KINDS, &["0", "1", "2", "3"], utilities),
-        // Any other kind in the last line would have no child.
-        lines(5, &["L"], &["0", "1", "2", "3", "4"], utilities),
-    ];
-    for_each((-1, 2), &nodes, &mut |text| match hold(&mut tally, text) {
-        Ok((table, worth)) => {
-            seen.add(&table, worth);
-            true
-        }
-        Err(refusal) => matches!(refusal.number, 8 | 9),
-    });
+    for_each(
+        (-1, 2),
+        &six_nodes(&["-1", "2"]),
+        &mut |text| match hold(&mut tally, text) {
+            Ok((table, worth)) => {
+                seen.add(&table, worth);
+                true
+            }
+            Err(refusal) => matches!(refusal.number, 8 | 9),
+        },
+    );
     tally.report();
     // A leaf alone comes twice, every other sort of table more often.
     demand(2, &seen.sorts());
@@ -259,10 +237,7 @@ fn second_engine_heeds_the_roots_kind() {
     let worth = |text: &[u8]| second::worth(&second::read(text).expect("accepted"));
     assert_eq!(worth(&table_b_with(1, "...0.N..................")), 14);
     // A C over both, weights 1 and 3, has K 2: (1 × 80 + 3 × 56) / 4.
-    let mut text = table_b_with(1, "...0.C..................");
-    text[2 * LINE + 15] = b'1';
-    text[3 * LINE + 15] = b'3';
-    assert_eq!(worth(&text), 62);
+    assert_eq!(worth(&table_b_under_chance()), 62);
 }
 
 /// The known tables and the refused examples, given to both engines; the proved
@@ -273,11 +248,7 @@ fn examples() {
     for (table, worth, grains) in KNOWN {
         let text = dotted(table);
         for room in 0..=ROOM {
-            let mut numbers = [PATTERN; ROOM + 1];
-            assert_eq!(engine::worth(&text, &mut numbers[..room]), 0);
-            let mut expected = [worth, grains, PATTERN, PATTERN, PATTERN, PATTERN];
-            expected[room.min(2)..].fill(PATTERN);
-            assert_eq!(numbers, expected);
+            hold_to(&tally, &text, room, 0, &[worth, grains]);
         }
         hold(&mut tally, &text).expect("accepted");
     }

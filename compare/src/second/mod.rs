@@ -3,10 +3,12 @@
 //! It shares nothing with the proved engine, so that a misreading of the
 //! document would have to be made twice to go unseen. One module a subject.
 
+mod judge;
 mod read;
 mod table;
 mod worth;
 
+pub use judge::{judge, Judgement};
 pub use read::read;
 pub use table::*;
-pub use worth::worth;
+pub use worth::{worth, worths};

@@ -3,12 +3,17 @@
 use super::table::*;
 
 /// The exact worth of the root, in grains.
+pub fn worth(table: &Table) -> i64 {
+    worths(table)[0]
+}
+
+/// The exact worth of every node, in grains.
 ///
 /// The nodes are closed from the last to the first. All nodes under a node come
 /// after it, so its entry is complete when its turn comes, and then goes into
 /// its parent's. No entry leaves the range of i64: even a sum that is not yet
 /// divided is at most 1,000,000 times 64 to the 5th.
-pub fn worth(table: &Table) -> i64 {
+pub fn worths(table: &Table) -> Vec<i64> {
     let mut entries: Vec<i64> = table
         .nodes
         .iter()
@@ -21,14 +26,15 @@ pub fn worth(table: &Table) -> i64 {
         .collect();
 
     for (i, node) in table.nodes.iter().enumerate().rev() {
-        let mut worth = entries[i];
         if node.kind == Kind::Chance {
-            assert_eq!(worth % table.total, 0, "node {i}: T leaves a remainder");
-            worth /= table.total;
+            let sum = entries[i];
+            assert_eq!(sum % table.total, 0, "node {i}: T leaves a remainder");
+            entries[i] = sum / table.total;
         }
         let Some(parent) = node.parent else {
-            return worth;
+            continue;
         };
+        let worth = entries[i];
         let entry = &mut entries[parent];
         match table.nodes[parent].kind {
             Kind::Max => *entry = worth.max(*entry),
@@ -37,5 +43,5 @@ pub fn worth(table: &Table) -> i64 {
             Kind::Leaf => unreachable!("node {i} is under a leaf"),
         }
     }
-    unreachable!("node 0 has no parent")
+    entries
 }

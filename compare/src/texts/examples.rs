@@ -54,6 +54,14 @@ pub fn table_b_with(line: usize, written: &str) -> Vec<u8> {
     text
 }
 
+/// Table B with a C as its root, whose children weigh 1 and 3.
+pub fn table_b_under_chance() -> Vec<u8> {
+    let mut text = table_b_with(1, "...0.C..................");
+    text[2 * LINE + 15] = b'1';
+    text[3 * LINE + 15] = b'3';
+    text
+}
+
 /// A chain of inner nodes of these kinds over one leaf; every weight is T.
 pub fn chain(kinds: &[u8], total: i64) -> Vec<u8> {
     let mut text = format!("{:>4}{total:>4}       0       0\n", kinds.len() + 1);

@@ -67,6 +67,18 @@ pub fn largest(random: &mut Random) -> Draft {
     grower.grow_all(random, MOST_NODES)
 }
 
+/// A valid table whose ends are one point apart and where chance nodes are
+/// frequent, so that many worths differ by less than a point.
+pub fn close(random: &mut Random) -> Draft {
+    let mut grower = Grower::new(random);
+    grower.draft.lowest = random.between(-FARTHEST_END, FARTHEST_END - 1);
+    grower.draft.highest = grower.draft.lowest + 1;
+    grower.shape = random.pick(&[Shape::Deep, Shape::Bushy, Shape::Any]);
+    grower.rarity = 2 + random.below(2);
+    let nodes = 4 + random.below(60);
+    grower.grow_all(random, nodes)
+}
+
 /// A table that is valid but for paths of 65 or 66 nodes.
 pub fn too_deep(random: &mut Random) -> Draft {
     let mut grower = Grower::new(random);

@@ -27,3 +27,8 @@ pub fn case(random: &mut Random) -> Case {
     };
     Case { text, valid }
 }
+
+/// A valid table where many worths differ by less than a point.
+pub fn close(random: &mut Random) -> Vec<u8> {
+    grow::close(random).text()
+}

@@ -33,6 +33,22 @@ pub fn lines(node: usize, kinds: &[&str], parents: &[&str], utilities: Utilities
     lines
 }
 
+/// The node lines of every table of up to six nodes over a few entries, with
+/// earlier nodes as parents and one of these utilities on each leaf.
+pub fn six_nodes(utilities: &'static [&'static str]) -> [Vec<String>; 6] {
+    const KINDS: &[&str] = &["M", "N", "C", "L"];
+    let utilities = Utilities::OnLeaves(utilities);
+    [
+        lines(0, KINDS, &[""], utilities),
+        lines(1, KINDS, &["0"], utilities),
+        lines(2, KINDS, &["0", "1"], utilities),
+        lines(3, KINDS, &["0", "1", "2"], utilities),
+        lines(4, KINDS, &["0", "1", "2", "3"], utilities),
+        // Any other kind in the last line would have no child.
+        lines(5, &["L"], &["0", "1", "2", "3", "4"], utilities),
+    ]
+}
+
 /// Hands on every text with T 2, these ends, and one node or more, each with
 /// one of its lines. Where `hand_on` returns false, the longer texts that begin
 /// with the same node lines are left out.

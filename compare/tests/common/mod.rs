@@ -6,14 +6,15 @@ use std::time::Instant;
 use compare::random::seed;
 use compare::second::Refusal;
 
-/// Counts the texts of a test, and what the engines returned for them.
+/// Counts the texts of a test, and what the engines returned for them: once for
+/// each text, or for each question asked of it.
 pub struct Tally {
     pub name: &'static str,
     pub seed: u64,
     began: Instant,
     pub cases: u64,
-    /// How often each refusal came, by its number; at 0 the accepted tables.
-    pub counts: [u64; 11],
+    /// How often each refusal came, by its number; at 0, how often none came.
+    pub counts: [u64; 15],
 }
 
 impl Tally {
@@ -23,14 +24,16 @@ impl Tally {
             seed: seed(),
             began: Instant::now(),
             cases: 0,
-            counts: [0; 11],
+            counts: [0; 15],
         }
     }
 
-    /// Counts a text for which both engines returned this.
-    pub fn add(&mut self, returned: u64) {
+    /// Counts a text for which both engines returned these.
+    pub fn add(&mut self, returned: &[u64]) {
         self.cases += 1;
-        self.counts[(returned % 100) as usize] += 1;
+        for code in returned {
+            self.counts[(code % 100) as usize] += 1;
+        }
     }
 
     /// Where a text is found again.
@@ -40,17 +43,31 @@ impl Tally {
 
     pub fn report(&self) {
         let mut report = format!(
-            "{}: seed {}, {} texts in {:.1} s; accepted {}; refused",
+            "{}: seed {}, {} texts, {} answers in {:.1} s; accepted {}; refused",
             self.name,
             self.seed,
             self.cases,
+            self.counts.iter().sum::<u64>(),
             self.began.elapsed().as_secs_f64(),
             self.counts[0],
         );
         for (number, count) in self.counts.iter().enumerate().skip(1) {
-            report += &format!("  {number}: {count}");
+            if *count > 0 {
+                report += &format!("  {number}: {count}");
+            }
         }
         say(&report);
+    }
+
+    /// Fails the test where there were too few texts or accepted tables, or one
+    /// of these refusals came too seldom.
+    pub fn demand(&self, refusals: &[usize]) {
+        assert!(self.cases >= 100_000, "only {} texts", self.cases);
+        assert!(self.counts[0] >= 10_000, "too few accepted tables");
+        for &number in refusals {
+            let count = self.counts[number];
+            assert!(count >= 100, "refusal {number} came only {count} times");
+        }
     }
 }
 
@@ -61,16 +78,16 @@ pub fn say(line: &str) {
     std::io::stderr().write_all(line.as_bytes()).expect("write");
 }
 
-/// Names every sort of accepted table with its count, then fails the test where
-/// one came too seldom.
+/// Refusals of a table itself, whatever is asked of it.
+pub const OF_TABLES: [usize; 10] = [1, 2, 3, 4, 5, 6, 7, 8, 9, 10];
+
+/// Names every sort of accepted table, or of answer about it, with its count,
+/// then fails the test where one came too seldom.
 pub fn demand(least: u64, sorts: &[(String, u64)]) {
     let lines: Vec<String> = sorts.iter().map(|(s, n)| format!("{s}: {n}")).collect();
-    say(&format!("accepted tables with {}", lines.join("; ")));
+    say(&format!("among the accepted {}", lines.join("; ")));
     for (sort, count) in sorts {
-        assert!(
-            *count >= least,
-            "tables with {sort} came only {count} times"
-        );
+        assert!(*count >= least, "{sort} came only {count} times");
     }
 }
 

@@ -13,7 +13,8 @@ use Rattle.table.specs.declared.Reading.the-variants.{Accepted}
 use Rattle.table.specs.Table.{Table, readText, answer, grain}
 use Rattle.table.proofs.Accepted.{answer-accepted, accepted-ranged, accepted-size, accepted-few, accepted-grain, accepted-leaf-lines}
 use Rattle.engine.specs.declared.Exact.the-variants.{Grains, Refused}
-use Rattle.engine.specs.Calls.{exactCall}
+use Rattle.engine.specs.declared.Opinion
+use Rattle.engine.specs.Calls.{exactCall, judgeCall}
 use Rattle.abi.specs.Numbers.{Small}
 
 pub small : (s : List ℕ) (t : Summary) → answer (readText s) ≡ Accepted t → Small t
@@ -52,6 +53,10 @@ exact-small s z g e =
     let (T, p, q) = exact-grains (readText s) z g e in
     omega (arith, q, accepted-grain s T p)
 
+pub opinion-refused : (v : Verdict Table) (i : ℤ) (r : Refusal) → judgeCall v i ≡ Opinion.the-variants.Refused r → v ≡ refused r
+opinion-refused (refused x) i r e = cc
+opinion-refused (fine t) i r e = let z : _≡_ {A = ℕ} 0 1 = cc in absurd (omega arith)
+
 -- an entry more was written
-pub stored : {a b b′ : List ℤ} {z z′ : ℤ} (i : ℕ) → a ≡ set b i z → b ≡ b′ → z ≡ z′ → a ≡ set b′ i z′
-stored i p q r = p ∙ ap₂ (λ (x : List ℤ) (y : ℤ). set x i y) q r
+pub stored : {A : Type 0} {a b b′ : List A} {z z′ : A} (i : ℕ) → a ≡ set b i z → b ≡ b′ → z ≡ z′ → a ≡ set b′ i z′
+stored {A = A} i p q r = p ∙ ap₂ (λ (x : List A) (y : A). set x i y) q r

@@ -7,6 +7,11 @@ use Rattle.table.specs.declared.Summary.{Summary}
 use Rattle.table.specs.declared.Reading.{Reading}
 use Rattle.table.specs.declared.Reading.the-variants.{Accepted, Refused}
 use Rattle.line.specs.Refusal.{numberOf, lineOf}
+use Rattle.judge.specs.declared.Judged.{Judged}
+use Rattle.judge.specs.declared.Judged.the-variants.{NoDecision, Judged as Lost, NoChild}
+use Rattle.engine.specs.declared.Opinion
+use Rattle.engine.specs.declared.Opinion.{Opinion}
+use Rattle.engine.specs.Calls.{judgeNumber, judgeLine}
 use Rattle.engine.specs.declared.Exact
 use Rattle.engine.specs.declared.Exact.{Exact}
 
@@ -30,10 +35,24 @@ abbrev pub worthNumbers : Exact → List ℤ
 worthNumbers (Exact.the-variants.Grains z g) = z ∷ pos g ∷ []
 worthNumbers (Exact.the-variants.Refused r) = []
 
--- the list l with xs written from its entry i on, as far as it goes
-abbrev pub put : ℕ → List ℤ → List ℤ → List ℤ
-put i [] l = l
-put i (x ∷ xs) l = put (suc i) xs (set l i x)
+-- the same of a judgement: 1, the loss and the number of level children, or 0 where there is no decision
+abbrev pub judgeCode : Opinion → ℕ
+judgeCode o = 100 * judgeLine o + judgeNumber o
+
+abbrev pub judgedNumbers : Judged → List ℕ
+judgedNumbers NoDecision = 0 ∷ []
+judgedNumbers (Lost loss level) = 1 ∷ loss ∷ level ∷ []
+judgedNumbers NoChild = []
+
+abbrev pub judgeNumbers : Opinion → List ℕ
+judgeNumbers (Opinion.the-variants.Given j) = judgedNumbers j
+judgeNumbers (Opinion.the-variants.Refused r) = []
+
+module _ {A : Type 0} where
+  -- the list l with xs written from its entry i on, as far as it goes
+  abbrev pub put : ℕ → List A → List A → List A
+  put i [] l = l
+  put i (x ∷ xs) l = put (suc i) xs (set l i x)
 
 -- a table's counts fit a signed number
 pub record Small (t : Summary) : Type 0 where

@@ -7,9 +7,11 @@ ghost use lib.IntN.{pos};
 ghost use Rattle.line.specs.Refusal.{lineOf};
 ghost use Rattle.table.specs.Table.{readText, answer};
 ghost use Rattle.table.specs.Slices.{fitted, kindsOf, stopsOf, weightsOf, heightsOf, decoded};
-ghost use Rattle.engine.specs.Calls.{exactCall};
-ghost use Rattle.abi.specs.Numbers.{codeOf, numbersOf, worthCode, worthNumbers, put, Small};
+ghost use Rattle.engine.specs.Calls.{exactCall, judgeCall};
+ghost use Rattle.abi.specs.Numbers.{codeOf, numbersOf, worthCode, worthNumbers, judgeCode, judgedNumbers, judgeNumbers, put, Small};
 use engine::Exact;
+use engine::Opinion;
+use judge::Judged;
 use line::Refusal;
 use table::Reading;
 use table::Summary;
@@ -96,5 +98,52 @@ pub extern "C" fn margin_worth(text: &[u8], numbers: &mut [i64]) -> u64
             put_worth(z, g, numbers);
             0
         }
+    }
+}
+
+fn put_natural(numbers: &mut [u64], i: usize, n: u64)
+    ensures { λ _. ⌜ now (numbers .exit) ≡ set (now (numbers .entry)) i n ⌝ }
+{
+    if i < numbers.len() {
+        numbers[i] = n;
+    }
+}
+
+fn put_loss(loss: u64, level: u64, numbers: &mut [u64])
+    ensures { λ _. ⌜ now (numbers .exit) ≡ put 0 (judgedNumbers (Judged.Judged loss level)) (now (numbers .entry)) ⌝ }
+{
+    put_natural(numbers, 0, 1);
+    put_natural(numbers, 1, loss);
+    put_natural(numbers, 2, level);
+}
+
+// A judgement's numbers, and 14 where there is no such child.
+fn put_judged(j: Judged, numbers: &mut [u64]) -> u64
+    ensures code { λ r. ⌜ r ≡ judgeCode (Opinion.Given j) ⌝ }
+    ensures numbers { λ _. ⌜ now (numbers .exit) ≡ put 0 (judgedNumbers j) (now (numbers .entry)) ⌝ }
+{
+    match j {
+        Judged::NoDecision => {
+            put_natural(numbers, 0, 0);
+            0
+        }
+        Judged::Judged(loss, level) => {
+            put_loss(loss, level, numbers);
+            0
+        }
+        Judged::NoChild => 14,
+    }
+}
+
+// Root child `number`, counted from 1, judged: 1, the loss in grains and the number of level children go to `numbers`, or 0 alone
+// where there is no decision. Where the table is refused, or there is no such child, nothing is written.
+#[no_mangle]
+pub extern "C" fn margin_judge(text: &[u8], number: i64, numbers: &mut [u64]) -> u64
+    ensures code { λ r. ⌜ r ≡ judgeCode (judgeCall (readText (now (text .entry))) number) ⌝ }
+    ensures numbers { λ _. ⌜ now (numbers .exit) ≡ put 0 (judgeNumbers (judgeCall (readText (now (text .entry))) number)) (now (numbers .entry)) ⌝ }
+{
+    match engine::judge_play(text, number) {
+        Opinion::Refused(r) => refusal_code(r),
+        Opinion::Given(j) => put_judged(j, numbers),
     }
 }

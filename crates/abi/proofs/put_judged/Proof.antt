@@ -1,0 +1,74 @@
+-- `abi::put_judged` meets its contract. Assumes nothing.
+use mathlib.Core.Path.{_≡_, sym, ap, _∙_}
+use borrow.Author.Needs.{needs}
+use denote.Ref.{now}
+use Rattle.judge.specs.declared.Judged.{Judged}
+use Rattle.judge.specs.declared.Judged.the-variants.{NoDecision, NoChild}
+use Rattle.engine.specs.declared.Opinion.the-variants.{Given}
+use Rattle.abi.specs.Numbers.{judgeCode, judgedNumbers, put}
+use Rattle.abi.proofs.put_judged.Statement.{statement}
+use Rattle.abi.proofs.put_judged.Tie as tie
+
+enum-told : tie.Need-enum-told
+enum-told c = search needs
+
+put-natural-requires : tie.Need-put-natural-requires
+put-natural-requires c κs = search needs
+
+enum-known-j : tie.Need-enum-known-j
+enum-known-j c = search needs
+
+put-loss-requires : tie.Need-put-loss-requires
+put-loss-requires c κs = search needs
+
+enum-told-2 : tie.Need-enum-told-2
+enum-told-2 c = search needs
+
+same-length : tie.Need-same-length
+same-length c = search needs
+
+undecided : (c : tie.After-enum-told) → c .before .before .before .args .j ≡ NoDecision
+undecided c = search needs
+
+returns : tie.Need-returns
+returns c =
+    let P = c .before .before in
+    let T = P .before .before in
+    let s = T .before .before .before in
+    let e = sym (undecided T) in
+    (ap (λ (x : Judged). judgeCode (Given x)) e, P .put-natural .ensures ∙ ap (λ (x : Judged). put 0 (judgedNumbers x) (now (s .args .numbers))) e)
+
+same-length-2 : tie.Need-same-length-2
+same-length-2 c = search needs
+
+returns-2 : tie.Need-returns-2
+returns-2 c =
+    let P = c .before .before in
+    let J = P .before .before .before in
+    let s = J .before .before .before in
+    let e = sym (J .j .given .1) in
+    (ap (λ (x : Judged). judgeCode (Given x)) e, P .put-loss .ensures ∙ ap (λ (x : Judged). put 0 (judgedNumbers x) (now (s .args .numbers))) e)
+
+missing : (c : tie.After-enum-told2) → c .before .before .before .args .j ≡ NoChild
+missing c = search needs
+
+returns-3 : tie.Need-returns-3
+returns-3 c =
+    let s = c .before .before .before in
+    let e = sym (missing c) in
+    (ap (λ (x : Judged). judgeCode (Given x)) e, ap (λ (x : Judged). put 0 (judgedNumbers x) (now (s .args .numbers))) e)
+
+pub put-judged-spec : {M : Type 1} → statement M
+put-judged-spec =
+    tie.close
+    (tie.spec
+    enum-told
+    put-natural-requires
+    enum-known-j
+    put-loss-requires
+    enum-told-2
+    same-length
+    returns
+    same-length-2
+    returns-2
+    returns-3)
