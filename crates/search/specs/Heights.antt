@@ -1,0 +1,41 @@
+-- The search over heights, in grains above the lowest end: what is computed with. Assumes nothing.
+use Prim.Native.Nat.{ℕ, _+_, _-_, _*_, _/_, min, max}
+use lib.Dec.{leb, ltb}
+use Rattle.table.specs.Tree.{Forest, end, leaf, inner}
+use Rattle.table.specs.Table.{Table, grain}
+use Rattle.table.specs.Slices.{heightTree}
+use Rattle.table.specs.Accepted.{span}
+use Rattle.search.specs.Search.{Frame, Arith, Rules, Seen, searchRoot}
+
+-- x divided by w, rounded up
+unfoldable pub ceil : ℕ → ℕ → ℕ
+ceil x w = (x + (w - 1)) / w
+
+abbrev pub natural : Arith ℕ
+natural = record {
+  high-of = max;
+  low-of = min;
+  less = ltb;
+  near = λ ε a b. leb b (a + ε);
+  down = λ e w a u. max (e .bottom) (e .top - ceil ((u - a) * e .total) w);
+  up = λ e w b l. min (e .top) (e .bottom + ceil ((b - l) * e .total) w);
+  gain = λ e w lo l. lo + w * (l - e .bottom) / e .total;
+  loss = λ e w hi h. hi - w * (e .top - h) / e .total;
+}
+
+-- heights in points as heights in grains
+unfoldable pub grained : ℕ → Forest ℕ → Forest ℕ
+grained G end = end
+grained G (leaf n w h rest) = leaf n w (h * G) (grained G rest)
+grained G (inner n w k under rest) = inner n w k (grained G under) (grained G rest)
+
+-- the ends S grains apart, and the total T
+abbrev pub frameOf : (S T : ℕ) → Frame ℕ
+frameOf S T = record { bottom = 0; top = S; total = T }
+
+abbrev pub heightRules : (S T ε : ℕ) → Rules ℕ
+heightRules S T ε = record { frame = λ (n : ℕ) (f : Forest ℕ). frameOf S T; margin = ε }
+
+-- the search of a table, every bound in grains above the lowest end
+abbrev pub heightSearched : Table → ℕ → Seen ℕ
+heightSearched t ε = searchRoot natural (heightRules (span (t .head) * grain t) (t .head .total) ε) (grained (grain t) (heightTree t))

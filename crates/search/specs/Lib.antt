@@ -1,0 +1,3 @@
+pub mod Search
+pub mod Heights
+pub mod Whole

@@ -1,0 +1,1 @@
+// The bounded search over the decoded table.
