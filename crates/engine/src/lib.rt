@@ -1,13 +1,18 @@
 // The public calls. Each takes any input, and ends with an answer or a refusal.
 ghost use mathlib.Core.Path.{_≡_};
 ghost use Prim.Native.Nat.{_≤_};
+ghost use lib.ListN.{length};
 ghost use lib.IntN.{pos, _+ℤ_, _*ℤ_};
 ghost use lib.Signed.{mag};
 ghost use Rattle.table.specs.Table.{readText};
-ghost use Rattle.engine.specs.Calls.{exactCall, judgeCall};
-ghost use Rattle.engine.specs.Inside.{Spread, scaleFor};
+ghost use Rattle.engine.specs.Calls.{exactCall, judgeCall, badMargin, searchCall, searchReads};
+ghost use Rattle.table.specs.Slices.{laid};
+ghost use Rattle.judge.specs.Inside.{playOf};
+ghost use Rattle.engine.specs.Inside.{Spread, scaleFor, ruleFor, numbered};
 use judge::Judged;
+use judge::Play;
 use line::Refusal;
+use search::Rule;
 use table::Reading;
 use table::Summary;
 use worth::Scale;
@@ -21,6 +26,21 @@ pub enum Exact {
 // The judgement, or a table's refusal.
 pub enum Opinion {
     Given(Judged),
+    Refused(Refusal),
+}
+
+// What a search answers: two bounds, the best root child entered, how many leaves were read, and G.
+pub struct Bounds {
+    pub low: i64,
+    pub high: i64,
+    pub play: Play,
+    pub leaves: usize,
+    pub grain: u64,
+}
+
+// The bounds, or a refusal.
+pub enum Bounded {
+    Found(Bounds),
     Refused(Refusal),
 }
 
@@ -76,6 +96,70 @@ pub fn judge_play(text: &[u8], number: i64) -> Opinion
         Reading::Accepted(t) => {
             let g = scale_of(t);
             Opinion::Given(judge::judge_table(&text[25..], &stop, t.nodes, g, number))
+        }
+    }
+}
+
+fn is_bad_margin(margin: i64) -> bool
+    ensures { λ r. ⌜ r ≡ badMargin margin ⌝ }
+{
+    (margin < 0) | (40000000000000 < margin)
+}
+
+// The numbers that the search of a table at an accepted margin goes by.
+fn rule_of(t: Summary, margin: i64) -> Rule
+    requires { ⌜ Spread t ⌝ }
+    ensures { λ r. ⌜ r ≡ ruleFor t margin ⌝ }
+{
+    let top = line::natural(t.highest - t.lowest) * t.grain;
+    Rule {
+        margin: line::natural(margin),
+        top: top,
+        total: t.total,
+        grain: t.grain,
+    }
+}
+
+// A node number as a play, where 0 stands for none.
+fn play_at(node: usize) -> Play
+    ensures { λ r. ⌜ r ≡ playOf (numbered node) ⌝ }
+{
+    if node == 0 {
+        return Play::NoPlay;
+    }
+    Play::Child(node)
+}
+
+// The bounded search: for any text, any margin and any list. The list gets the leaves read in reading sequence, and keeps its other
+// entries; a refused call writes nothing.
+pub fn search_table(text: &[u8], margin: i64, leaves: &mut [u16]) -> Bounded
+    ensures answers { λ r. ⌜ r ≡ searchCall (readText (now (text .entry))) margin (length (now (leaves .entry))) ⌝ }
+    ensures lists { λ _. ⌜ now (leaves .exit) ≡ laid (searchReads (readText (now (text .entry))) margin (length (now (leaves .entry)))) (now (leaves .entry)) ⌝ }
+{
+    let mut kind = [0u8; 1024];
+    let mut stop = [0u16; 1024];
+    let mut weight = [0u8; 1024];
+    let mut height = [0u32; 1024];
+    match table::read(text, &mut kind, &mut stop, &mut weight, &mut height) {
+        Reading::Refused(r) => Bounded::Refused(r),
+        Reading::Accepted(t) => {
+            if is_bad_margin(margin) {
+                return Bounded::Refused(Refusal::BadMargin);
+            }
+            if leaves.len() < t.leaves {
+                return Bounded::Refused(Refusal::NoRoom);
+            }
+            let g = rule_of(t, margin);
+            let f = search::search(&kind, &stop, &weight, &height, leaves, t.nodes, g);
+            let low = in_grains(t.lowest, t.grain, f.low);
+            let high = in_grains(t.lowest, t.grain, f.high);
+            Bounded::Found(Bounds {
+                low: low,
+                high: high,
+                play: play_at(f.play),
+                leaves: f.used,
+                grain: t.grain,
+            })
         }
     }
 }

@@ -11,7 +11,7 @@ ghost use Rattle.line.specs.Line.{header as headerOf};
 ghost use Rattle.line.specs.Inside.{headShown, pathOf, aboveShown, placingShown, Upto, Roomy, Bounded};
 use field::Field;
 
-// Why a table is refused. Each case but the first names the line: the header is line 0, and node i is line i + 1.
+// Why a table, or a call on an accepted one, is refused. A case that has a line names it: the header is line 0, and node i is line i + 1.
 pub enum Refusal {
     Length,
     IllWritten(usize),
@@ -23,6 +23,8 @@ pub enum Refusal {
     Childless(usize),
     WrongSum(usize),
     TooDeep(usize),
+    NoRoom,
+    BadMargin,
 }
 
 // The header's fields, and what they say.
@@ -90,6 +92,8 @@ pub fn refusal_number(r: Refusal) -> u64
         Refusal::Childless(_) => 8,
         Refusal::WrongSum(_) => 9,
         Refusal::TooDeep(_) => 10,
+        Refusal::NoRoom => 11,
+        Refusal::BadMargin => 12,
     }
 }
 
@@ -108,6 +112,8 @@ pub fn refusal_line(r: Refusal) -> usize
         Refusal::Childless(n) => n,
         Refusal::WrongSum(n) => n,
         Refusal::TooDeep(n) => n,
+        Refusal::NoRoom => 0,
+        Refusal::BadMargin => 0,
     }
 }
 
