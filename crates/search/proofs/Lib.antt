@@ -5,3 +5,5 @@ pub mod Width
 pub mod Safe
 pub mod Shift
 pub mod Play
+pub mod Worths
+pub mod Unread
