@@ -7,3 +7,4 @@ pub mod Shift
 pub mod Play
 pub mod Worths
 pub mod Unread
+pub mod Grains
