@@ -8,3 +8,5 @@ pub mod Play
 pub mod Worths
 pub mod Unread
 pub mod Grains
+pub mod Root
+pub mod Children

@@ -11,7 +11,7 @@ use lib.IntN.{ℤ, pos, negsuc, negℤ, subℕ, _+ℤ_, _-ℤ_, _*ℤ_}
 use lib.Signed.{leZ, shrZ}
 use Rattle.table.specs.Tree.{Kind, MAX, MIN, CHANCE, Forest, end, leaf, inner, isEnd, weigh}
 use Rattle.worth.specs.Inside.{taken, sealed}
-use Rattle.search.specs.Search.{Frame, Play, noPlay, child, Seen, State, Rules, begin, lower, upper, beats, better, prefer, take, finish, cut, stop, point, enter, after, scan, search}
+use Rattle.search.specs.Search.{Frame, Play, noPlay, child, Seen, State, Rules, begin, lower, upper, beats, better, prefer, take, finish, cut, stop, point, enter, after, scan, search, searchRoot}
 use Rattle.worth.specs.Worth.{maxZ, minZ, floorZ}
 use Rattle.search.specs.Whole.{whole, ceilZ, downZ, upZ, gainZ, lossZ}
 use Rattle.search.specs.Heights.{natural, ceil}
@@ -284,3 +284,10 @@ module _ (p q : ℕ) where
         (safe-begin S e k f (e .bottom) (e .top) [] x t (le-trans (x .ends) t) t)
         (ready-begin e k (isEnd f) (e .bottom) (e .top) [] (x .ends, x .ends))
         (rel-begin e ez k (e .bottom) (e .top) (ez .bottom) (ez .top) [] [] g (g .bottom) (g .top) refl)
+
+    -- the search of a root
+    pub shifted-root : (e : Frame ℕ) (f : Forest ℕ) → e .top ≤ S → Within (R .frame) e f → Positive MAX f → RelSeen (searchRoot natural R f) (searchRoot whole Z (shift Lo f))
+    unfolding searchRoot shift
+    shifted-root e end t i o = record { low = frames 0 end .bottom; high = frames 0 end .top; play = tt; read = refl }
+    shifted-root e (leaf n w h rest) t i o = rel-point n h [] [] refl
+    shifted-root e (inner n w k under rest) t i o = shifted-search n k under (i .2) (le-trans (i .1) t) (i .3) (o .1)
