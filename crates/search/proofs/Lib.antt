@@ -10,3 +10,4 @@ pub mod Unread
 pub mod Grains
 pub mod Root
 pub mod Children
+pub mod Demand
