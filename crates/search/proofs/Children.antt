@@ -17,6 +17,7 @@ use Rattle.table.proofs.Heights.{above, mapForest, map-end, map-filled}
 use Rattle.worth.specs.Worth.{shares, value}
 use Rattle.worth.specs.Heights.{heightValue, heightShares, Small}
 use Rattle.worth.proofs.Shift.{utility-shift, node-shift, shares-shift}
+use Rattle.judge.specs.Judge.{children, rootOf}
 use Rattle.search.specs.Search.{Frame}
 use Rattle.search.specs.Whole.{inGrains, worthAt}
 use Rattle.search.specs.Heights.{grained, frameOf}
@@ -101,3 +102,17 @@ module _ (T G K S : ℕ) (h : Head) (positive : 0 < T) where
   child-worth d c u (inner n w k under rest) p fl bl s b r m v (next-inner i) =
       let past : n < m = child-from (plain S T) G m v (suc n) (lowered rest) (r .1) i in
       cond-past (eqb n m) _ _ (ne-eqb n m (λ e. omega arith)) ∙ child-worth d c u rest (p .4) (fl .2) (bl .2) (s .3) (suc n) (r .1) m v i
+
+  -- a root child of these nodes, which stand in slices
+  pub play-worth : (f : Forest ℤ) → Proper T K (Within h) 0 0 false f → Filled f → Balanced T f → Small T G S (lowered f)
+      → (s : Slices) (e : ℕ) → Spans s 0 e (lowered f) → (m v : ℕ) → Child (plain S T) m v (children (grained G (lowered f)))
+      → worthAt T G m (children f) ≡ some (base +ℤ pos v)
+  unfolding grained
+  play-worth (inner n w k under rest) p fl bl sm s e x m v i =
+      child-worth 1 (0 + one k) (isChance k) under (p .3) (fl .1) (bl .1) (sm .2) 1 (rising-under s 0 e n w k (lowered under) (lowered rest) x) m v i
+
+  pub root-same : (f : Forest ℤ) → rootOf (grained G (lowered f)) ≡ rootOf f
+  unfolding grained
+  root-same end = refl
+  root-same (leaf n w v rest) = refl
+  root-same (inner n w k under rest) = refl

@@ -3,9 +3,10 @@ use Prim.Native.Nat.{ℕ, _+_, _*_, _≤_}
 use mathlib.Core.Path.{_≡_, refl, sym, ap, ap₂, subst, _∙_}
 use mathlib.Core.Bool.{true, false}
 use mathlib.Core.List.{List, [], _∷_}
-use mathlib.Core.Option.{Option, none, some}
+use mathlib.Core.Option.{some, Option·some-injective}
 use native.Mathlib.Nat.{le-refl, le-trans}
 use native.Mathlib.Omega.{arith}
+use lib.ListN.{length}
 use lib.IntN.{ℤ, pos, _+ℤ_, _*ℤ_, +ℤ-assoc}
 use lib.Signed.{leZ}
 use Rattle.line.specs.Refusal.{fine}
@@ -20,7 +21,7 @@ use Rattle.worth.specs.Heights.{heightWorth, Small}
 use Rattle.worth.proofs.Signs.{Is, plus, minus, parts, is-unique, is-eq}
 use Rattle.worth.proofs.Shift.{lift}
 use Rattle.worth.proofs.Worth.{le-above, heights-small, shift as worth-shift, top}
-use Rattle.judge.specs.Judge.{children, rootOf, decided, AtM, AtN}
+use Rattle.judge.specs.Judge.{Root, children, rootOf, decided, AtM, AtN}
 use Rattle.search.specs.Search.{Frame, Play, noPlay, child, Seen, searchRoot, nodeOf}
 use Rattle.search.specs.Heights.{natural, grained, frameOf, heightRules, heightSearched}
 use Rattle.search.specs.Whole.{whole, inGrains, ends, rules, searched, worthAt, playWorth}
@@ -28,8 +29,8 @@ use Rattle.search.proofs.Heights.{Child, shift}
 use Rattle.search.proofs.Shift.{Rel, RelFrame, RelPlay, RelSeen, shifted-root}
 use Rattle.search.proofs.Worths.{plain}
 use Rattle.search.proofs.Grains.{within, positive}
-use Rattle.search.proofs.Root.{Played, holds, narrow, plays}
-use Rattle.search.proofs.Children.{Rising, rising-under, grains-shift, child-worth}
+use Rattle.search.proofs.Root.{Side, Played, holds, narrow, plays}
+use Rattle.search.proofs.Children.{Rising, rising-under, grains-shift, play-worth, root-same}
 
 -- ε more
 le-margin : (b : ℤ) (x y ε : ℕ) → x ≤ y + ε → leZ (b +ℤ pos x) (b +ℤ pos y +ℤ pos ε) ≡ true
@@ -121,3 +122,48 @@ module _ (s : List ℕ) (t : Table) (r : readText s ≡ fine t) (ε : ℕ) where
   -- "demand 3's width": the bounds are at most the margin apart
   pub width : leZ (searched t ε .high) (searched t ε .low +ℤ pos ε) ≡ true
   width = ap₂ leZ high-is (ap (λ (z : ℤ). z +ℤ pos ε) low-is) ∙ le-margin base (heights .high) (heights .low) ε heights-width
+
+  -- ---- the play
+
+  played : (m : ℕ) → nodeOf (searched t ε .play) ≡ some m
+      → Played top-height (t .head .total) ε (grained G (heightTree t)) (heights .low) (heights .high) (heightWorth t) m
+  played m e =
+      plays (t .head .total) (greatest (t .lines)) (span (t .head)) ε (accepted-ranged s t r .some) (heightTree t) tree-fine m (sym play-is ∙ e)
+
+  lowered-small : Small (t .head .total) G top-height (mapForest (above (t .head .lowest)) (tree t))
+  lowered-small = rw (heights-map t) at (heights-small s t r)
+
+  lowered-spans : Spans (slicesOf t) 0 (length (t .lines)) (mapForest (above (t .head .lowest)) (tree t))
+  lowered-spans = subst (λ (f : Forest ℕ). Spans (slicesOf t) 0 (length (t .lines)) f) (heights-map t) (accepted-spans s t r)
+
+  child-is : (m v : ℕ) → Child (plain top-height (t .head .total)) m v (children (grained G (heightTree t))) → playWorth t m ≡ some (base +ℤ pos v)
+  child-is m v c =
+      play-worth (t .head .total) G (greatest (t .lines)) top-height (t .head) (accepted-ranged s t r .some) (tree t) (accepted-proper s t r) (accepted-filled s t r)
+      (accepted-balanced s t r) lowered-small (slicesOf t) (length (t .lines)) lowered-spans m v
+      (subst (λ (f : Forest ℕ). Child (plain top-height (t .head .total)) m v (children (grained G f))) (heights-map t) c)
+
+  -- "the play's worth .. is within the margin of it"
+  pub play-near : (m : ℕ) → nodeOf (searched t ε .play) ≡ some m
+      → (v : ℤ) × (playWorth t m ≡ some v) × (leZ v (worthOf t +ℤ pos ε) ≡ true) × (leZ (worthOf t) (v +ℤ pos ε) ≡ true)
+  play-near m e =
+      let p = played m e in (
+        base +ℤ pos (p .value),
+        child-is m (p .value) (p .named),
+        ap (λ (z : ℤ). leZ (base +ℤ pos (p .value)) (z +ℤ pos ε)) (worth-shift s t r) ∙ le-margin base (p .value) (heightWorth t) ε (p .at-most),
+        ap (λ (z : ℤ). leZ z (base +ℤ pos (p .value) +ℤ pos ε)) (worth-shift s t r) ∙ le-margin base (heightWorth t) (p .value) ε (p .at-least),
+      )
+
+  root-is : rootOf (grained G (heightTree t)) ≡ rootOf (tree t)
+  root-is =
+      ap (λ (f : Forest ℕ). rootOf (grained G f)) (heights-map t)
+      ∙ root-same (t .head .total) G (greatest (t .lines)) top-height (t .head) (accepted-ranged s t r .some) (tree t)
+
+  -- at M the play is worth at least low, at N at most high
+  pub play-side : (m : ℕ) → nodeOf (searched t ε .play) ≡ some m → (v : ℤ) → playWorth t m ≡ some v
+      → (rootOf (tree t) ≡ decided AtM → leZ (searched t ε .low) v ≡ true) × (rootOf (tree t) ≡ decided AtN → leZ v (searched t ε .high) ≡ true)
+  play-side m e v f =
+      let p = played m e in
+      let x : v ≡ base +ℤ pos (p .value) = Option·some-injective v (base +ℤ pos (p .value)) (sym f ∙ child-is m (p .value) (p .named)) in (
+        λ d. ap₂ leZ low-is x ∙ le-above base (heights .low) (p .value) (subst (λ (q : Root). Side q (heights .low) (heights .high) (p .value)) (root-is ∙ d) (p .side)),
+        λ d. ap₂ leZ x high-is ∙ le-above base (p .value) (heights .high) (subst (λ (q : Root). Side q (heights .low) (heights .high) (p .value)) (root-is ∙ d) (p .side)),
+      )
