@@ -11,3 +11,4 @@ pub mod Grains
 pub mod Root
 pub mod Children
 pub mod Demand
+pub mod Changed
