@@ -12,3 +12,4 @@ pub mod Root
 pub mod Children
 pub mod Demand
 pub mod Changed
+pub mod Worked
