@@ -13,3 +13,4 @@ pub mod Children
 pub mod Demand
 pub mod Changed
 pub mod Worked
+pub mod Remainder

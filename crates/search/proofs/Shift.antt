@@ -150,19 +150,19 @@ module _ (p q : ℕ) where
   Ready MIN e s = Unit {0}
   Ready CHANCE e s = Holds (not e) → (s .lo ≤ s .beta) × (s .alpha ≤ s .hi)
 
-  ready-begin : (d : Frame ℕ) (k : Kind) (x : Bool) (a b : ℕ) (l : List ℕ) → (d .bottom ≤ b) × (a ≤ d .top) → Ready k x (begin d k a b l)
+  pub ready-begin : (d : Frame ℕ) (k : Kind) (x : Bool) (a b : ℕ) (l : List ℕ) → (d .bottom ≤ b) × (a ≤ d .top) → Ready k x (begin d k a b l)
   unfolding begin
   ready-begin d MAX x a b l h = tt
   ready-begin d MIN x a b l h = tt
   ready-begin d CHANCE x a b l h = λ _. h
 
-  rel-lower : (e : Frame ℕ) (ez : Frame ℤ) (k : Kind) (w : ℕ) (s : State ℕ) (z : State ℤ) → Pays k w → e .bottom ≤ e .top → RelFrame e ez → Ready k false s → RelState s z → Rel (lower natural e k w s) (lower whole ez k w z)
+  pub rel-lower : (e : Frame ℕ) (ez : Frame ℤ) (k : Kind) (w : ℕ) (s : State ℕ) (z : State ℤ) → Pays k w → e .bottom ≤ e .top → RelFrame e ez → Ready k false s → RelState s z → Rel (lower natural e k w s) (lower whole ez k w z)
   unfolding lower downZ
   rel-lower e ez MAX w s z wp o f r i = i .alpha
   rel-lower e ez MIN w s z wp o f r i = i .alpha
   rel-lower e ez CHANCE w s z wp o f r i = rw (f .total) (lower-fit (e .total) w _ _ (ez .bottom) (ez .top) wp o (f .bottom) (f .top) _ _ (z .alpha) (z .hi) (r tt .1) (i .alpha) (i .hi))
 
-  rel-upper : (e : Frame ℕ) (ez : Frame ℤ) (k : Kind) (w : ℕ) (s : State ℕ) (z : State ℤ) → Pays k w → e .bottom ≤ e .top → RelFrame e ez → Ready k false s → RelState s z → Rel (upper natural e k w s) (upper whole ez k w z)
+  pub rel-upper : (e : Frame ℕ) (ez : Frame ℤ) (k : Kind) (w : ℕ) (s : State ℕ) (z : State ℤ) → Pays k w → e .bottom ≤ e .top → RelFrame e ez → Ready k false s → RelState s z → Rel (upper natural e k w s) (upper whole ez k w z)
   unfolding upper upZ
   rel-upper e ez MAX w s z wp o f r i = i .beta
   rel-upper e ez MIN w s z wp o f r i = i .beta
@@ -192,7 +192,7 @@ module _ (p q : ℕ) where
   rel-better k n (child m l h) (child m2 l2 h2) r x i o =
       pick-rel RelPlay _ _ _ _ (beats natural k (r .low) (r .high) l h) (beats whole k (x .low) (x .high) l2 h2) (same k _ _ _ _ (x .low) (x .high) l2 h2 (o .low) (o .high) (i .1) (i .2)) (refl, o .low, o .high) (λ _. i)
 
-  rel-take : (S : ℕ) (e : Frame ℕ) (ez : Frame ℤ) (k : Kind) (n w W : ℕ) (s : State ℕ) (z : State ℤ) (r : Seen ℕ) (x : Seen ℤ) → RelFrame e ez → e .bottom ≤ r .low → r .low ≤ r .high → r .high ≤ e .top → Safe S e k (w + W) s
+  pub rel-take : (S : ℕ) (e : Frame ℕ) (ez : Frame ℤ) (k : Kind) (n w W : ℕ) (s : State ℕ) (z : State ℤ) (r : Seen ℕ) (x : Seen ℤ) → RelFrame e ez → e .bottom ≤ r .low → r .low ≤ r .high → r .high ≤ e .top → Safe S e k (w + W) s
       → RelState s z → RelSeen r x → RelState (take natural e k n w s r) (take whole ez k n w z x)
   unfolding take gainZ lossZ
   rel-take S e ez MAX n w W s z r x f bl lh rS j i o =
@@ -213,7 +213,7 @@ module _ (p q : ℕ) where
         let h = rel-high-chance T w (e .top) (s .hi) (r .high) (ez .top) (z .hi) (x .high) (j .4) rS fits (f .top) (i .hi) (o .high) in
         record { alpha = rel-max _ _ (z .alpha) _ (i .alpha) l; beta = rel-min _ _ (z .beta) _ (i .beta) h; lo = l; hi = h; play = tt; read = o .read })
 
-  ready-take : (ε : ℕ) (e : Frame ℕ) (k : Kind) (n w : ℕ) (s : State ℕ) (r : Seen ℕ) (rest : Forest ℕ) → Holds (not (stop natural ε rest (take natural e k n w s r))) → Ready k (isEnd rest) (take natural e k n w s r)
+  pub ready-take : (ε : ℕ) (e : Frame ℕ) (k : Kind) (n w : ℕ) (s : State ℕ) (r : Seen ℕ) (rest : Forest ℕ) → Holds (not (stop natural ε rest (take natural e k n w s r))) → Ready k (isEnd rest) (take natural e k n w s r)
   unfolding take stop
   ready-take ε e MAX n w s r rest h = tt
   ready-take ε e MIN n w s r rest h = tt
@@ -228,11 +228,11 @@ module _ (p q : ℕ) where
     rel-lift : (h : ℕ) → Rel h (Lo +ℤ pos h)
     rel-lift h = is-eq (Lo +ℤ pos h) (p + h) (q + 0) _ _ (is-add Lo (pos h) p q h 0 isLo (omega arith)) (omega arith)
 
-    rel-point : (n h : ℕ) (l m : List ℕ) → m ≡ l → RelSeen (point n h l) (point n (Lo +ℤ pos h) m)
+    pub rel-point : (n h : ℕ) (l m : List ℕ) → m ≡ l → RelSeen (point n h l) (point n (Lo +ℤ pos h) m)
     unfolding point
     rel-point n h l m r = record { low = rel-lift h; high = rel-lift h; play = tt; read = ap (λ x. x ++ (n ∷ [])) r }
 
-    rel-stop : (rest : Forest ℕ) (s : State ℕ) (z : State ℤ) → RelState s z → stop whole (R .margin) (shift Lo rest) z ≡ stop natural (R .margin) rest s
+    pub rel-stop : (rest : Forest ℕ) (s : State ℕ) (z : State ℤ) → RelState s z → stop whole (R .margin) (shift Lo rest) z ≡ stop natural (R .margin) rest s
     unfolding stop
     rel-stop rest s z i = ap₂ (λ x y. not x && y) (isEnd-shift Lo rest) (rel-le (R .margin) _ _ (z .alpha) (z .beta) (i .alpha) (i .beta))
 

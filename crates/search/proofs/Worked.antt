@@ -33,7 +33,7 @@ row text ε = next (readText text) (λ (t : Table). fine (told (searched t ε)))
 abbrev pub Known : (text : List ℕ) (ε : ℕ) → Row → Type 0
 Known text ε r = row text ε ≡ fine r
 
--- every starred row of the search: A at margins 0, 2, 3, 9 and 10, B at 0, 11 and 12, B turned at 12, and a lone leaf of 7
+-- every starred row of the search: A at margins 0, 2, 3, 9 and 10, B at 0, 11 and 12, B turned at 12, and a lone leaf of 7 at any
 pub worked : Known table-a 0 (record { low = pos 3; high = pos 3; play = some 1; leaves = 2 ∷ 3 ∷ 5 ∷ [] })
     × Known table-a 2 (record { low = pos 3; high = pos 3; play = some 1; leaves = 2 ∷ 3 ∷ 5 ∷ [] })
     × Known table-a 3 (record { low = pos 0; high = pos 3; play = some 1; leaves = 2 ∷ 5 ∷ [] })
@@ -43,9 +43,9 @@ pub worked : Known table-a 0 (record { low = pos 3; high = pos 3; play = some 1;
     × Known table-b 11 (record { low = pos 20; high = pos 20; play = some 1; leaves = 1 ∷ 3 ∷ [] })
     × Known table-b 12 (record { low = pos 20; high = pos 32; play = some 1; leaves = 1 ∷ [] })
     × Known turned-b 12 (record { low = negsuc 31; high = negsuc 19; play = some 1; leaves = 1 ∷ [] })
-    × Known lone-leaf 0 (record { low = pos 7; high = pos 7; play = none; leaves = 0 ∷ [] })
+    × ((ε : ℕ) → Known lone-leaf ε (record { low = pos 7; high = pos 7; play = none; leaves = 0 ∷ [] }))
 unfolding strip digits wholeField signed unless unlessAt climb run afterRun forest weigh nodesWhere nodeLines complete readText greatest searchRoot search scan begin lower upper take beats finish cut stop point maxZ minZ floorZ ceilZ downZ upZ gainZ lossZ inGrains
-worked = (refl, refl, refl, refl, refl, refl, refl, refl, refl, refl)
+worked = (refl, refl, refl, refl, refl, refl, refl, refl, refl, λ ε. refl)
 
 -- "Ends 0 and 32 grains, T 4, weight 3. Alpha for alpha 21, high 32: 17. Beta for beta 20, low 0: 27."
 worked-alpha : downZ (record { bottom = pos 0; top = pos 32; total = 4 }) 3 (pos 21) (pos 32) ≡ pos 17

@@ -2,3 +2,4 @@ pub mod Search
 pub mod Heights
 pub mod Whole
 pub mod Unread
+pub mod Exact
