@@ -1,5 +1,5 @@
 -- Demand 3 of the search of every accepted table. Document 01, 'The search'. Assumes nothing.
-use Prim.Native.Nat.{ℕ, _+_, _*_, _≤_}
+use Prim.Native.Nat.{ℕ, _+_, _*_, _^_, _≤_}
 use mathlib.Core.Path.{_≡_, refl, sym, ap, ap₂, subst, _∙_}
 use mathlib.Core.Bool.{true, false}
 use mathlib.Core.List.{List, [], _∷_}
@@ -25,11 +25,13 @@ use Rattle.judge.specs.Judge.{Root, children, rootOf, decided, AtM, AtN}
 use Rattle.search.specs.Search.{Frame, Play, noPlay, child, Seen, searchRoot, nodeOf}
 use Rattle.search.specs.Heights.{natural, grained, frameOf, heightRules, heightSearched}
 use Rattle.search.specs.Whole.{whole, inGrains, ends, rules, searched, worthAt, playWorth}
-use Rattle.search.proofs.Heights.{Child, shift}
+use Rattle.search.specs.Exact.{Whole, EachTakenRoot, NoRemainder}
+use Rattle.search.proofs.Heights.{Child, Within, Positive, Fit, shift}
 use Rattle.search.proofs.Shift.{Rel, RelFrame, RelPlay, RelSeen, shifted-root}
 use Rattle.search.proofs.Worths.{plain}
-use Rattle.search.proofs.Grains.{within, positive}
+use Rattle.search.proofs.Grains.{within, positive, fit}
 use Rattle.search.proofs.Root.{Side, Played, holds, narrow, plays}
+use Rattle.search.proofs.Remainder.{whole-root}
 use Rattle.search.proofs.Children.{Rising, rising-under, grains-shift, play-worth, root-same}
 
 -- ε more
@@ -85,13 +87,18 @@ module _ (s : List ℕ) (t : Table) (r : readText s ≡ fine t) (ε : ℕ) where
   tree-shift : inGrains G (tree t) ≡ shift base (grained G (heightTree t))
   tree-shift = rw (heights-map t) (grains-shift (t .head .total) G (greatest (t .lines)) top-height (t .head) (accepted-ranged s t r .some) 0 0 false (tree t) (accepted-proper s t r))
 
+  tree-within : Within (plain top-height (t .head .total)) (frameOf top-height (t .head .total)) (grained G (heightTree t))
+  tree-within =
+      within (t .head .total) (span (t .head)) G (accepted-ranged s t r .some) (greatest (t .lines)) 0 0 false (heightTree t) (heights-proper s t r) (heights-balanced s t r)
+
+  tree-positive : Positive MAX (grained G (heightTree t))
+  tree-positive =
+      positive (t .head .total) (span (t .head)) G (accepted-ranged s t r .some) (greatest (t .lines)) 0 0 MAX (heightTree t) (heights-proper s t r)
+
   rel-found : RelSeen (plus base) (minus base) heights (searched t ε)
   rel-found =
-      let T : ℕ = t .head .total in
-      rw tree-shift (shifted-root (plus base) (minus base) base (parts base) top-height (heightRules top-height T ε) (λ (n : ℕ) (f : Forest ℤ). ends t)
-      (λ n f. rel-frame) (λ n f. (refl, refl)) (frameOf top-height T) (grained G (heightTree t)) (le-refl top-height)
-      (within T (span (t .head)) G (accepted-ranged s t r .some) (greatest (t .lines)) 0 0 false (heightTree t) (heights-proper s t r) (heights-balanced s t r))
-      (positive T (span (t .head)) G (accepted-ranged s t r .some) (greatest (t .lines)) 0 0 MAX (heightTree t) (heights-proper s t r)))
+      rw tree-shift (shifted-root (plus base) (minus base) base (parts base) top-height (heightRules top-height (t .head .total) ε) (λ (n : ℕ) (f : Forest ℤ). ends t)
+      (λ n f. rel-frame) (λ n f. (refl, refl)) (frameOf top-height (t .head .total)) (grained G (heightTree t)) (le-refl top-height) tree-within tree-positive)
 
   rel-is : (x : ℕ) (z : ℤ) → Rel (plus base) (minus base) x z → z ≡ base +ℤ pos x
   rel-is x z i = is-unique z (base +ℤ pos x) (plus base + x) (minus base) i (lift base (plus base) (minus base) x (parts base))
@@ -167,3 +174,15 @@ module _ (s : List ℕ) (t : Table) (r : readText s ≡ fine t) (ε : ℕ) where
         λ d. ap₂ leZ low-is x ∙ le-above base (heights .low) (p .value) (subst (λ (q : Root). Side q (heights .low) (heights .high) (p .value)) (root-is ∙ d) (p .side)),
         λ d. ap₂ leZ x high-is ∙ le-above base (p .value) (heights .high) (subst (λ (q : Root). Side q (heights .low) (heights .high) (p .value)) (root-is ∙ d) (p .side)),
       )
+
+  -- ---- the divisions of lines 20 and 21
+
+  tree-fit : Fit (plain top-height (t .head .total)) (t .head .total ^ 0) (grained G (heightTree t))
+  tree-fit = fit (t .head .total) (span (t .head)) (greatest (t .lines)) 0 0 false (heightTree t) (heights-proper s t r)
+
+  -- "that division never leaves a remainder, and this is proved": of the search's divisions by T
+  pub no-remainder : NoRemainder t ε
+  no-remainder =
+      rw tree-shift (whole-root (plus base) (minus base) base (parts base) top-height (heightRules top-height (t .head .total) ε) (λ (n : ℕ) (f : Forest ℤ). ends t)
+      (λ n f. rel-frame) (λ n f. (refl, refl)) (frameOf top-height (t .head .total)) (t .head .total ^ 0) (grained G (heightTree t)) (le-refl top-height)
+      tree-within tree-positive tree-fit)
