@@ -14,3 +14,4 @@ pub mod Demand
 pub mod Changed
 pub mod Worked
 pub mod Remainder
+pub mod Turn

@@ -3,3 +3,4 @@ pub mod Heights
 pub mod Whole
 pub mod Unread
 pub mod Exact
+pub mod Turned
