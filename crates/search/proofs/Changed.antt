@@ -32,7 +32,7 @@ alike-grains G (alike-inner u a) = alike-inner (alike-grains G u) (alike-grains 
 max-max : (a b c : ℕ) → max a (max b c) ≡ max (max a b) c
 max-max a b c = omega arith
 
-greatest-both : (xs ys : List Line) → greatest (xs ++ ys) ≡ max (greatest xs) (greatest ys)
+pub greatest-both : (xs ys : List Line) → greatest (xs ++ ys) ≡ max (greatest xs) (greatest ys)
 unfolding greatest
 greatest-both [] ys = omega arith
 greatest-both (x ∷ xs) ys = ap (max (x .chances)) (greatest-both xs ys) ∙ max-max (x .chances) (greatest xs) (greatest ys)

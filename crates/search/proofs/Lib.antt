@@ -15,3 +15,4 @@ pub mod Changed
 pub mod Worked
 pub mod Remainder
 pub mod Turn
+pub mod Turned

@@ -19,7 +19,7 @@ use Rattle.worth.proofs.Bounds.{weights, weights-shares}
 
 -- ---- integers as differences
 
-is-times : (G : ℕ) (z : ℤ) (a b : ℕ) → Is z a b → Is (z *ℤ pos G) (G * a) (G * b)
+pub is-times : (G : ℕ) (z : ℤ) (a b : ℕ) → Is z a b → Is (z *ℤ pos G) (G * a) (G * b)
 is-times G z a b p = rw (*ℤ-comm z (pos G)) (is-mul G z a b p)
 
 pub lift : (z : ℤ) (a b h : ℕ) → Is z a b → Is (z +ℤ pos h) (a + h) b
