@@ -10,12 +10,12 @@ use lib.Signed.{leZ}
 use Rattle.line.specs.declared.Head.{Head}
 use Rattle.line.specs.declared.Line.{Line}
 use Rattle.line.specs.Refusal.{fine}
-use Rattle.table.specs.Tree.{Forest, end, leaf, inner}
+use Rattle.table.specs.Tree.{Forest}
 use Rattle.table.specs.Table.{Table, tree, readText, greatest, grain}
 use Rattle.table.specs.Accepted.{one, flat}
 use Rattle.table.proofs.Accepted.{accepted-flat}
 use Rattle.worth.specs.Worth.{worthOf}
-use Rattle.search.specs.Search.{Frame, Rules, Seen, searchRoot, nodeOf}
+use Rattle.search.specs.Search.{Seen, searchRoot, nodeOf}
 use Rattle.search.specs.Whole.{whole, inGrains, rules, searched, playWorth}
 use Rattle.search.specs.Unread.{ReadBy, Alike, alike-end, alike-leaf, alike-inner}
 use Rattle.search.proofs.Unread.{unread-root}

@@ -1,8 +1,8 @@
 -- The root child of a number: its worth over the integers, from its worth over heights. Assumes nothing.
-use Prim.Native.Nat.{ℕ, suc, _+_, _*_, _≤_, _<_}
+use Prim.Native.Nat.{ℕ, suc, _+_, _≤_, _<_}
 use mathlib.Core.Path.{_≡_, refl, sym, ap, _∙_}
 use mathlib.Core.Bool.{Bool, true, false, cond}
-use mathlib.Core.Option.{Option, none, some}
+use mathlib.Core.Option.{some}
 use native.Mathlib.Omega.{arith}
 use borrow.Author.Tests.{eq-eqb, ne-eqb}
 use lib.Dec.{eqb}
@@ -10,18 +10,17 @@ use lib.ListN.{getD}
 use lib.IntN.{ℤ, pos, _+ℤ_, _*ℤ_}
 use Rattle.line.specs.declared.Head.{Head}
 use Rattle.line.specs.Line.{Within}
-use Rattle.table.specs.Tree.{Kind, Forest, end, leaf, inner, isChance, isEnd}
+use Rattle.table.specs.Tree.{Kind, Forest, end, leaf, inner, isChance}
 use Rattle.table.specs.Slices.{Slices, Spans}
 use Rattle.table.specs.Accepted.{one, Filled, Balanced, Proper}
 use Rattle.table.proofs.Heights.{above, mapForest, map-end, map-filled}
-use Rattle.worth.specs.Worth.{shares, value}
-use Rattle.worth.specs.Heights.{heightValue, heightShares, Small}
+use Rattle.worth.specs.Heights.{Small}
 use Rattle.worth.proofs.Shift.{utility-shift, node-shift, shares-shift}
 use Rattle.judge.specs.Judge.{children, rootOf}
 use Rattle.search.specs.Search.{Frame}
 use Rattle.search.specs.Whole.{inGrains, worthAt}
-use Rattle.search.specs.Heights.{grained, frameOf}
-use Rattle.search.proofs.Heights.{worth, Child, here-leaf, here-inner, next-leaf, next-inner, shift}
+use Rattle.search.specs.Heights.{grained}
+use Rattle.search.proofs.Heights.{Child, here-leaf, here-inner, next-leaf, next-inner, shift}
 use Rattle.search.proofs.Worths.{plain, worth-value}
 
 -- ---- no two nodes with one parent have the same number

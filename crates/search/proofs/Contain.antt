@@ -1,16 +1,15 @@
 -- What the search returns contains the worth. Assumes nothing.
-use Prim.Native.Nat.{ℕ, zero, suc, _+_, _*_, _-_, _/_, min, max, _≤_, _<_}
-use mathlib.Core.Path.{_≡_, refl}
-use mathlib.Core.Bool.{Bool, true, false, not, _&&_, cond}
-use mathlib.Core.List.{List, [], _∷_, _++_}
-use native.Mathlib.Nat.{le-div-iff-mul-le, div-le-of-le-mul, mul-le-mul-left, mul-comm, mul-div-le, mul-sub, le-trans}
+use Prim.Native.Nat.{ℕ, _+_, _*_, _-_, min, max, _≤_}
+use mathlib.Core.Bool.{Bool, true, false, not, cond}
+use mathlib.Core.List.{List}
+use native.Mathlib.Nat.{le-div-iff-mul-le, div-le-of-le-mul, mul-le-mul-left, mul-div-le, mul-sub, le-trans}
 use native.Mathlib.Omega.{arith}
-use lib.Dec.{T as Holds, leb, leb→le}
-use Rattle.table.specs.Tree.{Kind, MAX, MIN, CHANCE, Forest, end, leaf, inner, isEnd, weigh}
+use lib.Dec.{T as Holds}
+use Rattle.table.specs.Tree.{Kind, MAX, MIN, CHANCE, Forest, end, leaf, inner, weigh}
 use Rattle.worth.specs.Inside.{taken, sealed}
-use Rattle.search.specs.Search.{Frame, Play, noPlay, child, Seen, State, Rules, begin, lower, upper, take, finish, cut, stop, point, enter, after, scan}
-use Rattle.search.specs.Heights.{natural, ceil}
-use Rattle.search.proofs.Heights.{Paid, Weighed, Sound, Within, start, total, worth}
+use Rattle.search.specs.Search.{Frame, Seen, State, Rules, begin, lower, upper, take, finish, cut, stop, point, enter, after, scan}
+use Rattle.search.specs.Heights.{natural}
+use Rattle.search.proofs.Heights.{Paid, Sound, Within, start, total, worth}
 
 -- a property of either answer of a test is a property of the answer taken
 pub choose : {A : Type 0} {x y : A} (P : A → Type 0) (b : Bool) → (Holds b → P x) → (Holds (not b) → P y) → P (cond b x y)

@@ -2,7 +2,7 @@
 use Prim.Native.Nat.{ℕ, _+_, _*_, _^_, _≤_}
 use mathlib.Core.Path.{_≡_, refl, sym, ap, ap₂, subst, _∙_}
 use mathlib.Core.Bool.{true, false}
-use mathlib.Core.List.{List, [], _∷_}
+use mathlib.Core.List.{List}
 use mathlib.Core.Option.{some, Option·some-injective}
 use native.Mathlib.Nat.{le-refl, le-trans}
 use native.Mathlib.Omega.{arith}
@@ -10,29 +10,29 @@ use lib.ListN.{length}
 use lib.IntN.{ℤ, pos, _+ℤ_, _*ℤ_, +ℤ-assoc}
 use lib.Signed.{leZ}
 use Rattle.line.specs.Refusal.{fine}
-use Rattle.table.specs.Tree.{Kind, MAX, Forest, end, leaf, inner}
+use Rattle.table.specs.Tree.{MAX, Forest}
 use Rattle.table.specs.Table.{Table, tree, readText, greatest, grain}
-use Rattle.table.specs.Slices.{Slices, Spans, heightTree, slicesOf}
+use Rattle.table.specs.Slices.{Spans, heightTree, slicesOf}
 use Rattle.table.specs.Accepted.{span, Filled, Balanced, Proper, Rooted}
 use Rattle.table.proofs.Heights.{above, mapForest, heights-map}
 use Rattle.table.proofs.Accepted.{accepted-ranged, accepted-proper, accepted-filled, accepted-balanced, accepted-spans, heights-rooted, heights-proper, heights-filled, heights-balanced}
 use Rattle.worth.specs.Worth.{worthOf}
 use Rattle.worth.specs.Heights.{heightWorth, Small}
-use Rattle.worth.proofs.Signs.{Is, plus, minus, parts, is-unique, is-eq}
+use Rattle.worth.proofs.Signs.{plus, minus, parts, is-unique, is-eq}
 use Rattle.worth.proofs.Shift.{lift}
 use Rattle.worth.proofs.Worth.{le-above, heights-small, shift as worth-shift, top}
 use Rattle.judge.specs.Judge.{Root, children, rootOf, decided, AtM, AtN}
-use Rattle.search.specs.Search.{Frame, Play, noPlay, child, Seen, searchRoot, nodeOf}
-use Rattle.search.specs.Heights.{natural, grained, frameOf, heightRules, heightSearched}
-use Rattle.search.specs.Whole.{whole, inGrains, ends, rules, searched, worthAt, playWorth}
-use Rattle.search.specs.Exact.{Whole, EachTakenRoot, NoRemainder}
+use Rattle.search.specs.Search.{Play, noPlay, child, Seen, nodeOf}
+use Rattle.search.specs.Heights.{grained, frameOf, heightRules, heightSearched}
+use Rattle.search.specs.Whole.{inGrains, ends, searched, playWorth}
+use Rattle.search.specs.Exact.{NoRemainder}
 use Rattle.search.proofs.Heights.{Child, Within, Positive, Fit, shift}
 use Rattle.search.proofs.Shift.{Rel, RelFrame, RelPlay, RelSeen, shifted-root}
 use Rattle.search.proofs.Worths.{plain}
 use Rattle.search.proofs.Grains.{within, positive, fit}
 use Rattle.search.proofs.Root.{Side, Played, holds, narrow, plays}
 use Rattle.search.proofs.Remainder.{whole-root}
-use Rattle.search.proofs.Children.{Rising, rising-under, grains-shift, play-worth, root-same}
+use Rattle.search.proofs.Children.{grains-shift, play-worth, root-same}
 
 -- ε more
 le-margin : (b : ℤ) (x y ε : ℕ) → x ≤ y + ε → leZ (b +ℤ pos x) (b +ℤ pos y +ℤ pos ε) ≡ true

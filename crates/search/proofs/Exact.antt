@@ -1,17 +1,14 @@
 -- Every bound of the search is divided by what divides the worths. Assumes nothing.
-use Prim.Native.Nat.{ℕ, zero, suc, _+_, _*_, _-_, _/_, _%_, _^_, min, max, _≤_, _<_, _∣_}
-use mathlib.Core.Path.{_≡_, refl}
-use mathlib.Core.Bool.{Bool, true, false, not, cond}
-use mathlib.Core.List.{List, [], _∷_, _++_}
-use native.Mathlib.Nat.{dvd-trans, dvd-mul-right, dvd-mul-left, dvd-mul-left-of-dvd, dvd-of-mul-dvd-mul-left, mul-div-cancel', dvd-add, dvd-sub, dvd-zero, dvd-refl, max-eq-left, max-eq-right, min-eq-left, min-eq-right, pow-suc, mul-assoc, mod-eq-zero-of-dvd, mul-one, dvd-mul-right-of-dvd}
+use Prim.Native.Nat.{ℕ, _*_, _/_, min, max, _≤_, _<_, _∣_}
+use mathlib.Core.Path.{_≡_}
+use mathlib.Core.List.{List}
+use native.Mathlib.Nat.{dvd-trans, dvd-mul-right, dvd-mul-left, dvd-mul-left-of-dvd, dvd-of-mul-dvd-mul-left, mul-div-cancel', dvd-add, dvd-sub, max-eq-left, max-eq-right, min-eq-left, min-eq-right}
 use native.Mathlib.Decide.{decLe}
 use native.Mathlib.Omega.{arith}
-use lib.Dec.{T as Holds, leb}
-use Rattle.table.specs.Tree.{Kind, MAX, MIN, CHANCE, Forest, end, leaf, inner, isEnd, weigh}
-use Rattle.worth.specs.Inside.{taken, sealed}
-use Rattle.search.specs.Search.{Frame, Play, noPlay, child, Seen, State, Rules, begin, lower, upper, beats, better, prefer, take, finish, cut, stop, point, enter, after, scan, search}
-use Rattle.search.specs.Heights.{natural, ceil}
-use Rattle.search.proofs.Heights.{Paid, Weighed, Sound, Within, grade, Even, Fit, start, total, worth}
+use Rattle.table.specs.Tree.{Kind, MAX, MIN, CHANCE, Forest, end, leaf, inner}
+use Rattle.search.specs.Search.{Frame, Seen, State, Rules, begin, lower, upper, take, finish, cut, stop, point, after, scan}
+use Rattle.search.specs.Heights.{natural}
+use Rattle.search.proofs.Heights.{Paid, Within, grade, Even, Fit, total}
 use Rattle.search.proofs.Contain.{choose}
 
 pub dvd-max : (g : ℕ) {a b : ℕ} → g ∣ a → g ∣ b → g ∣ max a b

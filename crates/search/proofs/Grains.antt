@@ -1,16 +1,16 @@
 -- What an accepted table's tree of heights, in grains, has: every height within the ends, weights of at least 1, and what divides them. Assumes nothing.
-use Prim.Native.Nat.{ℕ, suc, _+_, _*_, _^_, _≤_, _<_, _∣_}
+use Prim.Native.Nat.{ℕ, suc, _+_, _*_, _^_, _≤_, _<_}
 use mathlib.Core.Path.{_≡_, refl, sym, ap, _∙_}
-use mathlib.Core.Bool.{Bool, true, false}
+use mathlib.Core.Bool.{Bool}
 use native.Mathlib.Nat.{mul-le-mul-right, dvd-mul-left-of-dvd, dvd-zero, le-refl, add-zero}
 use native.Mathlib.Omega.{arith}
 use Rattle.line.specs.Line.{Weighs}
-use Rattle.table.specs.Tree.{Kind, MAX, MIN, CHANCE, Forest, end, leaf, inner, isChance, isEnd, weigh}
-use Rattle.table.specs.Accepted.{one, Sums, Filled, Balanced, Proper}
+use Rattle.table.specs.Tree.{Kind, MAX, MIN, CHANCE, Forest, end, leaf, inner, isChance, weigh}
+use Rattle.table.specs.Accepted.{one, Sums, Balanced, Proper}
 use Rattle.worth.proofs.Even.{power-dvd, power-more}
 use Rattle.search.specs.Search.{Frame}
 use Rattle.search.specs.Heights.{grained, frameOf}
-use Rattle.search.proofs.Heights.{Sound, Within, grade, Even, Fit, Pays, Positive}
+use Rattle.search.proofs.Heights.{Sound, Within, grade, Fit, Pays, Positive}
 use Rattle.search.proofs.Worths.{plain}
 
 pub grained-weigh : (G : ℕ) (f : Forest ℕ) → weigh (grained G f) ≡ weigh f

@@ -1,17 +1,17 @@
 -- The play named is worth at MIN low at MAX, at MAX high at MIN, and within the margin where the bounds are. Assumes nothing.
-use Prim.Native.Nat.{ℕ, zero, suc, _+_, _*_, _-_, _/_, min, max, _≤_, _<_}
-use mathlib.Core.Path.{_≡_, refl, sym}
-use mathlib.Core.Bool.{Bool, true, false, not, _&&_, _||_, cond}
-use mathlib.Core.List.{List, [], _∷_, _++_}
+use Prim.Native.Nat.{ℕ, min, max, _≤_}
+use mathlib.Core.Path.{refl}
+use mathlib.Core.Bool.{Bool, not}
+use mathlib.Core.List.{List, []}
 use native.Mathlib.Nat.{le-trans}
 use native.Mathlib.Omega.{arith}
-use lib.Dec.{T as Holds, leb, ltb, eqb, ltb→lt, nltb→le, eqb→eq}
-use Rattle.table.specs.Tree.{Kind, MAX, MIN, CHANCE, Forest, end, leaf, inner, isEnd, weigh}
-use Rattle.worth.specs.Inside.{taken, sealed}
-use Rattle.search.specs.Search.{Frame, Play, noPlay, child, Seen, State, Rules, begin, lower, upper, beats, better, prefer, take, finish, cut, stop, point, enter, after, scan, search}
-use Rattle.search.specs.Heights.{natural, ceil}
-use Rattle.search.proofs.Heights.{Paid, Weighed, Sound, Within, grade, Even, Fit, Child, here-leaf, here-inner, next-leaf, next-inner, start, total, worth}
-use Rattle.search.proofs.Contain.{choose, Inside, inside, Holding, hold-point, hold-under, contained}
+use lib.Dec.{T as Holds, ltb→lt, nltb→le}
+use Rattle.table.specs.Tree.{Kind, MAX, MIN, CHANCE, Forest, end, leaf, inner}
+use Rattle.worth.specs.Inside.{sealed}
+use Rattle.search.specs.Search.{Frame, Play, noPlay, child, Seen, State, Rules, begin, lower, upper, beats, prefer, take, finish, cut, stop, point, enter, after, scan, search}
+use Rattle.search.specs.Heights.{natural}
+use Rattle.search.proofs.Heights.{Within, Child, here-leaf, here-inner, next-leaf, next-inner, start, total, worth}
+use Rattle.search.proofs.Contain.{choose, Holding, hold-point, hold-under, contained}
 
 -- what a rule for the play must have
 pub record Fair (beats : Kind → ℕ → ℕ → ℕ → ℕ → Bool) : Type 0 where

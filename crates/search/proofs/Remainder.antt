@@ -1,20 +1,19 @@
 -- The divisions of lines 20 and 21 leave no remainder: over heights, and so over the integers. Assumes nothing.
-use Prim.Native.Nat.{ℕ, _+_, _*_, _-_, _/_, _≤_, _<_, _∣_}
-use mathlib.Core.Path.{_≡_, refl, sym, ap, _∙_}
-use mathlib.Core.Bool.{Bool, true, false, not}
-use mathlib.Core.List.{List, []}
+use Prim.Native.Nat.{ℕ, _+_, _*_, _-_, _/_, _≤_, _<_}
+use mathlib.Core.Path.{_≡_, refl, sym, _∙_}
+use mathlib.Core.Bool.{false}
+use mathlib.Core.List.{[]}
 use native.Mathlib.Nat.{dvd-sub, mul-div-le, lt-mul-div-succ, mul-sub, mul-le-mul-left, le-trans}
 use native.Mathlib.Omega.{arith}
-use lib.Dec.{T as Holds}
 use lib.IntN.{ℤ, pos, _+ℤ_, _-ℤ_, _*ℤ_}
 use Rattle.table.specs.Tree.{Kind, MAX, MIN, CHANCE, Forest, end, leaf, inner, isEnd, weigh}
 use Rattle.worth.specs.Worth.{floorZ}
 use Rattle.worth.proofs.Signs.{Is, is-unique, is-eq, is-minus, is-mul, is-floor}
-use Rattle.search.specs.Search.{Frame, Seen, State, Rules, begin, point, lower, upper, take, stop, scan, enter, searchRoot}
+use Rattle.search.specs.Search.{Frame, Seen, State, Rules, begin, point, lower, upper, take, stop, enter}
 use Rattle.search.specs.Whole.{whole}
 use Rattle.search.specs.Heights.{natural}
 use Rattle.search.specs.Exact.{AtChance, EachTaken, EachTakenRoot, Whole}
-use Rattle.search.proofs.Heights.{Paid, Sound, Within, grade, Even, Fit, Positive, shift}
+use Rattle.search.proofs.Heights.{Paid, Within, grade, Even, Fit, Positive, shift}
 use Rattle.search.proofs.Contain.{Holding, hold-point, hold-under, contained}
 use Rattle.search.proofs.Exact.{share, even, EvenR, even-begin, below}
 use Rattle.search.proofs.Safe.{Safe, safe-begin, safe-lower, safe-upper, safe-take}

@@ -1,19 +1,19 @@
 -- The search of a root over heights: its bounds hold the worth, are within the margin, and so is the play. Assumes nothing.
 use Prim.Native.Nat.{ℕ, _+_, _*_, _^_, _≤_, _<_}
-use mathlib.Core.Path.{_≡_, refl, sym, ap, subst, _∙_}
-use mathlib.Core.Bool.{Bool, true, false}
-use mathlib.Core.List.{[], _∷_}
-use mathlib.Core.Option.{Option, none, some}
-use native.Mathlib.Nat.{le-refl, le-trans}
+use mathlib.Core.Path.{_≡_, subst}
+use mathlib.Core.Bool.{false}
+use mathlib.Core.List.{[]}
+use mathlib.Core.Option.{none, some}
+use native.Mathlib.Nat.{le-refl}
 use native.Mathlib.Omega.{arith}
-use Rattle.table.specs.Tree.{Kind, MAX, MIN, CHANCE, Forest, end, leaf, inner, isChance, isEnd}
+use Rattle.table.specs.Tree.{Kind, MAX, MIN, CHANCE, Forest, end, leaf, inner}
 use Rattle.table.specs.Accepted.{Filled, Balanced, Proper, Rooted}
 use Rattle.worth.specs.Heights.{heightValue, heightShares, firstHeight, Small}
 use Rattle.worth.proofs.Bounds.{small}
-use Rattle.judge.specs.Judge.{Root, undecided, decided, AtM, AtN, sideOf, rootOf, children}
-use Rattle.search.specs.Search.{Frame, Play, noPlay, child, Seen, Rules, point, search, searchRoot, nodeOf}
+use Rattle.judge.specs.Judge.{Root, undecided, decided, AtM, AtN, rootOf, children}
+use Rattle.search.specs.Search.{Play, noPlay, child, Seen, Rules, point, search, searchRoot, nodeOf}
 use Rattle.search.specs.Heights.{natural, grained, frameOf, heightRules}
-use Rattle.search.proofs.Heights.{worth, Child, Sound, Within, grade, Even, Fit}
+use Rattle.search.proofs.Heights.{worth, Child, Within, Fit}
 use Rattle.search.proofs.Contain.{Holding, contained}
 use Rattle.search.proofs.Width.{width}
 use Rattle.search.proofs.Play.{Promise, named}

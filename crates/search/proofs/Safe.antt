@@ -1,17 +1,15 @@
 -- No number of the search is above the highest end, and no difference is below zero. Assumes nothing.
-use Prim.Native.Nat.{ℕ, zero, suc, _+_, _*_, _-_, _/_, min, max, _≤_, _<_}
-use mathlib.Core.Path.{_≡_, refl, ap, ap₂, sym, _∙_}
-use mathlib.Core.Bool.{Bool, true, false, not, _&&_, _||_, cond}
-use mathlib.Core.List.{List, [], _∷_, _++_}
+use Prim.Native.Nat.{ℕ, _+_, _*_, _-_, _/_, max, _≤_, _<_}
+use mathlib.Core.Path.{_≡_, refl}
+use mathlib.Core.Bool.{Bool, true, false, cond}
+use mathlib.Core.List.{List}
 use native.Mathlib.Nat.{mul-le-mul-left, mul-sub, mul-div-le, le-of-mul-le-mul-left, le-trans, sub-le, min-le-left}
 use native.Mathlib.Omega.{arith}
-use lib.Dec.{T as Holds, leb, ltb, eqb, leb→le, le→leb, ltb→lt, lt→ltb, eqb→eq, eqb-refl}
-use Rattle.table.specs.Tree.{Kind, MAX, MIN, CHANCE, Forest, end, leaf, inner, isEnd, weigh}
-use Rattle.worth.specs.Inside.{taken, sealed}
-use Rattle.search.specs.Search.{Frame, Play, noPlay, child, Seen, State, Rules, begin, lower, upper, beats, better, prefer, take, finish, cut, stop, point, enter, after, scan, search}
-use Rattle.search.specs.Heights.{natural, ceil}
-use Rattle.search.proofs.Heights.{Paid, Weighed, Sound, Within, grade, Even, Fit, start, total, worth}
-use Rattle.search.proofs.Contain.{contained, Holding, hold-point, hold-under}
+use lib.Dec.{T as Holds}
+use Rattle.table.specs.Tree.{Kind, MAX, MIN, CHANCE, Forest, weigh}
+use Rattle.search.specs.Search.{Frame, Play, noPlay, child, Seen, State, Rules, begin, lower, upper, beats, better, take}
+use Rattle.search.specs.Heights.{natural}
+use Rattle.search.proofs.Heights.{Sound, total}
 use Rattle.search.proofs.Width.{drop, drop-top}
 
 pub same-test : (b c : Bool) → (Holds b → Holds c) → (Holds c → Holds b) → b ≡ c

@@ -1,25 +1,23 @@
 -- The search over the integers is the search over heights, from the lowest end up. Assumes nothing.
-use Prim.Native.Nat.{ℕ, zero, suc, _+_, _*_, _-_, _/_, min, max, _≤_, _<_}
-use mathlib.Core.Path.{_≡_, refl, ap, ap₂, sym, _∙_}
+use Prim.Native.Nat.{ℕ, _+_, _*_, _-_, _/_, min, max, _≤_, _<_}
+use mathlib.Core.Path.{_≡_, refl, ap, ap₂, _∙_}
 use mathlib.Core.Bool.{Bool, true, false, not, _&&_, cond, true≢false, false≢true}
 use mathlib.Core.List.{List, [], _∷_, _++_}
-use native.Mathlib.Nat.{lt-mul-div-succ, mul-div-le, mul-le-mul-left, mul-sub, le-trans, add-zero, add-assoc, lt-of-mul-lt-mul-left}
-use native.Mathlib.Decide.{decLe}
+use native.Mathlib.Nat.{lt-mul-div-succ, mul-div-le, mul-le-mul-left, mul-sub, le-trans}
 use native.Mathlib.Omega.{arith}
 use lib.Dec.{T as Holds, leb, ltb, leb→le, le→leb, nleb→lt, lt→ltb, ltb→lt, not-T}
-use lib.IntN.{ℤ, pos, negsuc, negℤ, subℕ, _+ℤ_, _-ℤ_, _*ℤ_}
-use lib.Signed.{leZ, shrZ}
+use lib.IntN.{ℤ, pos, negℤ, _+ℤ_, _-ℤ_, _*ℤ_}
+use lib.Signed.{leZ}
 use Rattle.table.specs.Tree.{Kind, MAX, MIN, CHANCE, Forest, end, leaf, inner, isEnd, weigh}
-use Rattle.worth.specs.Inside.{taken, sealed}
-use Rattle.search.specs.Search.{Frame, Play, noPlay, child, Seen, State, Rules, begin, lower, upper, beats, better, prefer, take, finish, cut, stop, point, enter, after, scan, search, searchRoot}
+use Rattle.search.specs.Search.{Frame, Play, noPlay, child, Seen, State, Rules, begin, lower, upper, beats, better, take, finish, cut, stop, point, enter, after, scan, search, searchRoot}
 use Rattle.worth.specs.Worth.{maxZ, minZ, floorZ}
 use Rattle.search.specs.Whole.{whole, ceilZ, downZ, upZ, gainZ, lossZ}
 use Rattle.search.specs.Heights.{natural, ceil}
-use Rattle.search.proofs.Heights.{Paid, Weighed, Sound, Within, Pays, Positive, shift, start, total, worth}
+use Rattle.search.proofs.Heights.{Sound, Within, Pays, Positive, shift, total}
 use Rattle.search.proofs.Contain.{contained, Holding, hold-point, hold-under}
-use Rattle.search.proofs.Width.{drop, drop-top}
+use Rattle.search.proofs.Width.{drop-top}
 use Rattle.search.proofs.Safe.{same-test, share-fits, Safe, safe-begin, safe-lower, safe-upper, safe-take}
-use Rattle.worth.proofs.Signs.{Is, is-unique, is-eq, is-add, is-neg, is-minus, is-mul, is-le, is-max, is-min, is-floor}
+use Rattle.worth.proofs.Signs.{Is, is-eq, is-add, is-neg, is-minus, is-mul, is-le, is-max, is-min, is-floor}
 
 -- m - n is the quotient of a - b by w, rounded up
 is-ceil : (w : ℕ) (z : ℤ) (a b m n : ℕ) → 0 < w → Is z a b → a + w * n ≤ w * m + b → w * m + b < a + w * n + w → Is (ceilZ z w) m n

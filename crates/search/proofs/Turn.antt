@@ -1,19 +1,18 @@
 -- The search of a tree turned about is the search turned about. Assumes nothing.
-use Prim.Native.Nat.{ℕ, zero, suc, _+_, _*_, _-_, _/_, min, max, _≤_, _<_}
-use mathlib.Core.Path.{_≡_, refl, ap, ap₂, sym, _∙_}
-use mathlib.Core.Bool.{Bool, true, false, not, _&&_, _||_, cond}
-use mathlib.Core.List.{List, [], _∷_, _++_}
-use native.Mathlib.Nat.{mul-le-mul-left, mul-sub, mul-div-le, le-of-mul-le-mul-left, le-trans, sub-le, min-le-left}
+use Prim.Native.Nat.{ℕ, _+_, _*_, _-_, _/_, min, max, _≤_}
+use mathlib.Core.Path.{_≡_, refl, ap, ap₂, _∙_}
+use mathlib.Core.Bool.{Bool, true, false, not, _&&_, cond}
+use mathlib.Core.List.{List, []}
+use native.Mathlib.Nat.{mul-div-le, le-trans}
 use native.Mathlib.Omega.{arith}
-use lib.Dec.{T as Holds, leb, ltb, eqb, leb→le, le→leb, ltb→lt, lt→ltb, eqb→eq, eqb-refl}
+use lib.Dec.{leb, ltb, leb→le, le→leb, ltb→lt, lt→ltb}
 use Rattle.table.specs.Tree.{Kind, MAX, MIN, CHANCE, Forest, end, leaf, inner, isEnd, weigh}
-use Rattle.worth.specs.Inside.{taken, sealed}
-use Rattle.search.specs.Search.{Frame, Play, noPlay, child, Seen, State, Rules, begin, lower, upper, beats, better, prefer, take, finish, cut, stop, point, enter, after, scan, search, searchRoot}
+use Rattle.search.specs.Search.{Frame, Play, noPlay, child, Seen, State, Rules, begin, lower, upper, beats, better, take, finish, cut, stop, point, enter, after, scan, search, searchRoot}
 use Rattle.search.specs.Turned.{flip}
-use Rattle.search.specs.Heights.{natural, ceil}
-use Rattle.search.proofs.Heights.{Paid, Weighed, Sound, Within, grade, Even, Fit, start, total, worth}
+use Rattle.search.specs.Heights.{natural}
+use Rattle.search.proofs.Heights.{Sound, Within, total}
 use Rattle.search.proofs.Contain.{contained, Holding, hold-point, hold-under}
-use Rattle.search.proofs.Width.{drop, drop-top}
+use Rattle.search.proofs.Width.{drop-top}
 use Rattle.search.proofs.Safe.{same-test, share-fits, Low, Safe, safe-window, safe-begin, safe-lower, safe-upper, safe-take}
 
 -- the same tree from the other side, its ends S apart

@@ -1,12 +1,11 @@
 -- The search of the turned table: bounds negated and exchanged, the same play and the same reading sequence. Document 01, 'The search'. Assumes nothing.
 use Prim.Native.Nat.{ℕ, suc, _+_, _*_, _-_, _^_, max, _≤_}
 use mathlib.Core.Path.{_≡_, refl, sym, ap, ap₂, subst, _∙_}
-use mathlib.Core.Bool.{Bool, true, false}
-use mathlib.Core.List.{List, [], _∷_, _++_}
+use mathlib.Core.Bool.{Bool, false}
+use mathlib.Core.List.{List, _++_}
 use native.Mathlib.Nat.{le-refl, le-trans, mul-sub}
 use native.Mathlib.Omega.{arith}
 use lib.IntN.{ℤ, pos, negsuc, negℤ, _+ℤ_, _-ℤ_, _*ℤ_}
-use lib.Signed.{ltZ}
 use Rattle.line.specs.declared.Head.{Head}
 use Rattle.line.specs.Refusal.{fine}
 use Rattle.line.specs.Line.{toNat, Within}
@@ -14,7 +13,7 @@ use Rattle.table.specs.Tree.{Kind, MAX, MIN, CHANCE, Forest, end, leaf, inner, 
 use Rattle.table.specs.Table.{Table, tree, readText, greatest, grain}
 use Rattle.table.specs.Slices.{heightTree}
 use Rattle.table.specs.Accepted.{span, one, flat, Proper}
-use Rattle.table.proofs.Heights.{above, mapForest, height-back, height-span, heights-map}
+use Rattle.table.proofs.Heights.{above, mapForest, height-back, heights-map}
 use Rattle.table.proofs.Accepted.{accepted-flat, accepted-ranged, accepted-proper, heights-proper, heights-balanced}
 use Rattle.worth.proofs.Signs.{Is, plus, minus, parts, is-unique, is-eq, is-neg, is-minus}
 use Rattle.worth.proofs.Shift.{is-times, lift}

@@ -1,9 +1,9 @@
 -- Unread leaves do not matter to the search, over any arithmetic. Assumes nothing.
-use Prim.Native.Nat.{ℕ, zero, suc}
-use mathlib.Core.Path.{_≡_, refl, ap, sym, _∙_}
-use mathlib.Core.Bool.{Bool, true, false, not, cond}
+use Prim.Native.Nat.{ℕ}
+use mathlib.Core.Path.{_≡_, refl, ap, _∙_}
+use mathlib.Core.Bool.{Bool, true, false, cond}
 use mathlib.Core.List.{List, [], _∷_, _++_, List·Memᴰ, List·Memᴰ·head, List·Memᴰ·tail}
-use Rattle.table.specs.Tree.{Kind, MAX, MIN, CHANCE, Forest, end, leaf, inner, isEnd}
+use Rattle.table.specs.Tree.{Kind, MAX, MIN, CHANCE, Forest, end, leaf, inner}
 use Rattle.search.specs.Search.{Frame, Seen, State, Arith, Rules, begin, finish, cut, point, lower, upper, take, stop, scan, enter, after, search, searchRoot}
 use Rattle.search.specs.Unread.{ReadBy, Alike, alike-end, alike-leaf, alike-inner}
 use Rattle.search.proofs.Contain.{choose}

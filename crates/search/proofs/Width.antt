@@ -1,18 +1,16 @@
 -- The bounds that the search returns are within the margin, inside the window. Assumes nothing.
-use Prim.Native.Nat.{ℕ, zero, suc, _+_, _*_, _-_, _/_, min, max, _≤_, _<_, _∣_}
+use Prim.Native.Nat.{ℕ, _+_, _*_, _-_, _/_, min, max, _≤_, _<_}
 use mathlib.Core.Path.{_≡_, refl}
-use mathlib.Core.Bool.{Bool, true, false, not, _&&_, cond}
-use mathlib.Core.List.{List, [], _∷_, _++_}
-use native.Mathlib.Nat.{lt-mul-div-succ, mul-le-mul-left, mul-le-mul-right, mul-sub, le-of-mul-le-mul-left, dvd-sub, le-trans, le-add-left, le-add-right, sub-le, le-refl}
+use mathlib.Core.List.{List, []}
+use native.Mathlib.Nat.{lt-mul-div-succ, mul-le-mul-left, mul-le-mul-right, mul-sub, le-of-mul-le-mul-left, dvd-sub, le-trans, le-add-left, le-add-right, le-refl}
 use native.Mathlib.Decide.{decLe}
 use native.Mathlib.Omega.{arith}
-use lib.Dec.{T as Holds, leb, leb→le}
-use Rattle.table.specs.Tree.{Kind, MAX, MIN, CHANCE, Forest, end, leaf, inner, isEnd, weigh}
-use Rattle.worth.specs.Inside.{taken, sealed}
-use Rattle.search.specs.Search.{Frame, Play, noPlay, child, Seen, State, Rules, begin, lower, upper, beats, better, prefer, take, finish, cut, stop, point, enter, after, scan, search}
+use lib.Dec.{T as Holds, leb→le}
+use Rattle.table.specs.Tree.{Kind, MAX, MIN, CHANCE, Forest, end, leaf, inner, weigh}
+use Rattle.search.specs.Search.{Frame, Seen, State, Rules, begin, lower, upper, take, finish, cut, stop, point, enter, after, scan, search}
 use Rattle.search.specs.Heights.{natural, ceil}
-use Rattle.search.proofs.Heights.{Paid, Weighed, Sound, Within, grade, Even, Fit, start, total, worth}
-use Rattle.search.proofs.Contain.{choose, Holding, contained}
+use Rattle.search.proofs.Heights.{Paid, Sound, Within, grade, Even, Fit, total}
+use Rattle.search.proofs.Contain.{choose, contained}
 use Rattle.search.proofs.Exact.{share, even, EvenR, even-begin, below}
 
 ceil-le : (x w : ℕ) → 0 < w → x ≤ w * ceil x w

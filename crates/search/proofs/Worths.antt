@@ -1,9 +1,8 @@
 -- The worth child by child is equation (1) of the shares, where every node has the table's frame. Assumes nothing.
-use Prim.Native.Nat.{ℕ, suc, _+_, _*_, _≤_}
-use mathlib.Core.Path.{_≡_, refl, sym, ap, _∙_}
-use mathlib.Core.Bool.{true, false}
-use mathlib.Core.List.{[], _∷_}
-use Rattle.table.specs.Tree.{Kind, MAX, MIN, CHANCE, Forest, end, leaf, inner, isChance, isEnd}
+use Prim.Native.Nat.{ℕ, _*_}
+use mathlib.Core.Path.{_≡_, refl, ap, _∙_}
+use mathlib.Core.Bool.{false}
+use Rattle.table.specs.Tree.{Kind, MAX, MIN, CHANCE, Forest, end, leaf, inner, isEnd}
 use Rattle.table.specs.Accepted.{Filled}
 use Rattle.worth.specs.Heights.{heightValue, heightShares, Small}
 use Rattle.worth.specs.Inside.{begin, taken, sealed, takeAll}

@@ -1,5 +1,4 @@
 -- A table from the other side. Document 01, 'Judging and turning'. Assumes nothing: these are definitions.
-use Prim.Native.Nat.{ℕ}
 use mathlib.Core.Path.{_≡_}
 use lib.IntN.{ℤ, negℤ}
 use Rattle.line.specs.declared.Head.{Head}
