@@ -43,9 +43,9 @@ alike-greatest p c alike-end = refl
 alike-greatest p c (alike-leaf q a) = ap (max c) (alike-greatest p c a)
 alike-greatest p c (alike-inner {n} {w} {k} {under} {under2} {rest} {rest2} u a) =
     ap (max (c + one k)) (
-      greatest-both (flat n (c + one k) under) (flat p c rest)
-      ∙ ap₂ max (alike-greatest n (c + one k) u) (alike-greatest p c a)
-      ∙ sym (greatest-both (flat n (c + one k) under2) (flat p c rest2)))
+    greatest-both (flat n (c + one k) under) (flat p c rest)
+    ∙ ap₂ max (alike-greatest n (c + one k) u) (alike-greatest p c a)
+    ∙ sym (greatest-both (flat n (c + one k) under2) (flat p c rest2)))
 
 -- ---- the same header, and trees that differ in unread leaves alone
 
@@ -61,13 +61,16 @@ module _ (a b : List ℕ) (t u : Table) (p : readText a ≡ fine t) (q : readTex
   -- the search from the header, G and the tree
   abbrev searchOf : Head → ℕ → Forest ℤ → Seen ℤ
   searchOf h G f =
-      searchRoot whole (record { frame = λ (n : ℕ) (f : Forest ℤ). record { bottom = h .lowest *ℤ pos G; top = h .highest *ℤ pos G; total = h .total }; margin = ε }) (inGrains G f)
+      searchRoot whole
+      (record { frame = λ (n : ℕ) (f : Forest ℤ). record { bottom = h .lowest *ℤ pos G; top = h .highest *ℤ pos G; total = h .total }; margin = ε })
+      (inGrains G f)
 
   -- "The same answer means that every part of it is equal, low, high, play and number of leaves read, and every entry of the reading sequence too"
   pub same-answer : searched u ε ≡ searched t ε
   same-answer =
       ap₂ (λ (h : Head) (G : ℕ). searchOf h G (tree u)) same same-grain
-      ∙ sym (unread-root whole (rules t ε) (inGrains (grain t) (tree t)) (inGrains (grain t) (tree u)) (λ n x y i. refl) (alike-grains (grain t) alike))
+      ∙ sym
+      (unread-root whole (rules t ε) (inGrains (grain t) (tree t)) (inGrains (grain t) (tree u)) (λ n x y i. refl) (alike-grains (grain t) alike))
 
   -- "the exact worth, taken afresh with the new utilities, lies within those same bounds"
   pub still-contains : (leZ (searched t ε .low) (worthOf u) ≡ true) × (leZ (worthOf u) (searched t ε .high) ≡ true)

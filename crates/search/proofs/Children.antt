@@ -96,8 +96,10 @@ module _ (T G K S : ℕ) (h : Head) (positive : 0 < T) where
       cond-past (eqb n m) _ _ (ne-eqb n m (λ e. omega arith)) ∙ child-worth d c u rest (p .4) fl bl (s .1) (suc n) (r .1) m v i
   child-worth d c u (inner n w k under rest) p fl bl s b r m v (here-inner e) =
       cond-here (eqb n n) _ _ (eq-eqb n n refl)
-      ∙ ap some (node-shift T G h positive k under (shares-shift T G h positive K (suc d) (c + one k) (isChance k) under (p .3) (fl .1) (bl .1)) (fl .0) (bl .0)
-      ∙ ap (λ (y : ℕ). base +ℤ pos y) (sym (e ∙ worth-value S T G k (lowered under) (map-end (above (h .lowest)) under ∙ fl .0) (map-filled (above (h .lowest)) under (fl .1)) (s .2))))
+      ∙ ap some
+      (node-shift T G h positive k under (shares-shift T G h positive K (suc d) (c + one k) (isChance k) under (p .3) (fl .1) (bl .1)) (fl .0) (bl .0)
+      ∙ ap (λ (y : ℕ). base +ℤ pos y)
+      (sym (e ∙ worth-value S T G k (lowered under) (map-end (above (h .lowest)) under ∙ fl .0) (map-filled (above (h .lowest)) under (fl .1)) (s .2))))
   child-worth d c u (inner n w k under rest) p fl bl s b r m v (next-inner i) =
       let past : n < m = child-from (plain S T) G m v (suc n) (lowered rest) (r .1) i in
       cond-past (eqb n m) _ _ (ne-eqb n m (λ e. omega arith)) ∙ child-worth d c u rest (p .4) (fl .2) (bl .2) (s .3) (suc n) (r .1) m v i

@@ -39,7 +39,8 @@ bound-seal : (e : Frame ℕ) (k : Kind) (t : ℕ) (f : Forest ℕ) → Sound e k
 unfolding start
 bound-seal e MAX t f q b = omega arith
 bound-seal e MIN t f q b = omega arith
-bound-seal e CHANCE t f q b = let b2 = rw (q .weighed) at b in (le-div-iff-mul-le (q .paid) .1 (omega arith), div-le-of-le-mul (e .total) (omega arith))
+bound-seal e CHANCE t f q b =
+    let b2 = rw (q .weighed) at b in (le-div-iff-mul-le (q .paid) .1 (omega arith), div-le-of-le-mul (e .total) (omega arith))
 
 module _ (frame : ℕ → Forest ℕ → Frame ℕ) where
   pub bound : (e : Frame ℕ) (k : Kind) (f : Forest ℕ) (a : ℕ) → Within frame e f → Bound e k (weigh f) a (total frame k f a)
@@ -72,7 +73,8 @@ kept-finish e MAX s a q i = i
 kept-finish e MIN s a q i = i
 kept-finish e CHANCE s a q i = (i .0, le-div-iff-mul-le q .1 (omega arith), div-le-of-le-mul (e .total) (omega arith), i .3)
 
-kept-cut : (e : Frame ℕ) (k : Kind) (W : ℕ) (s : State ℕ) (a t : ℕ) → Paid e k → Kept e k W s a → Bound e k W a t → Holding e (sealed (e .total) k t) (cut e k s)
+kept-cut : (e : Frame ℕ) (k : Kind) (W : ℕ) (s : State ℕ) (a t : ℕ) → Paid e k → Kept e k W s a → Bound e k W a t
+    → Holding e (sealed (e .total) k t) (cut e k s)
 unfolding cut
 kept-cut e MAX W s a t q i b = omega arith
 kept-cut e MIN W s a t q i b = omega arith
@@ -86,23 +88,29 @@ pub hold-under : (e d : Frame ℕ) (v : ℕ) (r : Seen ℕ) → e .bottom ≤ d 
 hold-under e d v r p q h = (le-trans p (h .0), h .1, h .2, le-trans (h .3) q)
 
 module _ (R : Rules ℕ) where
-  pub kept-take : (e : Frame ℕ) (k : Kind) (n w W : ℕ) (s : State ℕ) (a : ℕ) (r : Seen ℕ) (v : ℕ) → Kept e k (w + W) s a → Holding e v r → Kept e k W (take natural e k n w s r) (taken k a w v)
+  pub kept-take : (e : Frame ℕ) (k : Kind) (n w W : ℕ) (s : State ℕ) (a : ℕ) (r : Seen ℕ) (v : ℕ) → Kept e k (w + W) s a → Holding e v r
+      → Kept e k W (take natural e k n w s r) (taken k a w v)
   unfolding take
   kept-take e MAX n w W s a r v i h = omega arith
   kept-take e MIN n w W s a r v i h = omega arith
   kept-take e CHANCE n w W s a r v i h = (
     omega arith,
-    omega (arith, mul-div-le (w * (r .low - e .bottom)) (e .total), mul-sub w (r .low) (e .bottom), mul-le-mul-left w (h .0), mul-le-mul-left w (h .1)),
-    rw mul-sub (omega (arith, mul-div-le (w * (e .top - r .high)) (e .total), mul-sub w (e .top) (r .high), mul-le-mul-left w (h .2), mul-le-mul-left w (h .3))),
+    omega
+        (arith, mul-div-le (w * (r .low - e .bottom)) (e .total), mul-sub w (r .low) (e .bottom), mul-le-mul-left w (h .0), mul-le-mul-left w (h .1)),
+    rw mul-sub
+        (omega (arith, mul-div-le (w * (e .top - r .high)) (e .total), mul-sub w (e .top) (r .high), mul-le-mul-left w (h .2), mul-le-mul-left w (h .3))),
     omega arith,
   )
 
   kept-after : (e : Frame ℕ) (k : Kind) (rest : Forest ℕ) (t : State ℕ) (a : ℕ) → Paid e k → Within (R .frame) e rest → Kept e k (weigh rest) t a
-      → Holding e (sealed (e .total) k (total (R .frame) k rest a)) (scan natural R e k rest t) → Holding e (sealed (e .total) k (total (R .frame) k rest a)) (after natural R e k rest t)
+      → Holding e (sealed (e .total) k (total (R .frame) k rest a)) (scan natural R e k rest t)
+      → Holding e (sealed (e .total) k (total (R .frame) k rest a)) (after natural R e k rest t)
   kept-after e k rest t a q i j h =
-      choose (Holding e (sealed (e .total) k (total (R .frame) k rest a))) (stop natural (R .margin) rest t) (λ _. kept-cut e k (weigh rest) t a _ q j (bound (R .frame) e k rest a i)) (λ _. h)
+      choose (Holding e (sealed (e .total) k (total (R .frame) k rest a))) (stop natural (R .margin) rest t)
+      (λ _. kept-cut e k (weigh rest) t a _ q j (bound (R .frame) e k rest a i)) (λ _. h)
 
-  pub contain : (e : Frame ℕ) (k : Kind) (f : Forest ℕ) (s : State ℕ) (a : ℕ) → Paid e k → Within (R .frame) e f → Kept e k (weigh f) s a → Holding e (sealed (e .total) k (total (R .frame) k f a)) (scan natural R e k f s)
+  pub contain : (e : Frame ℕ) (k : Kind) (f : Forest ℕ) (s : State ℕ) (a : ℕ) → Paid e k → Within (R .frame) e f → Kept e k (weigh f) s a
+      → Holding e (sealed (e .total) k (total (R .frame) k f a)) (scan natural R e k f s)
   unfolding weigh total scan
   contain e k end s a q i j = kept-finish e k s a q j
   contain e k (leaf n w h rest) s a q i j =
@@ -112,12 +120,14 @@ module _ (R : Rules ℕ) where
   contain e k (inner n w c under rest) s a q i j =
       let d : Frame ℕ = R .frame n under in
       let r : Seen ℕ = enter natural R e k n w c under s in
-      let u = hold-under e d _ r (i .0) (i .1) (contain d c under _ _ (i .2 .paid) (i .3) (kept-begin d c under (lower natural e k w s) (upper natural e k w s) (s .read) (i .2))) in
+      let u = hold-under e d _ r (i .0) (i .1)
+      (contain d c under _ _ (i .2 .paid) (i .3) (kept-begin d c under (lower natural e k w s) (upper natural e k w s) (s .read) (i .2))) in
       let j2 = kept-take e k n w (weigh rest) s a r _ j u in
       kept-after e k rest _ _ q (i .4) j2 (contain e k rest _ _ q (i .4) j2)
 
   -- low ≤ worth ≤ high inside the frame, whatever the window
-  pub contained : (e : Frame ℕ) (k : Kind) (f : Forest ℕ) (a b : ℕ) (l : List ℕ) → Sound e k f → Within (R .frame) e f → Holding e (worth (R .frame) e k f) (scan natural R e k f (begin e k a b l))
+  pub contained : (e : Frame ℕ) (k : Kind) (f : Forest ℕ) (a b : ℕ) (l : List ℕ) → Sound e k f → Within (R .frame) e f
+      → Holding e (worth (R .frame) e k f) (scan natural R e k f (begin e k a b l))
   unfolding worth
   contained e k f a b l q i = contain e k f _ _ (q .paid) i (kept-begin e k f a b l q)
 

@@ -60,7 +60,8 @@ module _ (s : List ℕ) (t : Table) (r : readText s ≡ fine t) (ε : ℕ) where
   -- ---- the search over heights
 
   abbrev Tree : Forest ℕ → Type 0
-  Tree f = Proper (t .head .total) (greatest (t .lines)) (λ (x : ℕ). x ≤ span (t .head)) 0 0 false f × Filled f × Balanced (t .head .total) f × Rooted f
+  Tree f =
+      Proper (t .head .total) (greatest (t .lines)) (λ (x : ℕ). x ≤ span (t .head)) 0 0 false f × Filled f × Balanced (t .head .total) f × Rooted f
 
   tree-fine : Tree (heightTree t)
   tree-fine = (heights-proper s t r, heights-filled s t r, heights-balanced s t r, heights-rooted s t r)
@@ -85,11 +86,14 @@ module _ (s : List ℕ) (t : Table) (r : readText s ≡ fine t) (ε : ℕ) where
   }
 
   tree-shift : inGrains G (tree t) ≡ shift base (grained G (heightTree t))
-  tree-shift = rw (heights-map t) (grains-shift (t .head .total) G (greatest (t .lines)) top-height (t .head) (accepted-ranged s t r .some) 0 0 false (tree t) (accepted-proper s t r))
+  tree-shift =
+      rw (heights-map t)
+      (grains-shift (t .head .total) G (greatest (t .lines)) top-height (t .head) (accepted-ranged s t r .some) 0 0 false (tree t) (accepted-proper s t r))
 
   tree-within : Within (plain top-height (t .head .total)) (frameOf top-height (t .head .total)) (grained G (heightTree t))
   tree-within =
-      within (t .head .total) (span (t .head)) G (accepted-ranged s t r .some) (greatest (t .lines)) 0 0 false (heightTree t) (heights-proper s t r) (heights-balanced s t r)
+      within (t .head .total) (span (t .head)) G (accepted-ranged s t r .some) (greatest (t .lines)) 0 0 false (heightTree t) (heights-proper s t r)
+      (heights-balanced s t r)
 
   tree-positive : Positive MAX (grained G (heightTree t))
   tree-positive =
@@ -97,8 +101,10 @@ module _ (s : List ℕ) (t : Table) (r : readText s ≡ fine t) (ε : ℕ) where
 
   rel-found : RelSeen (plus base) (minus base) heights (searched t ε)
   rel-found =
-      rw tree-shift (shifted-root (plus base) (minus base) base (parts base) top-height (heightRules top-height (t .head .total) ε) (λ (n : ℕ) (f : Forest ℤ). ends t)
-      (λ n f. rel-frame) (λ n f. (refl, refl)) (frameOf top-height (t .head .total)) (grained G (heightTree t)) (le-refl top-height) tree-within tree-positive)
+      rw tree-shift
+      (shifted-root (plus base) (minus base) base (parts base) top-height (heightRules top-height (t .head .total) ε) (λ (n : ℕ) (f : Forest ℤ). ends t)
+      (λ n f. rel-frame) (λ n f. (refl, refl)) (frameOf top-height (t .head .total)) (grained G (heightTree t))
+      (le-refl top-height) tree-within tree-positive)
 
   rel-is : (x : ℕ) (z : ℤ) → Rel (plus base) (minus base) x z → z ≡ base +ℤ pos x
   rel-is x z i = is-unique z (base +ℤ pos x) (plus base + x) (minus base) i (lift base (plus base) (minus base) x (parts base))
@@ -145,7 +151,8 @@ module _ (s : List ℕ) (t : Table) (r : readText s ≡ fine t) (ε : ℕ) where
 
   child-is : (m v : ℕ) → Child (plain top-height (t .head .total)) m v (children (grained G (heightTree t))) → playWorth t m ≡ some (base +ℤ pos v)
   child-is m v c =
-      play-worth (t .head .total) G (greatest (t .lines)) top-height (t .head) (accepted-ranged s t r .some) (tree t) (accepted-proper s t r) (accepted-filled s t r)
+      play-worth (t .head .total) G (greatest (t .lines)) top-height (t .head) (accepted-ranged s t r .some) (tree t) (accepted-proper s t r)
+      (accepted-filled s t r)
       (accepted-balanced s t r) lowered-small (slicesOf t) (length (t .lines)) lowered-spans m v
       (subst (λ (f : Forest ℕ). Child (plain top-height (t .head .total)) m v (children (grained G f))) (heights-map t) c)
 
@@ -171,8 +178,10 @@ module _ (s : List ℕ) (t : Table) (r : readText s ≡ fine t) (ε : ℕ) where
   play-side m e v f =
       let p = played m e in
       let x : v ≡ base +ℤ pos (p .value) = Option·some-injective v (base +ℤ pos (p .value)) (sym f ∙ child-is m (p .value) (p .named)) in (
-        λ d. ap₂ leZ low-is x ∙ le-above base (heights .low) (p .value) (subst (λ (q : Root). Side q (heights .low) (heights .high) (p .value)) (root-is ∙ d) (p .side)),
-        λ d. ap₂ leZ x high-is ∙ le-above base (p .value) (heights .high) (subst (λ (q : Root). Side q (heights .low) (heights .high) (p .value)) (root-is ∙ d) (p .side)),
+        λ d. ap₂ leZ low-is x ∙ le-above base (heights .low) (p .value)
+            (subst (λ (q : Root). Side q (heights .low) (heights .high) (p .value)) (root-is ∙ d) (p .side)),
+        λ d. ap₂ leZ x high-is ∙ le-above base (p .value) (heights .high)
+            (subst (λ (q : Root). Side q (heights .low) (heights .high) (p .value)) (root-is ∙ d) (p .side)),
       )
 
   -- ---- the divisions of lines 20 and 21
@@ -183,6 +192,8 @@ module _ (s : List ℕ) (t : Table) (r : readText s ≡ fine t) (ε : ℕ) where
   -- "that division never leaves a remainder, and this is proved": of the search's divisions by T
   pub no-remainder : NoRemainder t ε
   no-remainder =
-      rw tree-shift (whole-root (plus base) (minus base) base (parts base) top-height (heightRules top-height (t .head .total) ε) (λ (n : ℕ) (f : Forest ℤ). ends t)
-      (λ n f. rel-frame) (λ n f. (refl, refl)) (frameOf top-height (t .head .total)) (t .head .total ^ 0) (grained G (heightTree t)) (le-refl top-height)
+      rw tree-shift
+      (whole-root (plus base) (minus base) base (parts base) top-height (heightRules top-height (t .head .total) ε) (λ (n : ℕ) (f : Forest ℤ). ends t)
+      (λ n f. rel-frame) (λ n f. (refl, refl)) (frameOf top-height (t .head .total)) (t .head .total ^ 0) (grained G (heightTree t))
+      (le-refl top-height)
       tree-within tree-positive tree-fit)

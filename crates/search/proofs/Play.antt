@@ -46,7 +46,8 @@ module _ (R : Rules ℕ) (g : Forest ℕ) where
   abbrev pub MarkedR : Frame ℕ → Kind → Seen ℕ → Type 0
   MarkedR e k r = Marked (R .frame) g e k (r .low) (r .high) (r .play)
 
-  mark-max : (e : Frame ℕ) (n : ℕ) (lo hi : ℕ) (p : Play ℕ) (r : Seen ℕ) (v : ℕ) → Child (R .frame) n v g → Holding e v r → Marked (R .frame) g e MAX lo hi p → Marked (R .frame) g e MAX (max lo (r .low)) (max hi (r .high)) (prefer natural MAX n p r)
+  mark-max : (e : Frame ℕ) (n : ℕ) (lo hi : ℕ) (p : Play ℕ) (r : Seen ℕ) (v : ℕ) → Child (R .frame) n v g → Holding e v r
+      → Marked (R .frame) g e MAX lo hi p → Marked (R .frame) g e MAX (max lo (r .low)) (max hi (r .high)) (prefer natural MAX n p r)
   unfolding prefer
   mark-max e n lo hi noPlay r v c h j = (v, c, omega arith, h .1)
   mark-max e n lo hi (child m l b) r v c h j =
@@ -54,7 +55,8 @@ module _ (R : Rules ℕ) (g : Forest ℕ) where
       (λ p. (v, c, omega (arith, fair .rise _ _ _ _ p, j .2), h .1))
       (λ p. (j .0, j .1, omega (arith, fair .stay _ _ _ _ p, j .2), j .3))
 
-  mark-min : (e : Frame ℕ) (n : ℕ) (lo hi : ℕ) (p : Play ℕ) (r : Seen ℕ) (v : ℕ) → Child (R .frame) n v g → Holding e v r → Marked (R .frame) g e MIN lo hi p → Marked (R .frame) g e MIN (min lo (r .low)) (min hi (r .high)) (prefer natural MIN n p r)
+  mark-min : (e : Frame ℕ) (n : ℕ) (lo hi : ℕ) (p : Play ℕ) (r : Seen ℕ) (v : ℕ) → Child (R .frame) n v g → Holding e v r
+      → Marked (R .frame) g e MIN lo hi p → Marked (R .frame) g e MIN (min lo (r .low)) (min hi (r .high)) (prefer natural MIN n p r)
   unfolding prefer
   mark-min e n lo hi noPlay r v c h j = (v, c, omega arith, h .2)
   mark-min e n lo hi (child m l b) r v c h j =
@@ -62,7 +64,8 @@ module _ (R : Rules ℕ) (g : Forest ℕ) where
       (λ p. (v, c, omega (arith, fair .fall _ _ _ _ p, j .2), h .2))
       (λ p. (j .0, j .1, omega (arith, fair .rest _ _ _ _ p, j .2), j .3))
 
-  mark-take : (e : Frame ℕ) (k : Kind) (n w : ℕ) (s : State ℕ) (r : Seen ℕ) (v : ℕ) → Child (R .frame) n v g → Holding e v r → MarkedS e k s → MarkedS e k (take natural e k n w s r)
+  mark-take : (e : Frame ℕ) (k : Kind) (n w : ℕ) (s : State ℕ) (r : Seen ℕ) (v : ℕ) → Child (R .frame) n v g → Holding e v r → MarkedS e k s
+      → MarkedS e k (take natural e k n w s r)
   unfolding take
   mark-take e MAX n w s r v c h j = mark-max e n (s .lo) (s .hi) (s .play) r v c h j
   mark-take e MIN n w s r v c h j = mark-min e n (s .lo) (s .hi) (s .play) r v c h j
@@ -92,10 +95,12 @@ module _ (R : Rules ℕ) (g : Forest ℕ) where
   mark-begin e MIN a b l = omega arith
   mark-begin e CHANCE a b l = tt
 
-  mark-after : (e : Frame ℕ) (k : Kind) (rest : Forest ℕ) (t : State ℕ) → MarkedS e k t → MarkedR e k (scan natural R e k rest t) → MarkedR e k (after natural R e k rest t)
+  mark-after : (e : Frame ℕ) (k : Kind) (rest : Forest ℕ) (t : State ℕ) → MarkedS e k t → MarkedR e k (scan natural R e k rest t)
+      → MarkedR e k (after natural R e k rest t)
   mark-after e k rest t j h = choose (MarkedR e k) (stop natural (R .margin) rest t) (λ _. mark-cut e k t j) (λ _. h)
 
-  mark : (e : Frame ℕ) (k : Kind) (f : Forest ℕ) (s : State ℕ) → Within (R .frame) e f → ((m v : ℕ) → Child (R .frame) m v f → Child (R .frame) m v g) → MarkedS e k s → MarkedR e k (scan natural R e k f s)
+  mark : (e : Frame ℕ) (k : Kind) (f : Forest ℕ) (s : State ℕ) → Within (R .frame) e f → ((m v : ℕ) → Child (R .frame) m v f → Child (R .frame) m v g)
+      → MarkedS e k s → MarkedR e k (scan natural R e k f s)
   unfolding scan finish worth
   mark e k end s i up j = j
   mark e k (leaf n w h rest) s i up j =
@@ -120,19 +125,22 @@ module _ (frame : ℕ → Forest ℕ → Frame ℕ) where
   unfolding total
   shrink end a = omega arith
   shrink (leaf n w h rest) a = omega (arith, shrink rest (min a h))
-  shrink (inner n w c under rest) a = omega (arith, shrink rest (min a (sealed (frame n under .total) c (total frame c under (start (frame n under) c)))))
+  shrink (inner n w c under rest) a =
+      omega (arith, shrink rest (min a (sealed (frame n under .total) c (total frame c under (start (frame n under) c)))))
 
   child-max : {m v : ℕ} {f : Forest ℕ} (a : ℕ) → Child frame m v f → v ≤ total frame MAX f a
   unfolding total worth
   child-max {m} {v} a (here-leaf {w} {rest}) = omega (arith, grow rest (max a v))
-  child-max {m} {v} a (here-inner {w} {c} {under} {rest} q) = omega (arith, grow rest (max a (sealed (frame m under .total) c (total frame c under (start (frame m under) c)))))
+  child-max {m} {v} a (here-inner {w} {c} {under} {rest} q) =
+      omega (arith, grow rest (max a (sealed (frame m under .total) c (total frame c under (start (frame m under) c)))))
   child-max a (next-leaf p) = child-max _ p
   child-max a (next-inner p) = child-max _ p
 
   child-min : {m v : ℕ} {f : Forest ℕ} (a : ℕ) → Child frame m v f → total frame MIN f a ≤ v
   unfolding total worth
   child-min {m} {v} a (here-leaf {w} {rest}) = omega (arith, shrink rest (min a v))
-  child-min {m} {v} a (here-inner {w} {c} {under} {rest} q) = omega (arith, shrink rest (min a (sealed (frame m under .total) c (total frame c under (start (frame m under) c)))))
+  child-min {m} {v} a (here-inner {w} {c} {under} {rest} q) =
+      omega (arith, shrink rest (min a (sealed (frame m under .total) c (total frame c under (start (frame m under) c)))))
   child-min a (next-leaf p) = child-min _ p
   child-min a (next-inner p) = child-min _ p
 
@@ -155,6 +163,8 @@ module _ (frame : ℕ → Forest ℕ → Frame ℕ) where
   promise e CHANCE f lo hi (child m l h) j = j
 
 -- the play of a search
-pub named : (R : Rules ℕ) (e : Frame ℕ) (k : Kind) (f : Forest ℕ) → Within (R .frame) e f → Promise (R .frame) e k f (search natural R e k f .low) (search natural R e k f .high) (search natural R e k f .play)
+pub named : (R : Rules ℕ) (e : Frame ℕ) (k : Kind) (f : Forest ℕ) → Within (R .frame) e f
+    → Promise (R .frame) e k f (search natural R e k f .low) (search natural R e k f .high) (search natural R e k f .play)
 unfolding search
-named R e k f i = promise (R .frame) e k f _ _ _ (mark R f e k f (begin e k (e .bottom) (e .top) []) i (λ m v c. c) (mark-begin R f e k (e .bottom) (e .top) []))
+named R e k f i =
+    promise (R .frame) e k f _ _ _ (mark R f e k f (begin e k (e .bottom) (e .top) []) i (λ m v c. c) (mark-begin R f e k (e .bottom) (e .top) []))

@@ -23,7 +23,8 @@ use Rattle.search.proofs.Shift.{Rel, RelFrame, RelState, RelSeen, Ready
 
 abbrev pub WholeHeights : Frame ℕ → ℕ → Seen ℕ → Type 0
 WholeHeights e w r =
-    (e .total * (w * (r .low - e .bottom) / e .total) ≡ w * (r .low - e .bottom)) × (e .total * (w * (e .top - r .high) / e .total) ≡ w * (e .top - r .high))
+    (e .total * (w * (r .low - e .bottom) / e .total) ≡ w * (r .low - e .bottom)) ×
+    (e .total * (w * (e .top - r .high) / e .total) ≡ w * (e .top - r .high))
 
 module _ (R : Rules ℕ) where
   whole-at : (e : Frame ℕ) (k : Kind) (g w : ℕ) (r : Seen ℕ) → Even (grade e k g) e → EvenR (grade e k g) r → AtChance natural R WholeHeights e k w r
@@ -44,7 +45,8 @@ module _ (R : Rules ℕ) where
       let la : ℕ = lower natural e k w s in
       let ub : ℕ = upper natural e k w s in
       let u : EvenR j (enter natural R e k n w c under s) =
-      even R d c under (begin d c la ub (s .read)) j (y .2 .paid) (y .3) (i .0) (i .1) (even-begin d c j la ub (s .read) (below d c j (i .0 .0), below d c j (i .0 .1))) in (
+      even R d c under (begin d c la ub (s .read)) j (y .2 .paid) (y .3) (i .0) (i .1)
+      (even-begin d c j la ub (s .read) (below d c j (i .0 .0), below d c j (i .0 .1))) in (
         whole-at e k g w (enter natural R e k n w c under s) h u,
         whole-heights d c under (begin d c la ub (s .read)) j (y .2 .paid) (y .3) (i .0) (i .1),
         λ _. whole-heights e k rest _ g q (y .4) h (i .2),
@@ -63,7 +65,8 @@ module _ (p q : ℕ) where
   share-whole : (T w a b : ℕ) (y z : ℤ) → 0 < T → b ≤ a → Rel p q a y → Rel p q b z → T * (w * (a - b) / T) ≡ w * (a - b)
       → pos T *ℤ floorZ (pos w *ℤ (y -ℤ z)) T ≡ pos w *ℤ (y -ℤ z)
   share-whole T w a b y z T-pos le i j h =
-      floor-whole T (pos w *ℤ (y -ℤ z)) (w * (p + a + q)) (w * (q + (p + b))) (w * (a - b)) T-pos (is-mul w (y -ℤ z) (p + a + q) (q + (p + b)) (is-minus y z (p + a) q (p + b) q i j))
+      floor-whole T (pos w *ℤ (y -ℤ z)) (w * (p + a + q)) (w * (q + (p + b))) (w * (a - b)) T-pos
+      (is-mul w (y -ℤ z) (p + a + q) (q + (p + b)) (is-minus y z (p + a) q (p + b) q i j))
       (omega (arith, mul-sub w a b, mul-le-mul-left w le)) h
 
   module _ (Lo : ℤ) (isLo : Is Lo p q) (S : ℕ) (R : Rules ℕ) (frameZ : ℕ → Forest ℤ → Frame ℤ)
@@ -72,7 +75,8 @@ module _ (p q : ℕ) where
     abbrev Z : Rules ℤ
     Z = record { frame = frameZ; margin = R .margin }
 
-    at-shift : (e : Frame ℕ) (ez : Frame ℤ) (k : Kind) (w W v : ℕ) (s : State ℕ) (r : Seen ℕ) (x : Seen ℤ) → RelFrame p q e ez → Holding e v r → Safe S e k W s
+    at-shift : (e : Frame ℕ) (ez : Frame ℤ) (k : Kind) (w W v : ℕ) (s : State ℕ) (r : Seen ℕ) (x : Seen ℤ) → RelFrame p q e ez → Holding e v r
+        → Safe S e k W s
         → RelSeen p q r x → AtChance natural R WholeHeights e k w r → AtChance whole Z Whole ez k w x
     at-shift e ez MAX w W v s r x f h j o a = tt
     at-shift e ez MIN w W v s r x f h j o a = tt
@@ -87,7 +91,8 @@ module _ (p q : ℕ) where
         → (stop natural (R .margin) rest (take natural e k n w s r) ≡ false → EachTaken natural R WholeHeights e k rest (take natural e k n w s r))
         → ((t : State ℕ) (y : State ℤ) → Safe S e k (weigh rest) t → Ready p q k (isEnd rest) t → RelState p q t y → EachTaken natural R WholeHeights e k rest t
         → EachTaken whole Z Whole ez k (shift Lo rest) y)
-        → stop whole (R .margin) (shift Lo rest) (take whole ez k n w z x) ≡ false → EachTaken whole Z Whole ez k (shift Lo rest) (take whole ez k n w z x)
+        → stop whole (R .margin) (shift Lo rest) (take whole ez k n w z x) ≡ false
+        → EachTaken whole Z Whole ez k (shift Lo rest) (take whole ez k n w z x)
     rest-shift e ez k n w rest s z r x v f t h j i o a ih c =
         let lh = le-trans (h .1) (h .2) in
         let j2 = safe-take S R e k n w (weigh rest) s r t (h .0) lh (h .3) j in
@@ -96,7 +101,8 @@ module _ (p q : ℕ) where
         sym (rel-stop p q Lo isLo S R frameZ frames flat rest (take natural e k n w s r) (take whole ez k n w z x) i2) ∙ c in
         ih (take natural e k n w s r) (take whole ez k n w z x) j2 (ready-take p q (R .margin) e k n w s r rest (rw d tt)) i2 (a d)
 
-    taken-shift : (e : Frame ℕ) (ez : Frame ℤ) (k : Kind) (f : Forest ℕ) (s : State ℕ) (z : State ℤ) → RelFrame p q e ez → e .bottom ≤ e .top → e .top ≤ S
+    taken-shift : (e : Frame ℕ) (ez : Frame ℤ) (k : Kind) (f : Forest ℕ) (s : State ℕ) (z : State ℤ) → RelFrame p q e ez → e .bottom ≤ e .top
+        → e .top ≤ S
         → Within (R .frame) e f → Positive k f → Safe S e k (weigh f) s → Ready p q k (isEnd f) s → RelState p q s z
         → EachTaken natural R WholeHeights e k f s → EachTaken whole Z Whole ez k (shift Lo f) z
     unfolding shift weigh
@@ -106,7 +112,7 @@ module _ (p q : ℕ) where
         let u = rel-point p q Lo isLo S R frameZ frames flat n h (s .read) (z .read) (g .read) in (
           at-shift e ez k w _ h s (point n h (s .read)) (point n (Lo +ℤ pos h) (z .read)) f v j u (a .0),
           rest-shift e ez k n w rest s z (point n h (s .read)) (point n (Lo +ℤ pos h) (z .read)) h f t v j g u (a .1)
-          (λ x y j2 r2 g2 a2. taken-shift e ez k rest x y f b t (i .2) (o .1) j2 r2 g2 a2),
+              (λ x y j2 r2 g2 a2. taken-shift e ez k rest x y f b t (i .2) (o .1) j2 r2 g2 a2),
         )
     taken-shift e ez k (inner n w c under rest) s z f b t i o j r g a =
         let d : Frame ℕ = R .frame n under in
@@ -121,12 +127,14 @@ module _ (p q : ℕ) where
         let z2 : State ℤ = begin dz c (lower whole ez k w z) (upper whole ez k w z) (z .read) in
         let j2 = safe-begin S d c under la ub (s .read) (i .2) (le-trans (i .1) t) la-fits ub-fits in
         let r2 = ready-begin p q d c (isEnd under) la ub (s .read) (let q = flat n under in (rw (q .0) (omega arith), rw (q .1) la-fits)) in
-        let g2 = rel-begin p q d dz c la ub (lower whole ez k w z) (upper whole ez k w z) (s .read) (z .read) (frames n under) (rel-lower p q e ez k w s z (o .0) b f r g) (rel-upper p q e ez k w s z (o .0) b f r g) (g .read) in
-        let u = shifted p q Lo isLo S R frameZ frames flat d dz c under s2 z2 (frames n under) (i .2 .ends) (le-trans (i .1) t) (i .3) (o .1) j2 r2 g2 in (
+        let g2 = rel-begin p q d dz c la ub (lower whole ez k w z) (upper whole ez k w z) (s .read) (z .read) (frames n under)
+        (rel-lower p q e ez k w s z (o .0) b f r g) (rel-upper p q e ez k w s z (o .0) b f r g) (g .read) in
+        let u = shifted p q Lo isLo S R frameZ frames flat d dz c under s2 z2 (frames n under) (i .2 .ends) (le-trans (i .1) t) (i .3)
+        (o .1) j2 r2 g2 in (
           at-shift e ez k w _ _ s y (enter whole Z ez k n w c (shift Lo under) z) f v j u (a .0),
           taken-shift d dz c under s2 z2 (frames n under) (i .2 .ends) (le-trans (i .1) t) (i .3) (o .1) j2 r2 g2 (a .1),
           rest-shift e ez k n w rest s z y (enter whole Z ez k n w c (shift Lo under) z) _ f t v j g u (a .2)
-          (λ x y j2 r2 g2 a2. taken-shift e ez k rest x y f b t (i .4) (o .2) j2 r2 g2 a2),
+              (λ x y j2 r2 g2 a2. taken-shift e ez k rest x y f b t (i .4) (o .2) j2 r2 g2 a2),
         )
 
     -- in the search of a root that is not below a C

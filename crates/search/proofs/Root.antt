@@ -84,7 +84,8 @@ module _ (T K S ε : ℕ) (some-total : 0 < T) where
     worth-is : worth (plain top T) (frameOf top T) k (grained G under) ≡ heightValue T k (heightShares T G under)
     worth-is = worth-value top T G k under (t .1 .0) (t .1 .1) all-small
 
-    node-holds : Holding (frameOf top T) (worth (plain top T) (frameOf top T) k (grained G under)) (search natural R (frameOf top T) k (grained G under))
+    node-holds : Holding (frameOf top T) (worth (plain top T) (frameOf top T) k (grained G under))
+        (search natural R (frameOf top T) k (grained G under))
     unfolding search grained
     node-holds = contained R (frameOf top T) k (grained G under) 0 top [] (all-within .2) (all-within .3)
 
@@ -118,7 +119,8 @@ module _ (T K S ε : ℕ) (some-total : 0 < T) where
   narrow (inner n w k under rest) t = node-width n w k under rest t
 
   -- the play's worth is within ε of the worth
-  pub plays : (F : Forest ℕ) → Tree F → (m : ℕ) → nodeOf (found F .play) ≡ some m → Played top T ε (grained G F) (found F .low) (found F .high) (exact F) m
+  pub plays : (F : Forest ℕ) → Tree F → (m : ℕ) → nodeOf (found F .play) ≡ some m
+      → Played top T ε (grained G F) (found F .low) (found F .high) (exact F) m
   unfolding searchRoot grained heightShares point
   plays end t m e = none-some e
   plays (leaf n w h rest) t m e = none-some e

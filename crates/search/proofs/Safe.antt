@@ -22,7 +22,8 @@ same-test false false f g = refl
 pub share-fits : (D T w W lo hi rh y : ℕ) → 0 < T → T * y ≤ w * (D - rh) → T * lo + (w + W) * D ≤ T * hi → y ≤ hi
 share-fits D T w W lo hi rh y p e h = le-of-mul-le-mul-left (omega (arith, mul-le-mul-left w (sub-le D rh))) p
 
-room : (D T w W lo hi rl rh x y : ℕ) → rl ≤ rh → rh ≤ D → T * x ≤ w * rl → T * y ≤ w * (D - rh) → T * lo + (w + W) * D ≤ T * hi → T * (lo + x) + W * D ≤ T * (hi - y)
+room : (D T w W lo hi rl rh x y : ℕ) → rl ≤ rh → rh ≤ D → T * x ≤ w * rl → T * y ≤ w * (D - rh) → T * lo + (w + W) * D ≤ T * hi
+    → T * (lo + x) + W * D ≤ T * (hi - y)
 room D T w W lo hi rl rh x y lh rS ex ey h = omega (arith, mul-sub T hi y, mul-sub w D rh, mul-le-mul-left w lh, mul-le-mul-left w rS)
 
 module _ (S : ℕ) where
@@ -40,11 +41,13 @@ module _ (S : ℕ) where
   safe-window e MIN W s i = (i .0, i .1)
   safe-window e CHANCE W s i = (i .0, i .1)
 
-  pub safe-begin : (e : Frame ℕ) (k : Kind) (f : Forest ℕ) (a b : ℕ) (l : List ℕ) → Sound e k f → e .top ≤ S → a ≤ S → b ≤ S → Safe e k (weigh f) (begin e k a b l)
+  pub safe-begin : (e : Frame ℕ) (k : Kind) (f : Forest ℕ) (a b : ℕ) (l : List ℕ) → Sound e k f → e .top ≤ S → a ≤ S → b ≤ S
+      → Safe e k (weigh f) (begin e k a b l)
   unfolding begin
   safe-begin e MAX f a b l q t x y = (x, y, omega (arith, q .ends), omega (arith, q .ends), tt)
   safe-begin e MIN f a b l q t x y = (x, y, t, t, tt)
-  safe-begin e CHANCE f a b l q t x y = (x, y, rw (q .weighed) (omega (arith, mul-sub (e .total) (e .top) (e .bottom), mul-le-mul-left (e .total) (q .ends))), t, q .paid)
+  safe-begin e CHANCE f a b l q t x y =
+      (x, y, rw (q .weighed) (omega (arith, mul-sub (e .total) (e .top) (e .bottom), mul-le-mul-left (e .total) (q .ends))), t, q .paid)
 
   pub safe-lower : (e : Frame ℕ) (k : Kind) (w W : ℕ) (s : State ℕ) → e .bottom ≤ S → e .top ≤ S → Safe e k W s → lower natural e k w s ≤ S
   unfolding lower
@@ -68,7 +71,8 @@ module _ (S : ℕ) where
         pick true = (p, q)
         pick false = i
 
-    pub safe-take : (e : Frame ℕ) (k : Kind) (n w W : ℕ) (s : State ℕ) (r : Seen ℕ) → e .top ≤ S → e .bottom ≤ r .low → r .low ≤ r .high → r .high ≤ e .top → Safe e k (w + W) s → Safe e k W (take natural e k n w s r)
+    pub safe-take : (e : Frame ℕ) (k : Kind) (n w W : ℕ) (s : State ℕ) (r : Seen ℕ) → e .top ≤ S → e .bottom ≤ r .low → r .low ≤ r .high
+        → r .high ≤ e .top → Safe e k (w + W) s → Safe e k W (take natural e k n w s r)
     unfolding take
     safe-take e MAX n w W s r t bl lh rS i =
         let l : r .low ≤ S = omega arith in let h : r .high ≤ S = omega arith in

@@ -38,7 +38,8 @@ isEnd-shift Lo end = refl
 isEnd-shift Lo (leaf n w h rest) = refl
 isEnd-shift Lo (inner n w k under rest) = refl
 
-pick-rel : {A B : Type 0} (R : A → B → Type 0) (x y : A) (x2 y2 : B) (b c : Bool) → c ≡ b → R x x2 → (Holds (not b) → R y y2) → R (cond b x y) (cond c x2 y2)
+pick-rel : {A B : Type 0} (R : A → B → Type 0) (x y : A) (x2 y2 : B) (b c : Bool) → c ≡ b → R x x2 → (Holds (not b) → R y y2)
+    → R (cond b x y) (cond c x2 y2)
 pick-rel R x y x2 y2 true true e p q = p
 pick-rel R x y x2 y2 true false e p q = absurd (false≢true e)
 pick-rel R x y x2 y2 false true e p q = absurd (true≢false e)
@@ -70,39 +71,47 @@ module _ (p q : ℕ) where
       (λ h. le→leb b (a + ε) (omega (arith, leb→le (p + b + (q + 0)) (p + a + ε + q) h)))
       (λ h. le→leb (p + b + (q + 0)) (p + a + ε + q) (omega (arith, leb→le b (a + ε) h)))
 
-  rel-low-chance : (T w B lo rl : ℕ) (b y z : ℤ) → 0 < T → B ≤ rl → Rel B b → Rel lo y → Rel rl z → Rel (lo + w * (rl - B) / T) (y +ℤ floorZ (pos w *ℤ (z -ℤ b)) T)
+  rel-low-chance : (T w B lo rl : ℕ) (b y z : ℤ) → 0 < T → B ≤ rl → Rel B b → Rel lo y → Rel rl z
+      → Rel (lo + w * (rl - B) / T) (y +ℤ floorZ (pos w *ℤ (z -ℤ b)) T)
   rel-low-chance T w B lo rl b y z T-pos bl ib i j =
       let m = is-mul w (z -ℤ b) _ _ (is-minus z b _ _ _ _ j ib) in
       let e = mul-sub w rl B in
       let l = mul-le-mul-left w bl in
-      let f = is-floor T (pos w *ℤ (z -ℤ b)) _ _ (w * (rl - B) / T) 0 T-pos m (omega (arith, mul-div-le (w * (rl - B)) T)) (omega (arith, lt-mul-div-succ (w * (rl - B)) T-pos)) in
+      let f = is-floor T (pos w *ℤ (z -ℤ b)) _ _ (w * (rl - B) / T) 0 T-pos m (omega (arith, mul-div-le (w * (rl - B)) T))
+      (omega (arith, lt-mul-div-succ (w * (rl - B)) T-pos)) in
       is-eq (y +ℤ floorZ (pos w *ℤ (z -ℤ b)) T) _ _ _ _ (is-add y (floorZ (pos w *ℤ (z -ℤ b)) T) _ _ _ _ i f) (omega arith)
 
-  rel-high-chance : (T w A hi rh : ℕ) (t y z : ℤ) → 0 < T → rh ≤ A → w * (A - rh) / T ≤ hi → Rel A t → Rel hi y → Rel rh z → Rel (hi - w * (A - rh) / T) (y -ℤ floorZ (pos w *ℤ (t -ℤ z)) T)
+  rel-high-chance : (T w A hi rh : ℕ) (t y z : ℤ) → 0 < T → rh ≤ A → w * (A - rh) / T ≤ hi → Rel A t → Rel hi y → Rel rh z
+      → Rel (hi - w * (A - rh) / T) (y -ℤ floorZ (pos w *ℤ (t -ℤ z)) T)
   rel-high-chance T w A hi rh t y z T-pos rS fits it i j =
       let m = is-mul w (t -ℤ z) _ _ (is-minus t z _ _ _ _ it j) in
       let e = mul-sub w A rh in
       let l = mul-le-mul-left w rS in
-      let f = is-floor T (pos w *ℤ (t -ℤ z)) _ _ (w * (A - rh) / T) 0 T-pos m (omega (arith, mul-div-le (w * (A - rh)) T)) (omega (arith, lt-mul-div-succ (w * (A - rh)) T-pos)) in
+      let f = is-floor T (pos w *ℤ (t -ℤ z)) _ _ (w * (A - rh) / T) 0 T-pos m (omega (arith, mul-div-le (w * (A - rh)) T))
+      (omega (arith, lt-mul-div-succ (w * (A - rh)) T-pos)) in
       is-eq (y -ℤ floorZ (pos w *ℤ (t -ℤ z)) T) _ _ _ _ (is-minus y (floorZ (pos w *ℤ (t -ℤ z)) T) _ _ _ _ i f) (omega arith)
 
   module _ (T w B A : ℕ) (b t : ℤ) (w-pos : 0 < w) (BA : B ≤ A) (ib : Rel B b) (it : Rel A t) where
-    lower-fit : (al hi : ℕ) (y z : ℤ) → al ≤ hi → Rel al y → Rel hi z → Rel (max B (A - ceil ((hi - al) * T) w)) (maxZ b (floorZ (pos T *ℤ (y -ℤ z)) w +ℤ t))
+    lower-fit : (al hi : ℕ) (y z : ℤ) → al ≤ hi → Rel al y → Rel hi z
+        → Rel (max B (A - ceil ((hi - al) * T) w)) (maxZ b (floorZ (pos T *ℤ (y -ℤ z)) w +ℤ t))
     lower-fit al hi y z fits i j =
         let x : ℤ = pos T *ℤ (y -ℤ z) in
         let m = is-mul T (y -ℤ z) _ _ (is-minus y z _ _ _ _ i j) in
         let e = mul-sub T hi al in
         let l = mul-le-mul-left T fits in
-        let f = is-floor w x _ _ 0 (ceil ((hi - al) * T) w) w-pos m (omega (arith, ceil-le ((hi - al) * T) w w-pos)) (omega (arith, ceil-lt ((hi - al) * T) w w-pos)) in
+        let f = is-floor w x _ _ 0 (ceil ((hi - al) * T) w) w-pos m (omega (arith, ceil-le ((hi - al) * T) w w-pos))
+        (omega (arith, ceil-lt ((hi - al) * T) w w-pos)) in
         is-eq (maxZ b (floorZ x w +ℤ t)) _ _ _ _ (is-max b (floorZ x w +ℤ t) _ _ _ _ ib (is-add (floorZ x w) t _ _ _ _ f it)) (omega arith)
 
-    upper-fit : (be lo : ℕ) (y z : ℤ) → lo ≤ be → Rel be y → Rel lo z → Rel (min A (B + ceil ((be - lo) * T) w)) (minZ t (ceilZ (pos T *ℤ (y -ℤ z)) w +ℤ b))
+    upper-fit : (be lo : ℕ) (y z : ℤ) → lo ≤ be → Rel be y → Rel lo z
+        → Rel (min A (B + ceil ((be - lo) * T) w)) (minZ t (ceilZ (pos T *ℤ (y -ℤ z)) w +ℤ b))
     upper-fit be lo y z fits i j =
         let x : ℤ = pos T *ℤ (y -ℤ z) in
         let m = is-mul T (y -ℤ z) _ _ (is-minus y z _ _ _ _ i j) in
         let e = mul-sub T be lo in
         let l = mul-le-mul-left T fits in
-        let f = is-ceil w x _ _ (ceil ((be - lo) * T) w) 0 w-pos m (omega (arith, ceil-le ((be - lo) * T) w w-pos)) (omega (arith, ceil-lt ((be - lo) * T) w w-pos)) in
+        let f = is-ceil w x _ _ (ceil ((be - lo) * T) w) 0 w-pos m (omega (arith, ceil-le ((be - lo) * T) w w-pos))
+        (omega (arith, ceil-lt ((be - lo) * T) w w-pos)) in
         is-eq (minZ t (ceilZ x w +ℤ b)) _ _ _ _ (is-min t (ceilZ x w +ℤ b) _ _ _ _ it (is-add (ceilZ x w) b _ _ _ _ f ib)) (omega arith)
 
   pub record RelFrame (e : Frame ℕ) (z : Frame ℤ) : Type 0 where
@@ -130,7 +139,8 @@ module _ (p q : ℕ) where
     pub play : RelPlay (s .play) (z .play)
     pub read : z .read ≡ s .read
 
-  pub rel-begin : (e : Frame ℕ) (ez : Frame ℤ) (k : Kind) (a b : ℕ) (y z : ℤ) (l m : List ℕ) → RelFrame e ez → Rel a y → Rel b z → m ≡ l → RelState (begin e k a b l) (begin ez k y z m)
+  pub rel-begin : (e : Frame ℕ) (ez : Frame ℤ) (k : Kind) (a b : ℕ) (y z : ℤ) (l m : List ℕ) → RelFrame e ez → Rel a y → Rel b z → m ≡ l
+      → RelState (begin e k a b l) (begin ez k y z m)
   unfolding begin
   rel-begin e ez MAX a b y z l m f i j r = record { alpha = i; beta = j; lo = f .bottom; hi = f .bottom; play = tt; read = r }
   rel-begin e ez MIN a b y z l m f i j r = record { alpha = i; beta = j; lo = f .top; hi = f .top; play = tt; read = r }
@@ -154,43 +164,52 @@ module _ (p q : ℕ) where
   ready-begin d MIN x a b l h = tt
   ready-begin d CHANCE x a b l h = λ _. h
 
-  pub rel-lower : (e : Frame ℕ) (ez : Frame ℤ) (k : Kind) (w : ℕ) (s : State ℕ) (z : State ℤ) → Pays k w → e .bottom ≤ e .top → RelFrame e ez → Ready k false s → RelState s z → Rel (lower natural e k w s) (lower whole ez k w z)
+  pub rel-lower : (e : Frame ℕ) (ez : Frame ℤ) (k : Kind) (w : ℕ) (s : State ℕ) (z : State ℤ) → Pays k w → e .bottom ≤ e .top → RelFrame e ez
+      → Ready k false s → RelState s z → Rel (lower natural e k w s) (lower whole ez k w z)
   unfolding lower downZ
   rel-lower e ez MAX w s z wp o f r i = i .alpha
   rel-lower e ez MIN w s z wp o f r i = i .alpha
-  rel-lower e ez CHANCE w s z wp o f r i = rw (f .total) (lower-fit (e .total) w _ _ (ez .bottom) (ez .top) wp o (f .bottom) (f .top) _ _ (z .alpha) (z .hi) (r tt .1) (i .alpha) (i .hi))
+  rel-lower e ez CHANCE w s z wp o f r i =
+      rw (f .total) (lower-fit (e .total) w _ _ (ez .bottom) (ez .top) wp o (f .bottom) (f .top) _ _ (z .alpha) (z .hi) (r tt .1) (i .alpha) (i .hi))
 
-  pub rel-upper : (e : Frame ℕ) (ez : Frame ℤ) (k : Kind) (w : ℕ) (s : State ℕ) (z : State ℤ) → Pays k w → e .bottom ≤ e .top → RelFrame e ez → Ready k false s → RelState s z → Rel (upper natural e k w s) (upper whole ez k w z)
+  pub rel-upper : (e : Frame ℕ) (ez : Frame ℤ) (k : Kind) (w : ℕ) (s : State ℕ) (z : State ℤ) → Pays k w → e .bottom ≤ e .top → RelFrame e ez
+      → Ready k false s → RelState s z → Rel (upper natural e k w s) (upper whole ez k w z)
   unfolding upper upZ
   rel-upper e ez MAX w s z wp o f r i = i .beta
   rel-upper e ez MIN w s z wp o f r i = i .beta
-  rel-upper e ez CHANCE w s z wp o f r i = rw (f .total) (upper-fit (e .total) w _ _ (ez .bottom) (ez .top) wp o (f .bottom) (f .top) _ _ (z .beta) (z .lo) (r tt .0) (i .beta) (i .lo))
+  rel-upper e ez CHANCE w s z wp o f r i =
+      rw (f .total) (upper-fit (e .total) w _ _ (ez .bottom) (ez .top) wp o (f .bottom) (f .top) _ _ (z .beta) (z .lo) (r tt .0) (i .beta) (i .lo))
 
   pub le-same : (a b : ℕ) (y z : ℤ) → Rel a y → Rel b z → leZ y z ≡ leb a b
   le-same a b y z i j =
       is-le y z (p + a) q (p + b) q i j
-      ∙ same-test (leb (p + a + q) (p + b + q)) (leb a b) (λ h. le→leb a b (omega (arith, leb→le (p + a + q) (p + b + q) h))) (λ h. le→leb (p + a + q) (p + b + q) (omega (arith, leb→le a b h)))
+      ∙ same-test (leb (p + a + q) (p + b + q)) (leb a b) (λ h. le→leb a b (omega (arith, leb→le (p + a + q) (p + b + q) h)))
+      (λ h. le→leb (p + a + q) (p + b + q) (omega (arith, leb→le a b h)))
 
   less-same : (a b : ℕ) (y z : ℤ) → Rel a y → Rel b z → not (leZ z y) ≡ ltb a b
   less-same a b y z i j =
       ap not (le-same b a z y j i)
       ∙ same-test (not (leb b a)) (ltb a b) (λ h. lt→ltb a b (nleb→lt b a h)) (λ h. not-T (leb b a) (λ x. omega (arith, leb→le b a x, ltb→lt a b h)))
 
-  same : (k : Kind) (l h bl bh : ℕ) (zl zh zbl zbh : ℤ) → Rel l zl → Rel h zh → Rel bl zbl → Rel bh zbh → beats whole k zl zh zbl zbh ≡ beats natural k l h bl bh
+  same : (k : Kind) (l h bl bh : ℕ) (zl zh zbl zbh : ℤ) → Rel l zl → Rel h zh → Rel bl zbl → Rel bh zbh
+      → beats whole k zl zh zbl zbh ≡ beats natural k l h bl bh
   unfolding beats
   same MAX l h bl bh zl zh zbl zbh a b c d = less-same bl l zbl zl c a
   same MIN l h bl bh zl zh zbl zbh a b c d = less-same h bh zh zbh b d
   same CHANCE l h bl bh zl zh zbl zbh a b c d = refl
 
-  rel-better : (k : Kind) (n : ℕ) (u : Play ℕ) (v : Play ℤ) (r : Seen ℕ) (x : Seen ℤ) → RelPlay u v → RelSeen r x → RelPlay (better natural k n u r) (better whole k n v x)
+  rel-better : (k : Kind) (n : ℕ) (u : Play ℕ) (v : Play ℤ) (r : Seen ℕ) (x : Seen ℤ) → RelPlay u v → RelSeen r x
+      → RelPlay (better natural k n u r) (better whole k n v x)
   unfolding better
   rel-better k n noPlay noPlay r x i o = (refl, o .low, o .high)
   rel-better k n noPlay (child m l h) r x i o = absurd i
   rel-better k n (child m l h) noPlay r x i o = absurd i
   rel-better k n (child m l h) (child m2 l2 h2) r x i o =
-      pick-rel RelPlay _ _ _ _ (beats natural k (r .low) (r .high) l h) (beats whole k (x .low) (x .high) l2 h2) (same k _ _ _ _ (x .low) (x .high) l2 h2 (o .low) (o .high) (i .1) (i .2)) (refl, o .low, o .high) (λ _. i)
+      pick-rel RelPlay _ _ _ _ (beats natural k (r .low) (r .high) l h) (beats whole k (x .low) (x .high) l2 h2)
+      (same k _ _ _ _ (x .low) (x .high) l2 h2 (o .low) (o .high) (i .1) (i .2)) (refl, o .low, o .high) (λ _. i)
 
-  pub rel-take : (S : ℕ) (e : Frame ℕ) (ez : Frame ℤ) (k : Kind) (n w W : ℕ) (s : State ℕ) (z : State ℤ) (r : Seen ℕ) (x : Seen ℤ) → RelFrame e ez → e .bottom ≤ r .low → r .low ≤ r .high → r .high ≤ e .top → Safe S e k (w + W) s
+  pub rel-take : (S : ℕ) (e : Frame ℕ) (ez : Frame ℤ) (k : Kind) (n w W : ℕ) (s : State ℕ) (z : State ℤ) (r : Seen ℕ) (x : Seen ℤ) → RelFrame e ez
+      → e .bottom ≤ r .low → r .low ≤ r .high → r .high ≤ e .top → Safe S e k (w + W) s
       → RelState s z → RelSeen r x → RelState (take natural e k n w s r) (take whole ez k n w z x)
   unfolding take gainZ lossZ
   rel-take S e ez MAX n w W s z r x f bl lh rS j i o =
@@ -204,14 +223,16 @@ module _ (p q : ℕ) where
   rel-take S e ez CHANCE n w W s z r x f bl lh rS j i o =
       let T : ℕ = e .total in
       let B : ℕ = e .bottom in
-      let ey : T * (w * (e .top - r .high) / T) ≤ w * (e .top - B - (r .high - B)) = rw (drop-top B (e .top) (r .high) (le-trans bl lh)) (mul-div-le _ T) in
+      let ey : T * (w * (e .top - r .high) / T) ≤ w * (e .top - B - (r .high - B)) = rw (drop-top B (e .top) (r .high) (le-trans bl lh))
+      (mul-div-le _ T) in
       let fits = share-fits (e .top - B) T w W (s .lo) (s .hi) (r .high - B) (w * (e .top - r .high) / T) (j .4) ey (j .2) in
       rw (f .total) (
-        let l = rel-low-chance T w B (s .lo) (r .low) (ez .bottom) (z .lo) (x .low) (j .4) bl (f .bottom) (i .lo) (o .low) in
-        let h = rel-high-chance T w (e .top) (s .hi) (r .high) (ez .top) (z .hi) (x .high) (j .4) rS fits (f .top) (i .hi) (o .high) in
-        record { alpha = rel-max _ _ (z .alpha) _ (i .alpha) l; beta = rel-min _ _ (z .beta) _ (i .beta) h; lo = l; hi = h; play = tt; read = o .read })
+      let l = rel-low-chance T w B (s .lo) (r .low) (ez .bottom) (z .lo) (x .low) (j .4) bl (f .bottom) (i .lo) (o .low) in
+      let h = rel-high-chance T w (e .top) (s .hi) (r .high) (ez .top) (z .hi) (x .high) (j .4) rS fits (f .top) (i .hi) (o .high) in
+      record { alpha = rel-max _ _ (z .alpha) _ (i .alpha) l; beta = rel-min _ _ (z .beta) _ (i .beta) h; lo = l; hi = h; play = tt; read = o .read })
 
-  pub ready-take : (ε : ℕ) (e : Frame ℕ) (k : Kind) (n w : ℕ) (s : State ℕ) (r : Seen ℕ) (rest : Forest ℕ) → Holds (not (stop natural ε rest (take natural e k n w s r))) → Ready k (isEnd rest) (take natural e k n w s r)
+  pub ready-take : (ε : ℕ) (e : Frame ℕ) (k : Kind) (n w : ℕ) (s : State ℕ) (r : Seen ℕ) (rest : Forest ℕ)
+      → Holds (not (stop natural ε rest (take natural e k n w s r))) → Ready k (isEnd rest) (take natural e k n w s r)
   unfolding take stop
   ready-take ε e MAX n w s r rest h = tt
   ready-take ε e MIN n w s r rest h = tt
@@ -230,16 +251,21 @@ module _ (p q : ℕ) where
     unfolding point
     rel-point n h l m r = record { low = rel-lift h; high = rel-lift h; play = tt; read = ap (λ x. x ++ (n ∷ [])) r }
 
-    pub rel-stop : (rest : Forest ℕ) (s : State ℕ) (z : State ℤ) → RelState s z → stop whole (R .margin) (shift Lo rest) z ≡ stop natural (R .margin) rest s
+    pub rel-stop : (rest : Forest ℕ) (s : State ℕ) (z : State ℤ) → RelState s z
+        → stop whole (R .margin) (shift Lo rest) z ≡ stop natural (R .margin) rest s
     unfolding stop
     rel-stop rest s z i = ap₂ (λ x y. not x && y) (isEnd-shift Lo rest) (rel-le (R .margin) _ _ (z .alpha) (z .beta) (i .alpha) (i .beta))
 
-    rel-after : (e : Frame ℕ) (ez : Frame ℤ) (k : Kind) (rest : Forest ℕ) (s : State ℕ) (z : State ℤ) → RelFrame e ez → RelState s z → (Holds (not (stop natural (R .margin) rest s)) → RelSeen (scan natural R e k rest s) (scan whole Z ez k (shift Lo rest) z))
+    rel-after : (e : Frame ℕ) (ez : Frame ℤ) (k : Kind) (rest : Forest ℕ) (s : State ℕ) (z : State ℤ) → RelFrame e ez → RelState s z
+        → (Holds (not (stop natural (R .margin) rest s)) → RelSeen (scan natural R e k rest s) (scan whole Z ez k (shift Lo rest) z))
         → RelSeen (after natural R e k rest s) (after whole Z ez k (shift Lo rest) z)
-    rel-after e ez k rest s z f i g = pick-rel RelSeen _ _ _ _ (stop natural (R .margin) rest s) (stop whole (R .margin) (shift Lo rest) z) (rel-stop rest s z i) (rel-cut e ez k s z f i) g
+    rel-after e ez k rest s z f i g =
+        pick-rel RelSeen _ _ _ _ (stop natural (R .margin) rest s) (stop whole (R .margin) (shift Lo rest) z) (rel-stop rest s z i)
+        (rel-cut e ez k s z f i) g
 
     -- a child has given r, over the integers x
-    rel-step : (e : Frame ℕ) (ez : Frame ℤ) (k : Kind) (n w : ℕ) (rest : Forest ℕ) (s : State ℕ) (z : State ℤ) (r : Seen ℕ) (x : Seen ℤ) (v : ℕ) → RelFrame e ez → e .top ≤ S → Holding e v r → Safe S e k (w + weigh rest) s → RelState s z → RelSeen r x
+    rel-step : (e : Frame ℕ) (ez : Frame ℤ) (k : Kind) (n w : ℕ) (rest : Forest ℕ) (s : State ℕ) (z : State ℤ) (r : Seen ℕ) (x : Seen ℤ) (v : ℕ)
+        → RelFrame e ez → e .top ≤ S → Holding e v r → Safe S e k (w + weigh rest) s → RelState s z → RelSeen r x
         → ((t : State ℕ) (y : State ℤ) → Safe S e k (weigh rest) t → Ready k (isEnd rest) t → RelState t y → RelSeen (scan natural R e k rest t) (scan whole Z ez k (shift Lo rest) y))
         → RelSeen (after natural R e k rest (take natural e k n w s r)) (after whole Z ez k (shift Lo rest) (take whole ez k n w z x))
     rel-step e ez k n w rest s z r x v f t h j i o ih =
@@ -248,7 +274,8 @@ module _ (p q : ℕ) where
         let e2 = rel-take S e ez k n w (weigh rest) s z r x f (h .0) lh (h .3) j i o in
         rel-after e ez k rest _ _ f e2 (λ more. ih _ _ j2 (ready-take (R .margin) e k n w s r rest more) e2)
 
-    pub shifted : (e : Frame ℕ) (ez : Frame ℤ) (k : Kind) (f : Forest ℕ) (s : State ℕ) (z : State ℤ) → RelFrame e ez → e .bottom ≤ e .top → e .top ≤ S → Within (R .frame) e f → Positive k f → Safe S e k (weigh f) s → Ready k (isEnd f) s → RelState s z
+    pub shifted : (e : Frame ℕ) (ez : Frame ℤ) (k : Kind) (f : Forest ℕ) (s : State ℕ) (z : State ℤ) → RelFrame e ez → e .bottom ≤ e .top → e .top ≤ S
+        → Within (R .frame) e f → Positive k f → Safe S e k (weigh f) s → Ready k (isEnd f) s → RelState s z
         → RelSeen (scan natural R e k f s) (scan whole Z ez k (shift Lo f) z)
     unfolding scan shift weigh finish
     shifted e ez k end s z f b t i o j r g = record { low = g .lo; high = g .hi; play = g .play; read = g .read }
@@ -265,14 +292,16 @@ module _ (p q : ℕ) where
         let v = hold-under e d _ y (i .0) (i .1) (contained R d c under la ub (s .read) (i .2) (i .3)) in
         let la-fits : la ≤ S = safe-lower S e k w _ s (le-trans b t) t j in
         let ub-fits : ub ≤ S = safe-upper S e k w _ s t j in
-        let u = shifted d dz c under (begin d c la ub (s .read)) (begin dz c (lower whole ez k w z) (upper whole ez k w z) (z .read)) (frames n under) (i .2 .ends) (le-trans (i .1) t) (i .3) (o .1)
+        let u = shifted d dz c under (begin d c la ub (s .read)) (begin dz c (lower whole ez k w z) (upper whole ez k w z) (z .read)) (frames n under)
+        (i .2 .ends) (le-trans (i .1) t) (i .3) (o .1)
         (safe-begin S d c under la ub (s .read) (i .2) (le-trans (i .1) t) la-fits ub-fits)
         (ready-begin d c (isEnd under) la ub (s .read) (let q = flat n under in (rw (q .0) (omega arith), rw (q .1) la-fits)))
         (rel-begin d dz c la ub (lower whole ez k w z) (upper whole ez k w z) (s .read) (z .read) (frames n under) (rel-lower e ez k w s z (o .0) b f r g) (rel-upper e ez k w s z (o .0) b f r g) (g .read)) in
         rel-step e ez k n w rest s z y (enter whole Z ez k n w c (shift Lo under) z) _ f t v j g u
         (λ u y j2 r2 g2. shifted e ez k rest u y f b t (i .4) (o .2) j2 r2 g2)
 
-    pub shifted-search : (n : ℕ) (k : Kind) (f : Forest ℕ) → Sound (R .frame n f) k f → R .frame n f .top ≤ S → Within (R .frame) (R .frame n f) f → Positive k f → RelSeen (search natural R (R .frame n f) k f) (search whole Z (frameZ n (shift Lo f)) k (shift Lo f))
+    pub shifted-search : (n : ℕ) (k : Kind) (f : Forest ℕ) → Sound (R .frame n f) k f → R .frame n f .top ≤ S → Within (R .frame) (R .frame n f) f
+        → Positive k f → RelSeen (search natural R (R .frame n f) k f) (search whole Z (frameZ n (shift Lo f)) k (shift Lo f))
     unfolding search
     shifted-search n k f x t i o =
         let e : Frame ℕ = R .frame n f in
@@ -284,7 +313,8 @@ module _ (p q : ℕ) where
         (rel-begin e ez k (e .bottom) (e .top) (ez .bottom) (ez .top) [] [] g (g .bottom) (g .top) refl)
 
     -- the search of a root
-    pub shifted-root : (e : Frame ℕ) (f : Forest ℕ) → e .top ≤ S → Within (R .frame) e f → Positive MAX f → RelSeen (searchRoot natural R f) (searchRoot whole Z (shift Lo f))
+    pub shifted-root : (e : Frame ℕ) (f : Forest ℕ) → e .top ≤ S → Within (R .frame) e f → Positive MAX f
+        → RelSeen (searchRoot natural R f) (searchRoot whole Z (shift Lo f))
     unfolding searchRoot shift
     shifted-root e end t i o = record { low = frames 0 end .bottom; high = frames 0 end .top; play = tt; read = refl }
     shifted-root e (leaf n w h rest) t i o = rel-point n h [] [] refl

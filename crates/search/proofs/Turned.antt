@@ -42,10 +42,10 @@ turned-greatest p c end = refl
 turned-greatest p c (leaf n w v rest) = ap (max c) (turned-greatest p c rest)
 turned-greatest p c (inner n w k under rest) =
     ap₂ (λ (j g : ℕ). max (c + j) g) (one-flip k) (
-      ap (λ (j : ℕ). greatest (flat n (c + j) (turned under) ++ flat p c (turned rest))) (one-flip k)
-      ∙ greatest-both (flat n (c + one k) (turned under)) (flat p c (turned rest))
-      ∙ ap₂ max (turned-greatest n (c + one k) under) (turned-greatest p c rest)
-      ∙ sym (greatest-both (flat n (c + one k) under) (flat p c rest)))
+    ap (λ (j : ℕ). greatest (flat n (c + j) (turned under) ++ flat p c (turned rest))) (one-flip k)
+    ∙ greatest-both (flat n (c + one k) (turned under)) (flat p c (turned rest))
+    ∙ ap₂ max (turned-greatest n (c + one k) under) (turned-greatest p c rest)
+    ∙ sym (greatest-both (flat n (c + one k) under) (flat p c rest)))
 
 -- ---- heights from the other end
 
@@ -69,11 +69,14 @@ above-turn h v w =
     let lo : ℤ = h .lowest in
     let hi : ℤ = h .highest in
     let x : ℕ = above lo v in
-    let iv : Is v (plus lo + x) (minus lo) = subst (λ (z : ℤ). Is z (plus lo + x) (minus lo)) (height-back lo v (w .0)) (lift lo (plus lo) (minus lo) x (parts lo)) in
+    let iv : Is v (plus lo + x) (minus lo) = subst (λ (z : ℤ). Is z (plus lo + x) (minus lo)) (height-back lo v (w .0))
+    (lift lo (plus lo) (minus lo) x (parts lo)) in
     let a : toNat (hi -ℤ v) ≡ plus hi + minus lo - (minus hi + (plus lo + x)) =
-    natural-is (hi -ℤ v) (plus hi + minus lo) (minus hi + (plus lo + x)) (is-minus hi v (plus hi) (minus hi) (plus lo + x) (minus lo) (parts hi) iv) in
+    natural-is (hi -ℤ v) (plus hi + minus lo) (minus hi + (plus lo + x))
+    (is-minus hi v (plus hi) (minus hi) (plus lo + x) (minus lo) (parts hi) iv) in
     let b : span h ≡ plus hi + minus lo - (minus hi + plus lo) =
-    natural-is (hi -ℤ lo) (plus hi + minus lo) (minus hi + plus lo) (is-minus hi lo (plus hi) (minus hi) (plus lo) (minus lo) (parts hi) (parts lo)) in
+    natural-is (hi -ℤ lo) (plus hi + minus lo) (minus hi + plus lo)
+    (is-minus hi lo (plus hi) (minus hi) (plus lo) (minus lo) (parts hi) (parts lo)) in
     ap toNat (turn-minus v hi) ∙ omega arith
 
 sub-times : (a b G : ℕ) → (a - b) * G ≡ a * G - b * G
@@ -84,7 +87,8 @@ turned-heights : (h : Head) (T K G d c : ℕ) (u : Bool) (f : Forest ℤ) → Pr
 unfolding grained turned turn
 turned-heights h T K G d c u end p = refl
 turned-heights h T K G d c u (leaf n w v rest) p =
-    ap₂ (leaf n w) (ap (λ (x : ℕ). x * G) (above-turn h v (p .1)) ∙ sub-times (span h) (above (h .lowest) v) G) (turned-heights h T K G d c u rest (p .4))
+    ap₂ (leaf n w) (ap (λ (x : ℕ). x * G) (above-turn h v (p .1)) ∙ sub-times (span h) (above (h .lowest) v) G)
+    (turned-heights h T K G d c u rest (p .4))
 turned-heights h T K G d c u (inner n w k under rest) p =
     ap₂ (inner n w (flip k)) (turned-heights h T K G (suc d) (c + one k) (isChance k) under (p .3)) (turned-heights h T K G d c u rest (p .4))
 
@@ -92,7 +96,8 @@ turned-heights h T K G d c u (inner n w k under rest) p =
 
 times-neg : (z : ℤ) (G : ℕ) → negℤ z *ℤ pos G ≡ negℤ (z *ℤ pos G)
 times-neg z G =
-    is-unique (negℤ z *ℤ pos G) (negℤ (z *ℤ pos G)) (G * minus z) (G * plus z) (is-times G (negℤ z) (minus z) (plus z) (is-neg z (plus z) (minus z) (parts z)))
+    is-unique (negℤ z *ℤ pos G) (negℤ (z *ℤ pos G)) (G * minus z) (G * plus z)
+    (is-times G (negℤ z) (minus z) (plus z) (is-neg z (plus z) (minus z) (parts z)))
     (is-neg (z *ℤ pos G) (G * plus z) (G * minus z) (is-times G z (plus z) (minus z) (parts z)))
 
 -- x above b is, seen from the other end, S - x above minus the end
@@ -139,7 +144,8 @@ module _ (a b : List ℕ) (t u : Table) (p : readText a ≡ fine t) (q : readTex
 
   seen-turn : heightSearched u ε ≡ turnSeen S (heightSearched t ε)
   seen-turn =
-      ap₂ (λ (M T : ℕ). searchRoot natural (heightRules M T ε) (grained (grain u) (heightTree u))) same-top (ap (λ (h : Head). h .total) (turns .head))
+      ap₂ (λ (M T : ℕ). searchRoot natural (heightRules M T ε) (grained (grain u) (heightTree u))) same-top
+      (ap (λ (h : Head). h .total) (turns .head))
       ∙ ap (searchRoot natural (heightRules S (t .head .total) ε)) heights-turn
       ∙ turned-root S (heightRules S (t .head .total) ε) (plain S (t .head .total)) (λ n f. frame-turn (t .head .total)) (frameOf S (t .head .total))
       (grained G (heightTree t)) (le-refl S)

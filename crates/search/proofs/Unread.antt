@@ -57,7 +57,8 @@ module _ {A : Type 0} (O : Arith A) (R : Rules A) (P : ℕ → Type 0) where
   unfolding point
   back-point n h l x = let y = each-split P l (n ∷ []) x in (y .0, each-one (y .1))
 
-  back-after : (e : Frame A) (k : Kind) (f : Forest A) (t : State A) → (All (scan O R e k f t) → Each P (t .read)) → All (after O R e k f t) → Each P (t .read)
+  back-after : (e : Frame A) (k : Kind) (f : Forest A) (t : State A) → (All (scan O R e k f t) → Each P (t .read)) → All (after O R e k f t)
+      → Each P (t .read)
   back-after e k f t ih = choose (λ (r : Seen A). All r → Each P (t .read)) (stop O (R .margin) f t) (λ _ x. rw cut-read at x) (λ _. ih)
 
   -- what was read before is read in the end
@@ -68,9 +69,11 @@ module _ {A : Type 0} (O : Arith A) (R : Rules A) (P : ℕ → Type 0) where
       back-point n h (s .read) (rw take-read at (back-after e k rest _ (back e k rest _) x)) .0
   back e k (inner n w c under rest) s x =
       let d : Frame A = R .frame n under in
-      rw begin-read at (back d c under (begin d c (lower O e k w s) (upper O e k w s) (s .read)) (rw take-read at (back-after e k rest _ (back e k rest _) x)))
+      rw begin-read at
+      (back d c under (begin d c (lower O e k w s) (upper O e k w s) (s .read)) (rw take-read at (back-after e k rest _ (back e k rest _) x)))
 
-  same-after : (e : Frame A) (k : Kind) {f g : Forest A} (t : State A) → Alike P f g → (All (scan O R e k f t) → scan O R e k f t ≡ scan O R e k g t) → All (after O R e k f t) → after O R e k f t ≡ after O R e k g t
+  same-after : (e : Frame A) (k : Kind) {f g : Forest A} (t : State A) → Alike P f g → (All (scan O R e k f t) → scan O R e k f t ≡ scan O R e k g t)
+      → All (after O R e k f t) → after O R e k f t ≡ after O R e k g t
   same-after e k {f} {g} t a ih x = rw (← stop-alike f g t a) (same-cond (cut e k t) All (stop O (R .margin) f t) ih x)
 
   module _ (frames : (n : ℕ) (f g : Forest A) → Alike P f g → R .frame n f ≡ R .frame n g) where
@@ -88,7 +91,8 @@ module _ {A : Type 0} (O : Arith A) (R : Rules A) (P : ℕ → Type 0) where
         let t : State A = take O e k n w s r in
         let y : All r = rw take-read at (back-after e k rest t (back e k rest t) x) in
         let d : Frame A = R .frame n under in
-        let same : r ≡ enter O R e k n w c under2 s = unread d c _ u y ∙ ap (λ d. scan O R d c under2 (begin d c (lower O e k w s) (upper O e k w s) (s .read))) (frames n under under2 u) in
+        let same : r ≡ enter O R e k n w c under2 s = unread d c _ u y ∙ ap
+        (λ d. scan O R d c under2 (begin d c (lower O e k w s) (upper O e k w s) (s .read))) (frames n under under2 u) in
         same-after e k t a (unread e k t a) x ∙ ap (λ v. after O R e k rest2 (take O e k n w s v)) same
 
 -- each number of a list is in it
@@ -97,7 +101,8 @@ each-self [] P h = none
 each-self (x ∷ l) P h = more (h x (List·Memᴰ·head refl)) (each-self l P (λ n m. h n (List·Memᴰ·tail m)))
 
 module _ {A : Type 0} (O : Arith A) (R : Rules A) where
-  unread-search : (P : ℕ → Type 0) (e : Frame A) (k : Kind) (f g : Forest A) → ((n : ℕ) (x y : Forest A) → Alike P x y → R .frame n x ≡ R .frame n y) → Alike P f g
+  unread-search : (P : ℕ → Type 0) (e : Frame A) (k : Kind) (f g : Forest A) → ((n : ℕ) (x y : Forest A) → Alike P x y → R .frame n x ≡ R .frame n y)
+      → Alike P f g
       → ((n : ℕ) → List·Memᴰ n (search O R e k f .read) → P n) → search O R e k f ≡ search O R e k g
   unfolding search
   unread-search P e k f g frames a all = unread O R P frames e k (begin e k (e .bottom) (e .top) []) a (each-self (search O R e k f .read) P all)

@@ -23,17 +23,21 @@ gap-a T ε w lo be rl bc x T-pos wT e1 ex near c1 =
     let d : x + ε + 1 ≤ be - lo = omega arith in
     omega (arith, mul-le-mul-left w near, mul-le-mul-right ε wT, mul-le-mul-right T d)
 
-gap-b : (S T ε w W lo hi al be ac bc : ℕ) → 0 < T → w ≤ T → ac ≤ S → T * lo + (w + W) * S ≤ T * hi → (be - lo) * T ≤ w * bc → (hi - al) * T ≤ w * (S - ac) → bc ≤ ac + ε → al + ε < be → ⊥
+gap-b : (S T ε w W lo hi al be ac bc : ℕ) → 0 < T → w ≤ T → ac ≤ S → T * lo + (w + W) * S ≤ T * hi → (be - lo) * T ≤ w * bc
+    → (hi - al) * T ≤ w * (S - ac) → bc ≤ ac + ε → al + ε < be → ⊥
 gap-b S T ε w W lo hi al be ac bc T-pos wT aS room e1 e2 near c2 =
     let d1 : be ≤ be - lo + lo = omega arith in
     let d2 : hi ≤ hi - al + al = omega arith in
-    omega (arith, mul-le-mul-left w near, mul-le-mul-right ε wT, mul-le-mul-left T d1, mul-le-mul-left T d2, mul-le-mul-left T c2, mul-sub w S ac, mul-le-mul-left w aS)
+    omega
+    (arith, mul-le-mul-left w near, mul-le-mul-right ε wT, mul-le-mul-left T d1, mul-le-mul-left T d2, mul-le-mul-left T c2, mul-sub w S ac, mul-le-mul-left w aS)
 
-gap-c : (S T ε w hi al rh ac y : ℕ) → 0 < T → w ≤ T → rh ≤ S → ac ≤ S → (hi - al) * T ≤ w * (S - ac) → T * y ≡ w * (S - rh) → rh ≤ ac + ε → al + ε < hi - y → ⊥
+gap-c : (S T ε w hi al rh ac y : ℕ) → 0 < T → w ≤ T → rh ≤ S → ac ≤ S → (hi - al) * T ≤ w * (S - ac) → T * y ≡ w * (S - rh) → rh ≤ ac + ε
+    → al + ε < hi - y → ⊥
 gap-c S T ε w hi al rh ac y T-pos wT rS aS e2 ey near c3 =
     let d2 : hi ≤ hi - al + al = omega arith in
     let d3 : al + ε + 1 + y ≤ hi = omega arith in
-    omega (arith, mul-le-mul-left w near, mul-le-mul-right ε wT, mul-le-mul-left T d2, mul-le-mul-left T d3, mul-sub w S ac, mul-sub w S rh, mul-le-mul-left w aS, mul-le-mul-left w rS)
+    omega
+    (arith, mul-le-mul-left w near, mul-le-mul-right ε wT, mul-le-mul-left T d2, mul-le-mul-left T d3, mul-sub w S ac, mul-sub w S rh, mul-le-mul-left w aS, mul-le-mul-left w rS)
 
 gap : (S T ε w W lo hi al be rl rh ac bc x y : ℕ) → 0 < T → w ≤ T → rh ≤ S → ac ≤ S
     → T * lo + (w + W) * S ≤ T * hi
@@ -70,7 +74,8 @@ share-far w rl rh ε h =
       | no p ↦ elim (decLe w 0) [ yes q ↦ omega (arith, mul-le-mul-right rh q) | no q ↦ absurd (h (omega arith) (omega arith)) ]
     ]
 
-room-step : (S T w W lo hi rl rh x y : ℕ) → rl ≤ rh → rh ≤ S → T * x ≡ w * rl → T * y ≡ w * (S - rh) → T * lo + (w + W) * S ≤ T * hi → T * (lo + x) + W * S ≤ T * (hi - y)
+room-step : (S T w W lo hi rl rh x y : ℕ) → rl ≤ rh → rh ≤ S → T * x ≡ w * rl → T * y ≡ w * (S - rh) → T * lo + (w + W) * S ≤ T * hi
+    → T * (lo + x) + W * S ≤ T * (hi - y)
 room-step S T w W lo hi rl rh x y lh rS ex ey room =
     omega (arith, mul-sub T hi y, mul-sub w S rh, mul-le-mul-left w lh, mul-le-mul-left w rS)
 
@@ -86,7 +91,8 @@ max-join a lo rl al m e h = omega arith
 max-alpha : (a lo rl al : ℕ) → al ≤ max a lo → max al (max lo rl) ≤ max a (max lo rl)
 max-alpha a lo rl al h = omega arith
 
-max-step : (hi rh b be lo rl a al m ε : ℕ) → (lo ≤ m) × (rl ≤ m) × (a ≤ m) × (al ≤ m) → b ≤ be → min hi b ≤ max lo a + ε → min rh be ≤ max rl al + ε → min (max hi rh) b ≤ m + ε
+max-step : (hi rh b be lo rl a al m ε : ℕ) → (lo ≤ m) × (rl ≤ m) × (a ≤ m) × (al ≤ m) → b ≤ be → min hi b ≤ max lo a + ε → min rh be ≤ max rl al + ε
+    → min (max hi rh) b ≤ m + ε
 max-step hi rh b be lo rl a al m ε j h1 h2 h3 = omega arith
 
 min-join : (b hi rh be n : ℕ) → n ≡ min (min hi rh) b → min b hi ≤ be → (n ≤ hi) × (n ≤ rh) × (n ≤ b) × (n ≤ be)
@@ -95,7 +101,8 @@ min-join b hi rh be n e h = omega arith
 min-beta : (b hi rh be : ℕ) → min b hi ≤ be → min b (min hi rh) ≤ min be (min hi rh)
 min-beta b hi rh be h = omega arith
 
-min-step : (hi rh b be lo rl a al n ε : ℕ) → (n ≤ hi) × (n ≤ rh) × (n ≤ b) × (n ≤ be) → al ≤ a → min hi b ≤ max lo a + ε → min rh be ≤ max rl al + ε → n ≤ max (min lo rl) a + ε
+min-step : (hi rh b be lo rl a al n ε : ℕ) → (n ≤ hi) × (n ≤ rh) × (n ≤ b) × (n ≤ be) → al ≤ a → min hi b ≤ max lo a + ε → min rh be ≤ max rl al + ε
+    → n ≤ max (min lo rl) a + ε
 min-step hi rh b be lo rl a al n ε j h1 h2 h3 = omega arith
 
 chance-alpha : (a lo al x : ℕ) → al ≤ max a lo → max al (lo + x) ≤ max a (lo + x)
@@ -167,18 +174,21 @@ module _ (R : Rules ℕ) where
         let n = mul-le-mul-left (e .total) (q .ends) in
         rw (q .weighed) (omega arith, omega arith, omega arith, omega arith, λ _. omega arith)
 
-    narrow-take : (e : Frame ℕ) (k : Kind) (g n w W : ℕ) (s : State ℕ) (r : Seen ℕ) → Paid e k → Even (grade e k g) e → EvenR (grade e k g) r → e .bottom ≤ r .low → r .low ≤ r .high → r .high ≤ e .top
+    narrow-take : (e : Frame ℕ) (k : Kind) (g n w W : ℕ) (s : State ℕ) (r : Seen ℕ) → Paid e k → Even (grade e k g) e → EvenR (grade e k g) r
+        → e .bottom ≤ r .low → r .low ≤ r .high → r .high ≤ e .top
         → Tight (lower natural e k w s) (upper natural e k w s) r → Narrow a b e k (w + W) s → Narrow a b e k W (take natural e k n w s r)
     unfolding take lower upper
     narrow-take e MAX g n w W s r T-pos d x bl lh rS t i = (
       max-alpha a _ _ _ (i .0),
       omega (arith, i .1),
-      max-step (s .hi) (r .high) b b (s .lo) (r .low) a (s .alpha) _ ε (max-join a (s .lo) (r .low) (s .alpha) _ refl (i .0)) (le-refl b) (i .2) (meet-top b (e .top) (s .beta) (r .high) _ (i .1) rS t),
+      max-step (s .hi) (r .high) b b (s .lo) (r .low) a (s .alpha) _ ε (max-join a (s .lo) (r .low) (s .alpha) _ refl (i .0)) (le-refl b) (i .2)
+          (meet-top b (e .top) (s .beta) (r .high) _ (i .1) rS t),
     )
     narrow-take e MIN g n w W s r T-pos d x bl lh rS t i = (
       omega (arith, i .0),
       min-beta b (s .hi) (r .high) (s .beta) (i .1),
-      min-step (s .hi) (r .high) b (s .beta) (s .lo) (r .low) a a _ ε (min-join b (s .hi) (r .high) (s .beta) _ refl (i .1)) (le-refl a) (i .2) (meet-bottom a (e .bottom) (s .alpha) (r .low) _ ε (i .0) bl t),
+      min-step (s .hi) (r .high) b (s .beta) (s .lo) (r .low) a a _ ε (min-join b (s .hi) (r .high) (s .beta) _ refl (i .1)) (le-refl a) (i .2)
+          (meet-bottom a (e .bottom) (s .alpha) (r .low) _ ε (i .0) bl t),
     )
     narrow-take e CHANCE g n w W s r T-pos d x bl lh rS t i =
         let T : ℕ = e .total in
@@ -190,7 +200,8 @@ module _ (R : Rules ℕ) where
         let lh2 : rl ≤ rh = drop B lh in
         let rS2 : rh ≤ span e = drop B rS in
         let ex : T * (w * rl / T) ≡ w * rl = share T g w (dvd-sub (T * g) (x .0) (d .0)) in
-        let ey : T * (w * (e .top - r .high) / T) ≡ w * (span e - rh) = rw (drop-top B (e .top) (r .high) (le-trans bl lh)) (share T g w (dvd-sub (T * g) (d .1) (x .1))) in (
+        let ey : T * (w * (e .top - r .high) / T) ≡ w * (span e - rh) = rw (drop-top B (e .top) (r .high) (le-trans bl lh))
+        (share T g w (dvd-sub (T * g) (d .1) (x .1))) in (
           chance-alpha a (s .lo) (s .alpha) _ (i .0),
           chance-beta b (s .hi) (s .beta) _ (i .1),
           room-step (span e) T w W _ _ rl rh _ _ lh2 rS2 ex ey (i .2),
@@ -221,29 +232,35 @@ module _ (R : Rules ℕ) where
     narrow-cut e MIN W s h i = omega arith
     narrow-cut e CHANCE W s h i = omega arith
 
-    narrow-after : (e : Frame ℕ) (k : Kind) (rest : Forest ℕ) (t : State ℕ) → Narrow a b e k (weigh rest) t → Tight a b (scan natural R e k rest t) → Tight a b (after natural R e k rest t)
-    narrow-after e k rest t i x = choose (Tight a b) (stop natural (R .margin) rest t) (λ h. narrow-cut e k (weigh rest) t (stop-shut rest t h) i) (λ _. x)
+    narrow-after : (e : Frame ℕ) (k : Kind) (rest : Forest ℕ) (t : State ℕ) → Narrow a b e k (weigh rest) t → Tight a b (scan natural R e k rest t)
+        → Tight a b (after natural R e k rest t)
+    narrow-after e k rest t i x =
+        choose (Tight a b) (stop natural (R .margin) rest t) (λ h. narrow-cut e k (weigh rest) t (stop-shut rest t h) i) (λ _. x)
 
-  pub narrow : (e : Frame ℕ) (k : Kind) (f : Forest ℕ) (s : State ℕ) (a b g : ℕ) → Paid e k → Within (R .frame) e f → Even (grade e k g) e → Fit (R .frame) (grade e k g) f → Narrow a b e k (weigh f) s → Tight a b (scan natural R e k f s)
+  pub narrow : (e : Frame ℕ) (k : Kind) (f : Forest ℕ) (s : State ℕ) (a b g : ℕ) → Paid e k → Within (R .frame) e f → Even (grade e k g) e
+      → Fit (R .frame) (grade e k g) f → Narrow a b e k (weigh f) s → Tight a b (scan natural R e k f s)
   unfolding scan weigh point
   narrow e k end s a b g q i d x j = narrow-finish a b e k s q j
   narrow e k (leaf n w v rest) s a b g q i d x j = (
-    let j2 = narrow-take a b e k g n w (weigh rest) s (point n v (s .read)) q d (x .0, x .0) (i .0) (omega arith) (i .1) (omega arith) j in
-    narrow-after a b e k rest _ j2 (narrow e k rest _ a b g q (i .2) d (x .1) j2))
+      let j2 = narrow-take a b e k g n w (weigh rest) s (point n v (s .read)) q d (x .0, x .0) (i .0) (omega arith) (i .1) (omega arith) j in
+      narrow-after a b e k rest _ j2 (narrow e k rest _ a b g q (i .2) d (x .1) j2))
   narrow e k (inner n w c under rest) s a b g q i d x j = (
-    let la : ℕ = lower natural e k w s in
-    let ub : ℕ = upper natural e k w s in
-    let m : Frame ℕ = R .frame n under in
-    let r : Seen ℕ = enter natural R e k n w c under s in
-    let u : Tight la ub r = narrow m c under _ la ub (grade e k g) (i .2 .paid) (i .3) (x .0) (x .1) (narrow-begin la ub m c under (s .read) (i .2)) in
-    let v = contained R m c under la ub (s .read) (i .2) (i .3) in
-    let y = even R m c under _ (grade e k g) (i .2 .paid) (i .3) (x .0) (x .1) (even-begin m c (grade e k g) la ub (s .read) (below m c (grade e k g) (x .0 .0), below m c (grade e k g) (x .0 .1))) in
-    let j2 = narrow-take a b e k g n w (weigh rest) s r q d y (le-trans (i .0) (v .0)) (le-trans (v .1) (v .2)) (le-trans (v .3) (i .1)) u j in
-    narrow-after a b e k rest _ j2 (narrow e k rest _ a b g q (i .4) d (x .2) j2))
+      let la : ℕ = lower natural e k w s in
+      let ub : ℕ = upper natural e k w s in
+      let m : Frame ℕ = R .frame n under in
+      let r : Seen ℕ = enter natural R e k n w c under s in
+      let u : Tight la ub r = narrow m c under _ la ub (grade e k g) (i .2 .paid) (i .3) (x .0) (x .1)
+      (narrow-begin la ub m c under (s .read) (i .2)) in
+      let v = contained R m c under la ub (s .read) (i .2) (i .3) in
+      let y = even R m c under _ (grade e k g) (i .2 .paid) (i .3) (x .0) (x .1)
+      (even-begin m c (grade e k g) la ub (s .read) (below m c (grade e k g) (x .0 .0), below m c (grade e k g) (x .0 .1))) in
+      let j2 = narrow-take a b e k g n w (weigh rest) s r q d y (le-trans (i .0) (v .0)) (le-trans (v .1) (v .2)) (le-trans (v .3) (i .1)) u j in
+      narrow-after a b e k rest _ j2 (narrow e k rest _ a b g q (i .4) d (x .2) j2))
 
   -- at the root
-  pub width : (e : Frame ℕ) (k : Kind) (f : Forest ℕ) (g : ℕ) → Sound e k f → Within (R .frame) e f → Even (grade e k g) e → Fit (R .frame) (grade e k g) f → search natural R e k f .high ≤ search natural R e k f .low + ε
+  pub width : (e : Frame ℕ) (k : Kind) (f : Forest ℕ) (g : ℕ) → Sound e k f → Within (R .frame) e f → Even (grade e k g) e
+      → Fit (R .frame) (grade e k g) f → search natural R e k f .high ≤ search natural R e k f .low + ε
   unfolding search
   width e k f g q i d x = (
-    let v = contained R e k f (e .bottom) (e .top) [] q i in
-    omega (arith, v, narrow e k f _ (e .bottom) (e .top) g (q .paid) i d x (narrow-begin (e .bottom) (e .top) e k f [] q)))
+      let v = contained R e k f (e .bottom) (e .top) [] q i in
+      omega (arith, v, narrow e k f _ (e .bottom) (e .top) g (q .paid) i d x (narrow-begin (e .bottom) (e .top) e k f [] q)))
