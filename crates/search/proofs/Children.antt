@@ -63,6 +63,12 @@ child-from frame G m v c (leaf n w h rest) r (next-leaf x) = omega (arith, r .0,
 child-from frame G m v c (inner n w k under rest) r (here-inner x) = r .0
 child-from frame G m v c (inner n w k under rest) r (next-inner x) = omega (arith, r .0, child-from frame G m v (suc n) rest (r .1) x)
 
+pub root-same : (G : ℕ) (g : ℤ → ℕ) (f : Forest ℤ) → rootOf (grained G (mapForest g f)) ≡ rootOf f
+unfolding grained
+root-same G g end = refl
+root-same G g (leaf n w v rest) = refl
+root-same G g (inner n w k under rest) = refl
+
 -- ---- over the integers
 
 cond-here : {A : Type 0} (b : Bool) (x y : A) → b ≡ true → cond b x y ≡ x
@@ -111,9 +117,3 @@ module _ (T G K S : ℕ) (h : Head) (positive : 0 < T) where
   unfolding grained
   play-worth (inner n w k under rest) p fl bl sm s e x m v i =
       child-worth 1 (0 + one k) (isChance k) under (p .3) (fl .1) (bl .1) (sm .2) 1 (rising-under s 0 e n w k (lowered under) (lowered rest) x) m v i
-
-  pub root-same : (f : Forest ℤ) → rootOf (grained G (lowered f)) ≡ rootOf f
-  unfolding grained
-  root-same end = refl
-  root-same (leaf n w v rest) = refl
-  root-same (inner n w k under rest) = refl

@@ -170,7 +170,7 @@ module _ (s : List ℕ) (t : Table) (r : readText s ≡ fine t) (ε : ℕ) where
   root-is : rootOf (grained G (heightTree t)) ≡ rootOf (tree t)
   root-is =
       ap (λ (f : Forest ℕ). rootOf (grained G f)) (heights-map t)
-      ∙ root-same (t .head .total) G (greatest (t .lines)) top-height (t .head) (accepted-ranged s t r .some) (tree t)
+      ∙ root-same G (above (t .head .lowest)) (tree t)
 
   -- at M the play is worth at least low, at N at most high
   pub play-side : (m : ℕ) → nodeOf (searched t ε .play) ≡ some m → (v : ℤ) → playWorth t m ≡ some v

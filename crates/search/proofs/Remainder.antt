@@ -89,21 +89,21 @@ module _ (p q : ℕ) where
     rest-shift : (e : Frame ℕ) (ez : Frame ℤ) (k : Kind) (n w : ℕ) (rest : Forest ℕ) (s : State ℕ) (z : State ℤ) (r : Seen ℕ) (x : Seen ℤ) (v : ℕ)
         → RelFrame p q e ez → e .top ≤ S → Holding e v r → Safe S e k (w + weigh rest) s → RelState p q s z → RelSeen p q r x
         → (stop natural (R .margin) rest (take natural e k n w s r) ≡ false → EachTaken natural R WholeHeights e k rest (take natural e k n w s r))
-        → ((t : State ℕ) (y : State ℤ) → Safe S e k (weigh rest) t → Ready p q k (isEnd rest) t → RelState p q t y → EachTaken natural R WholeHeights e k rest t
+        → ((t : State ℕ) (y : State ℤ) → Safe S e k (weigh rest) t → Ready k (isEnd rest) t → RelState p q t y → EachTaken natural R WholeHeights e k rest t
         → EachTaken whole Z Whole ez k (shift Lo rest) y)
         → stop whole (R .margin) (shift Lo rest) (take whole ez k n w z x) ≡ false
         → EachTaken whole Z Whole ez k (shift Lo rest) (take whole ez k n w z x)
     rest-shift e ez k n w rest s z r x v f t h j i o a ih c =
         let lh = le-trans (h .1) (h .2) in
-        let j2 = safe-take S R e k n w (weigh rest) s r t (h .0) lh (h .3) j in
+        let j2 = safe-take S e k n w (weigh rest) s r t (h .0) lh (h .3) j in
         let i2 = rel-take p q S e ez k n w (weigh rest) s z r x f (h .0) lh (h .3) j i o in
         let d : stop natural (R .margin) rest (take natural e k n w s r) ≡ false =
         sym (rel-stop p q Lo isLo S R frameZ frames flat rest (take natural e k n w s r) (take whole ez k n w z x) i2) ∙ c in
-        ih (take natural e k n w s r) (take whole ez k n w z x) j2 (ready-take p q (R .margin) e k n w s r rest (rw d tt)) i2 (a d)
+        ih (take natural e k n w s r) (take whole ez k n w z x) j2 (ready-take (R .margin) e k n w s r rest (rw d tt)) i2 (a d)
 
     taken-shift : (e : Frame ℕ) (ez : Frame ℤ) (k : Kind) (f : Forest ℕ) (s : State ℕ) (z : State ℤ) → RelFrame p q e ez → e .bottom ≤ e .top
         → e .top ≤ S
-        → Within (R .frame) e f → Positive k f → Safe S e k (weigh f) s → Ready p q k (isEnd f) s → RelState p q s z
+        → Within (R .frame) e f → Positive k f → Safe S e k (weigh f) s → Ready k (isEnd f) s → RelState p q s z
         → EachTaken natural R WholeHeights e k f s → EachTaken whole Z Whole ez k (shift Lo f) z
     unfolding shift weigh
     taken-shift e ez k end s z f b t i o j r g a = tt
@@ -126,7 +126,7 @@ module _ (p q : ℕ) where
         let s2 : State ℕ = begin d c la ub (s .read) in
         let z2 : State ℤ = begin dz c (lower whole ez k w z) (upper whole ez k w z) (z .read) in
         let j2 = safe-begin S d c under la ub (s .read) (i .2) (le-trans (i .1) t) la-fits ub-fits in
-        let r2 = ready-begin p q d c (isEnd under) la ub (s .read) (let q = flat n under in (rw (q .0) (omega arith), rw (q .1) la-fits)) in
+        let r2 = ready-begin d c (isEnd under) la ub (s .read) (let q = flat n under in (rw (q .0) (omega arith), rw (q .1) la-fits)) in
         let g2 = rel-begin p q d dz c la ub (lower whole ez k w z) (upper whole ez k w z) (s .read) (z .read) (frames n under)
         (rel-lower p q e ez k w s z (o .0) b f r g) (rel-upper p q e ez k w s z (o .0) b f r g) (g .read) in
         let u = shifted p q Lo isLo S R frameZ frames flat d dz c under s2 z2 (frames n under) (i .2 .ends) (le-trans (i .1) t) (i .3)
@@ -150,6 +150,6 @@ module _ (p q : ℕ) where
         let u : d .top ≤ S = le-trans (i .1) t in
         taken-shift d dz k under (begin d k (d .bottom) (d .top) []) (begin dz k (dz .bottom) (dz .top) []) y (i .2 .ends) u (i .3) (o .1)
         (safe-begin S d k under (d .bottom) (d .top) [] (i .2) u (le-trans (i .2 .ends) u) u)
-        (ready-begin p q d k (isEnd under) (d .bottom) (d .top) [] (i .2 .ends, i .2 .ends))
+        (ready-begin d k (isEnd under) (d .bottom) (d .top) [] (i .2 .ends, i .2 .ends))
         (rel-begin p q d dz k (d .bottom) (d .top) (dz .bottom) (dz .top) [] [] y (y .bottom) (y .top) refl)
         (whole-heights R d k under (begin d k (d .bottom) (d .top) []) g (i .2 .paid) (i .3) (x .0) (x .1))

@@ -1,22 +1,14 @@
 -- No number of the search is above the highest end, and no difference is below zero. Assumes nothing.
 use Prim.Native.Nat.{ℕ, _+_, _*_, _-_, _/_, max, _≤_, _<_}
-use mathlib.Core.Path.{_≡_, refl}
 use mathlib.Core.Bool.{Bool, true, false, cond}
 use mathlib.Core.List.{List}
 use native.Mathlib.Nat.{mul-le-mul-left, mul-sub, mul-div-le, le-of-mul-le-mul-left, le-trans, sub-le, min-le-left}
 use native.Mathlib.Omega.{arith}
-use lib.Dec.{T as Holds}
 use Rattle.table.specs.Tree.{Kind, MAX, MIN, CHANCE, Forest, weigh}
-use Rattle.search.specs.Search.{Frame, Play, noPlay, child, Seen, State, Rules, begin, lower, upper, beats, better, take}
+use Rattle.search.specs.Search.{Frame, Play, noPlay, child, Seen, State, begin, lower, upper, beats, better, take}
 use Rattle.search.specs.Heights.{natural}
 use Rattle.search.proofs.Heights.{Sound, total}
 use Rattle.search.proofs.Width.{drop, drop-top}
-
-pub same-test : (b c : Bool) → (Holds b → Holds c) → (Holds c → Holds b) → b ≡ c
-same-test true true f g = refl
-same-test true false f g = absurd (f tt)
-same-test false true f g = absurd (g tt)
-same-test false false f g = refl
 
 -- a child's share off the top leaves at MIN nothing
 pub share-fits : (D T w W lo hi rh y : ℕ) → 0 < T → T * y ≤ w * (D - rh) → T * lo + (w + W) * D ≤ T * hi → y ≤ hi
@@ -61,34 +53,33 @@ module _ (S : ℕ) where
   safe-upper e MIN w W s t i = i .1
   safe-upper e CHANCE w W s t i = omega arith
 
-  module _ (R : Rules ℕ) where
-    low-better : (k : Kind) (n : ℕ) (p : Play ℕ) (r : Seen ℕ) → r .low ≤ S → r .high ≤ S → Low p → Low (better natural k n p r)
-    unfolding better
-    low-better k n noPlay r p q i = (p, q)
-    low-better k n (child m l h) r p q i = pick (beats natural k (r .low) (r .high) l h)
-      where
-        pick : (b : Bool) → Low (cond b (child n (r .low) (r .high)) (child m l h))
-        pick true = (p, q)
-        pick false = i
+  low-better : (k : Kind) (n : ℕ) (p : Play ℕ) (r : Seen ℕ) → r .low ≤ S → r .high ≤ S → Low p → Low (better natural k n p r)
+  unfolding better
+  low-better k n noPlay r p q i = (p, q)
+  low-better k n (child m l h) r p q i = pick (beats natural k (r .low) (r .high) l h)
+    where
+      pick : (b : Bool) → Low (cond b (child n (r .low) (r .high)) (child m l h))
+      pick true = (p, q)
+      pick false = i
 
-    pub safe-take : (e : Frame ℕ) (k : Kind) (n w W : ℕ) (s : State ℕ) (r : Seen ℕ) → e .top ≤ S → e .bottom ≤ r .low → r .low ≤ r .high
-        → r .high ≤ e .top → Safe e k (w + W) s → Safe e k W (take natural e k n w s r)
-    unfolding take
-    safe-take e MAX n w W s r t bl lh rS i =
-        let l : r .low ≤ S = omega arith in let h : r .high ≤ S = omega arith in
-        (omega (arith, i .0, i .2), le-trans (min-le-left _ _) (i .1), omega (arith, i .2), omega (arith, i .3), low-better MAX n (s .play) r l h (i .4))
-    safe-take e MIN n w W s r t bl lh rS i =
-        let l : r .low ≤ S = omega arith in let h : r .high ≤ S = omega arith in
-        (omega (arith, i .0), omega (arith, i .1), omega (arith, i .2), omega (arith, i .3), low-better MIN n (s .play) r l h (i .4))
-    safe-take e CHANCE n w W s r t bl lh rS i =
-        let B : ℕ = e .bottom in
-        let T : ℕ = e .total in
-        let x : ℕ = w * (r .low - B) / T in
-        let y : ℕ = w * (e .top - r .high) / T in
-        let ey : T * y ≤ w * (e .top - B - (r .high - B)) = rw (drop-top B (e .top) (r .high) (le-trans bl lh)) (mul-div-le _ T) in
-        let j = room (e .top - B) T w W (s .lo) (s .hi) (r .low - B) (r .high - B) x y (drop B lh) (drop B rS) (mul-div-le _ T) ey (i .2) in
-        let l : s .lo + x ≤ s .hi - y = le-of-mul-le-mul-left (omega (arith, j)) (i .4) in
-        (lift (s .alpha) (s .hi) (s .lo + x) y (i .0) (i .3) l, le-trans (min-le-left _ _) (i .1), j, le-trans (sub-le _ _) (i .3), i .4)
-      where
-        lift : (al hi l y : ℕ) → al ≤ S → hi ≤ S → l ≤ hi - y → max al l ≤ S
-        lift al hi l y p q r = omega arith
+  pub safe-take : (e : Frame ℕ) (k : Kind) (n w W : ℕ) (s : State ℕ) (r : Seen ℕ) → e .top ≤ S → e .bottom ≤ r .low → r .low ≤ r .high
+      → r .high ≤ e .top → Safe e k (w + W) s → Safe e k W (take natural e k n w s r)
+  unfolding take
+  safe-take e MAX n w W s r t bl lh rS i =
+      let l : r .low ≤ S = omega arith in let h : r .high ≤ S = omega arith in
+      (omega (arith, i .0, i .2), le-trans (min-le-left _ _) (i .1), omega (arith, i .2), omega (arith, i .3), low-better MAX n (s .play) r l h (i .4))
+  safe-take e MIN n w W s r t bl lh rS i =
+      let l : r .low ≤ S = omega arith in let h : r .high ≤ S = omega arith in
+      (omega (arith, i .0), omega (arith, i .1), omega (arith, i .2), omega (arith, i .3), low-better MIN n (s .play) r l h (i .4))
+  safe-take e CHANCE n w W s r t bl lh rS i =
+      let B : ℕ = e .bottom in
+      let T : ℕ = e .total in
+      let x : ℕ = w * (r .low - B) / T in
+      let y : ℕ = w * (e .top - r .high) / T in
+      let ey : T * y ≤ w * (e .top - B - (r .high - B)) = rw (drop-top B (e .top) (r .high) (le-trans bl lh)) (mul-div-le _ T) in
+      let j = room (e .top - B) T w W (s .lo) (s .hi) (r .low - B) (r .high - B) x y (drop B lh) (drop B rS) (mul-div-le _ T) ey (i .2) in
+      let l : s .lo + x ≤ s .hi - y = le-of-mul-le-mul-left (omega (arith, j)) (i .4) in
+      (lift (s .alpha) (s .hi) (s .lo + x) y (i .0) (i .3) l, le-trans (min-le-left _ _) (i .1), j, le-trans (sub-le _ _) (i .3), i .4)
+    where
+      lift : (al hi l y : ℕ) → al ≤ S → hi ≤ S → l ≤ hi - y → max al l ≤ S
+      lift al hi l y p q r = omega arith

@@ -15,18 +15,14 @@ use Rattle.search.specs.Whole.{whole, ceilZ, downZ, upZ, gainZ, lossZ}
 use Rattle.search.specs.Heights.{natural, ceil}
 use Rattle.search.proofs.Heights.{Sound, Within, Pays, Positive, shift, total}
 use Rattle.search.proofs.Contain.{contained, Holding, hold-point, hold-under}
-use Rattle.search.proofs.Width.{drop-top}
-use Rattle.search.proofs.Safe.{same-test, share-fits, Safe, safe-begin, safe-lower, safe-upper, safe-take}
-use Rattle.worth.proofs.Signs.{Is, is-eq, is-add, is-neg, is-minus, is-mul, is-le, is-max, is-min, is-floor}
+use Rattle.search.proofs.Width.{ceil-le, drop-top}
+use Rattle.search.proofs.Safe.{share-fits, Safe, safe-begin, safe-lower, safe-upper, safe-take}
+use Rattle.worth.proofs.Signs.{same-test, Is, is-eq, is-add, is-neg, is-minus, is-mul, is-le, is-max, is-min, is-floor}
 
 -- m - n is the quotient of a - b by w, rounded up
 is-ceil : (w : ℕ) (z : ℤ) (a b m n : ℕ) → 0 < w → Is z a b → a + w * n ≤ w * m + b → w * m + b < a + w * n + w → Is (ceilZ z w) m n
 unfolding ceilZ
 is-ceil w z a b m n w-pos p l u = is-neg (floorZ (negℤ z) w) n m (is-floor w (negℤ z) b a n m w-pos (is-neg z a b p) (omega arith) (omega arith))
-
-ceil-le : (x w : ℕ) → 0 < w → x ≤ w * ceil x w
-unfolding ceil
-ceil-le x w p = omega (arith, lt-mul-div-succ (x + (w - 1)) p)
 
 ceil-lt : (x w : ℕ) → 0 < w → w * ceil x w < x + w
 unfolding ceil
@@ -51,6 +47,25 @@ still-open false c h e = h
 
 open-fits : (al be l h ε : ℕ) → max al l + ε < min be h → (l ≤ min be h) × (max al l ≤ h)
 open-fits al be l h ε o = omega arith
+
+-- where there is no clamp, a chance node's child to come has a window that is not below or above what is possible
+abbrev pub Ready : Kind → Bool → State ℕ → Type 0
+Ready MAX e s = Unit {0}
+Ready MIN e s = Unit {0}
+Ready CHANCE e s = Holds (not e) → (s .lo ≤ s .beta) × (s .alpha ≤ s .hi)
+
+pub ready-begin : (d : Frame ℕ) (k : Kind) (x : Bool) (a b : ℕ) (l : List ℕ) → (d .bottom ≤ b) × (a ≤ d .top) → Ready k x (begin d k a b l)
+unfolding begin
+ready-begin d MAX x a b l h = tt
+ready-begin d MIN x a b l h = tt
+ready-begin d CHANCE x a b l h = λ _. h
+
+pub ready-take : (ε : ℕ) (e : Frame ℕ) (k : Kind) (n w : ℕ) (s : State ℕ) (r : Seen ℕ) (rest : Forest ℕ)
+    → Holds (not (stop natural ε rest (take natural e k n w s r))) → Ready k (isEnd rest) (take natural e k n w s r)
+unfolding take stop
+ready-take ε e MAX n w s r rest h = tt
+ready-take ε e MIN n w s r rest h = tt
+ready-take ε e CHANCE n w s r rest h = λ x. open-fits _ _ _ _ ε (nleb→lt _ _ (still-open (isEnd rest) _ h x))
 
 -- both stand p above and q below
 module _ (p q : ℕ) where
@@ -152,18 +167,6 @@ module _ (p q : ℕ) where
   rel-cut e ez MIN s z f i = record { low = f .bottom; high = i .hi; play = i .play; read = i .read }
   rel-cut e ez CHANCE s z f i = record { low = i .lo; high = i .hi; play = i .play; read = i .read }
 
-  -- where there is no clamp, a chance node's child to come has a window that is not below or above what is possible
-  abbrev pub Ready : Kind → Bool → State ℕ → Type 0
-  Ready MAX e s = Unit {0}
-  Ready MIN e s = Unit {0}
-  Ready CHANCE e s = Holds (not e) → (s .lo ≤ s .beta) × (s .alpha ≤ s .hi)
-
-  pub ready-begin : (d : Frame ℕ) (k : Kind) (x : Bool) (a b : ℕ) (l : List ℕ) → (d .bottom ≤ b) × (a ≤ d .top) → Ready k x (begin d k a b l)
-  unfolding begin
-  ready-begin d MAX x a b l h = tt
-  ready-begin d MIN x a b l h = tt
-  ready-begin d CHANCE x a b l h = λ _. h
-
   pub rel-lower : (e : Frame ℕ) (ez : Frame ℤ) (k : Kind) (w : ℕ) (s : State ℕ) (z : State ℤ) → Pays k w → e .bottom ≤ e .top → RelFrame e ez
       → Ready k false s → RelState s z → Rel (lower natural e k w s) (lower whole ez k w z)
   unfolding lower downZ
@@ -231,13 +234,6 @@ module _ (p q : ℕ) where
       let h = rel-high-chance T w (e .top) (s .hi) (r .high) (ez .top) (z .hi) (x .high) (j .4) rS fits (f .top) (i .hi) (o .high) in
       record { alpha = rel-max _ _ (z .alpha) _ (i .alpha) l; beta = rel-min _ _ (z .beta) _ (i .beta) h; lo = l; hi = h; play = tt; read = o .read })
 
-  pub ready-take : (ε : ℕ) (e : Frame ℕ) (k : Kind) (n w : ℕ) (s : State ℕ) (r : Seen ℕ) (rest : Forest ℕ)
-      → Holds (not (stop natural ε rest (take natural e k n w s r))) → Ready k (isEnd rest) (take natural e k n w s r)
-  unfolding take stop
-  ready-take ε e MAX n w s r rest h = tt
-  ready-take ε e MIN n w s r rest h = tt
-  ready-take ε e CHANCE n w s r rest h = λ x. open-fits _ _ _ _ ε (nleb→lt _ _ (still-open (isEnd rest) _ h x))
-
   module _ (Lo : ℤ) (isLo : Is Lo p q) (S : ℕ) (R : Rules ℕ) (frameZ : ℕ → Forest ℤ → Frame ℤ)
       (frames : (n : ℕ) (f : Forest ℕ) → RelFrame (R .frame n f) (frameZ n (shift Lo f)))
       (flat : (n : ℕ) (f : Forest ℕ) → (R .frame n f .bottom ≡ 0) × (R .frame n f .top ≡ S)) where
@@ -270,7 +266,7 @@ module _ (p q : ℕ) where
         → RelSeen (after natural R e k rest (take natural e k n w s r)) (after whole Z ez k (shift Lo rest) (take whole ez k n w z x))
     rel-step e ez k n w rest s z r x v f t h j i o ih =
         let lh = le-trans (h .1) (h .2) in
-        let j2 = safe-take S R e k n w (weigh rest) s r t (h .0) lh (h .3) j in
+        let j2 = safe-take S e k n w (weigh rest) s r t (h .0) lh (h .3) j in
         let e2 = rel-take S e ez k n w (weigh rest) s z r x f (h .0) lh (h .3) j i o in
         rel-after e ez k rest _ _ f e2 (λ more. ih _ _ j2 (ready-take (R .margin) e k n w s r rest more) e2)
 

@@ -7,13 +7,14 @@ use native.Mathlib.Nat.{mul-div-le, le-trans}
 use native.Mathlib.Omega.{arith}
 use lib.Dec.{leb, ltb, leb→le, le→leb, ltb→lt, lt→ltb}
 use Rattle.table.specs.Tree.{Kind, MAX, MIN, CHANCE, Forest, end, leaf, inner, isEnd, weigh}
+use Rattle.worth.proofs.Signs.{same-test}
 use Rattle.search.specs.Search.{Frame, Play, noPlay, child, Seen, State, Rules, begin, lower, upper, beats, better, take, finish, cut, stop, point, enter, after, scan, search, searchRoot}
 use Rattle.search.specs.Turned.{flip}
 use Rattle.search.specs.Heights.{natural}
 use Rattle.search.proofs.Heights.{Sound, Within, total}
 use Rattle.search.proofs.Contain.{contained, Holding, hold-point, hold-under}
 use Rattle.search.proofs.Width.{drop-top}
-use Rattle.search.proofs.Safe.{same-test, share-fits, Low, Safe, safe-window, safe-begin, safe-lower, safe-upper, safe-take}
+use Rattle.search.proofs.Safe.{share-fits, Low, Safe, safe-window, safe-begin, safe-lower, safe-upper, safe-take}
 
 -- the same tree from the other side, its ends S apart
 unfoldable pub turn : ℕ → Forest ℕ → Forest ℕ
@@ -174,7 +175,7 @@ module _ (S : ℕ) where
         → ((t : State ℕ) → Safe S e k (weigh rest) t → scan natural R2 (turnFrame S e) (flip k) (turn S rest) (turnState t) ≡ turnSeen S (scan natural R e k rest t))
         → after natural R2 (turnFrame S e) (flip k) (turn S rest) (take natural (turnFrame S e) (flip k) n w (turnState s) (r2)) ≡ turnSeen S (after natural R e k rest (take natural e k n w s r))
     step-turn e k n w rest s r r2 v t h j x ih =
-        let j2 = safe-take S R e k n w (weigh rest) s r t (h .0) (le-trans (h .1) (h .2)) (h .3) j in
+        let j2 = safe-take S e k n w (weigh rest) s r t (h .0) (le-trans (h .1) (h .2)) (h .3) j in
         let q = safe-window S e k (weigh rest) _ j2 in
         ap (λ y. after natural R2 (turnFrame S e) (flip k) (turn S rest) (take natural (turnFrame S e) (flip k) n w (turnState s) y)) x
         ∙

@@ -13,7 +13,7 @@ use Rattle.search.proofs.Heights.{Paid, Sound, Within, grade, Even, Fit
 use Rattle.search.proofs.Contain.{choose, contained}
 use Rattle.search.proofs.Exact.{share, even, EvenR, even-begin, below}
 
-ceil-le : (x w : ℕ) → 0 < w → x ≤ w * ceil x w
+pub ceil-le : (x w : ℕ) → 0 < w → x ≤ w * ceil x w
 unfolding ceil
 ceil-le x w p = omega (arith, lt-mul-div-succ (x + (w - 1)) p)
 
