@@ -3,7 +3,7 @@ use Prim.Native.Nat.{ℕ, _+_, _*_, _^_, _≤_}
 use mathlib.Core.Path.{_≡_, refl, sym, ap, ap₂, subst, _∙_}
 use mathlib.Core.Bool.{true, false}
 use mathlib.Core.List.{List}
-use mathlib.Core.Option.{some, Option·some-injective}
+use mathlib.Core.Option.{none, some, Option·some-injective}
 use native.Mathlib.Nat.{le-refl, le-trans}
 use native.Mathlib.Omega.{arith}
 use lib.ListN.{length}
@@ -21,16 +21,17 @@ use Rattle.worth.specs.Heights.{heightWorth, Small}
 use Rattle.worth.proofs.Signs.{plus, minus, parts, is-unique, is-eq}
 use Rattle.worth.proofs.Shift.{lift}
 use Rattle.worth.proofs.Worth.{le-above, heights-small, shift as worth-shift, top}
-use Rattle.judge.specs.Judge.{Root, children, rootOf, decided, AtM, AtN}
+use Rattle.judge.specs.Judge.{Side, AtM, AtN, Root, undecided, decided, children, rootOf}
 use Rattle.search.specs.Search.{Play, noPlay, child, Seen, nodeOf}
 use Rattle.search.specs.Heights.{grained, frameOf, heightRules, heightSearched}
-use Rattle.search.specs.Whole.{inGrains, ends, searched, playWorth}
+use Rattle.search.specs.Whole.{whole, inGrains, ends, rules, searched, playWorth}
 use Rattle.search.specs.Exact.{NoRemainder}
 use Rattle.search.proofs.Heights.{Child, Within, Positive, Fit, shift}
 use Rattle.search.proofs.Shift.{Rel, RelFrame, RelPlay, RelSeen, shifted-root}
+use Rattle.search.proofs.Named.{Chosen, root-named, grains-filled, grains-root}
 use Rattle.search.proofs.Worths.{plain}
 use Rattle.search.proofs.Grains.{within, positive, fit}
-use Rattle.search.proofs.Root.{Side, Played, holds, narrow, plays}
+use Rattle.search.proofs.Root.{OnSide, Played, holds, narrow, plays}
 use Rattle.search.proofs.Remainder.{whole-root}
 use Rattle.search.proofs.Children.{grains-shift, play-worth, root-same}
 
@@ -138,6 +139,19 @@ module _ (s : List ℕ) (t : Table) (r : readText s ≡ fine t) (ε : ℕ) where
 
   -- ---- the play
 
+  chosen : Chosen (rootOf (tree t)) (searched t ε .play)
+  chosen =
+      subst (λ (q : Root). Chosen q (searched t ε .play)) (grains-root G (tree t))
+      (root-named whole (rules t ε) (inGrains G (tree t)) (grains-filled G (tree t) (accepted-filled s t r)))
+
+  -- at an M or N root there is a play
+  pub play-named : (side : Side) → rootOf (tree t) ≡ decided side → (m : ℕ) × (nodeOf (searched t ε .play) ≡ some m)
+  play-named side e = subst (λ (q : Root). Chosen q (searched t ε .play)) e chosen
+
+  -- "at C and L there is none"
+  pub play-none : rootOf (tree t) ≡ undecided → nodeOf (searched t ε .play) ≡ none
+  play-none e = subst (λ (q : Root). Chosen q (searched t ε .play)) e chosen
+
   played : (m : ℕ) → nodeOf (searched t ε .play) ≡ some m
       → Played top-height (t .head .total) ε (grained G (heightTree t)) (heights .low) (heights .high) (heightWorth t) m
   played m e =
@@ -179,9 +193,9 @@ module _ (s : List ℕ) (t : Table) (r : readText s ≡ fine t) (ε : ℕ) where
       let p = played m e in
       let x : v ≡ base +ℤ pos (p .value) = Option·some-injective v (base +ℤ pos (p .value)) (sym f ∙ child-is m (p .value) (p .named)) in (
         λ d. ap₂ leZ low-is x ∙ le-above base (heights .low) (p .value)
-            (subst (λ (q : Root). Side q (heights .low) (heights .high) (p .value)) (root-is ∙ d) (p .side)),
+            (subst (λ (q : Root). OnSide q (heights .low) (heights .high) (p .value)) (root-is ∙ d) (p .side)),
         λ d. ap₂ leZ x high-is ∙ le-above base (p .value) (heights .high)
-            (subst (λ (q : Root). Side q (heights .low) (heights .high) (p .value)) (root-is ∙ d) (p .side)),
+            (subst (λ (q : Root). OnSide q (heights .low) (heights .high) (p .value)) (root-is ∙ d) (p .side)),
       )
 
   -- ---- the divisions of lines 20 and 21

@@ -5,14 +5,15 @@ pub mod Width
 pub mod Safe
 pub mod Shift
 pub mod Play
+pub mod Named
 pub mod Worths
 pub mod Unread
 pub mod Grains
 pub mod Root
 pub mod Children
+pub mod Remainder
 pub mod Demand
 pub mod Changed
-pub mod Worked
-pub mod Remainder
 pub mod Turn
 pub mod Turned
+pub mod Worked

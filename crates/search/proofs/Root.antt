@@ -25,10 +25,10 @@ pub none-some : {A : Type 0} {x : A} {P : Type 0} → none ≡ some x → P
 none-some e = absurd (let z : _≡_ {A = ℕ} 0 1 = cc in omega arith)
 
 -- on which side of a bound the play is: at M it is worth at least low, at N at most high
-abbrev pub Side : Root → (low high v : ℕ) → Type 0
-Side undecided low high v = Unit {0}
-Side (decided AtM) low high v = low ≤ v
-Side (decided AtN) low high v = v ≤ high
+abbrev pub OnSide : Root → (low high v : ℕ) → Type 0
+OnSide undecided low high v = Unit {0}
+OnSide (decided AtM) low high v = low ≤ v
+OnSide (decided AtN) low high v = v ≤ high
 
 -- the root child m of F, in grains, is worth v: within ε of `exact`
 pub record Played (S T ε : ℕ) (F : Forest ℕ) (low high exact m : ℕ) : Type 0 where
@@ -36,7 +36,7 @@ pub record Played (S T ε : ℕ) (F : Forest ℕ) (low high exact m : ℕ) : Typ
   pub named : Child (plain S T) m value (children F)
   pub at-most : value ≤ exact + ε
   pub at-least : exact ≤ value + ε
-  pub side : Side (rootOf F) low high value
+  pub side : OnSide (rootOf F) low high value
 
 module _ (S T ε n w : ℕ) (rest : Forest ℕ) where
   played : (k : Kind) (f : Forest ℕ) (low high m : ℕ) (p : Play ℕ) → nodeOf p ≡ some m

@@ -10,7 +10,7 @@ use Rattle.search.specs.Heights.{natural}
 use Rattle.search.proofs.Heights.{Sound, total}
 use Rattle.search.proofs.Width.{drop, drop-top}
 
--- a child's share off the top leaves at MIN nothing
+-- a child's share off the top leaves at least nothing
 pub share-fits : (D T w W lo hi rh y : ℕ) → 0 < T → T * y ≤ w * (D - rh) → T * lo + (w + W) * D ≤ T * hi → y ≤ hi
 share-fits D T w W lo hi rh y p e h = le-of-mul-le-mul-left (omega (arith, mul-le-mul-left w (sub-le D rh))) p
 

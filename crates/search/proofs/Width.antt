@@ -84,7 +84,7 @@ tight-step : (S T ε w W lo hi rl rh x y : ℕ) → rl ≤ rh → rh ≤ S → T
 tight-step S T ε w W lo hi rl rh x y lh rS ex ey room near tight =
     omega (arith, mul-sub T hi y, mul-sub w S rh, mul-le-mul-left w lh, mul-le-mul-left w rS)
 
--- `omega` splits at MAX six times, so each of these has at MAX six `min` and `max`
+-- `omega` splits at most six times, so each of these has at most six `min` and `max`
 max-join : (a lo rl al m : ℕ) → m ≡ max (max lo rl) a → al ≤ max a lo → (lo ≤ m) × (rl ≤ m) × (a ≤ m) × (al ≤ m)
 max-join a lo rl al m e h = omega arith
 
