@@ -1,3 +1,6 @@
 pub mod Search
 pub mod Heights
 pub mod Whole
+pub mod Unread
+pub mod Exact
+pub mod Turned

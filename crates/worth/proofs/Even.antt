@@ -31,10 +31,10 @@ power-add : (T c j : ℕ) → T ^ c ∣ T ^ (c + j)
 power-add T c zero = rw (add-zero c) (dvd-refl (T ^ c))
 power-add T c (suc j) = rw (add-suc c j, pow-succ' T (c + j)) (dvd-mul-left-of-dvd (T ^ c) (power-add T c j) T)
 
-power-dvd : (T c K : ℕ) → c ≤ K → T ^ c ∣ T ^ K
+pub power-dvd : (T c K : ℕ) → c ≤ K → T ^ c ∣ T ^ K
 power-dvd T c K h = let e : c + (K - c) ≡ K = omega arith in rw e at (power-add T c (K - c))
 
-power-more : (T c : ℕ) → T ^ (c + 1) ≡ T * T ^ c
+pub power-more : (T c : ℕ) → T ^ (c + 1) ≡ T * T ^ c
 power-more T c = rw (add-one c, pow-succ' T c)
 
 -- one node, from its children: one C more stands above them where it is a C

@@ -62,7 +62,7 @@ taken-value T M CHANCE x xs e =
     let z : takeAll CHANCE 0 (x ∷ xs) ≡ summed (x ∷ xs) = omega (arith, take-sum 0 (x ∷ xs)) in
     ap (λ (v : ℕ). v / T) z
 
-value-taken : (T G M : ℕ) (k : Kind) (f : Forest ℕ) → isEnd f ≡ false → Small T G M f
+pub value-taken : (T G M : ℕ) (k : Kind) (f : Forest ℕ) → isEnd f ≡ false → Small T G M f
     → sealed T k (takeAll k (begin M k) (heightShares T G f)) ≡ heightValue T k (heightShares T G f)
 unfolding heightShares
 value-taken T G M k end n s = absurd (let z : _≡_ {A = ℕ} 0 1 = cc in omega arith)

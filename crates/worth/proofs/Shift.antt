@@ -19,7 +19,7 @@ use Rattle.worth.proofs.Bounds.{weights, weights-shares}
 
 -- ---- integers as differences
 
-is-times : (G : ℕ) (z : ℤ) (a b : ℕ) → Is z a b → Is (z *ℤ pos G) (G * a) (G * b)
+pub is-times : (G : ℕ) (z : ℤ) (a b : ℕ) → Is z a b → Is (z *ℤ pos G) (G * a) (G * b)
 is-times G z a b p = rw (*ℤ-comm z (pos G)) (is-mul G z a b p)
 
 pub lift : (z : ℤ) (a b h : ℕ) → Is z a b → Is (z +ℤ pos h) (a + h) b
@@ -143,13 +143,13 @@ module _ (T G : ℕ) (h : Head) (some : 0 < T) where
   full : (k : Kind) (F : Forest ℤ) → Sums k T (weigh F) → isChance k ≡ true → weights (heightShares T G (lowered F)) ≡ T
   full k F b i = weights-shares T G (lowered F) ∙ map-weigh (above (h .lowest)) F ∙ b i
 
-  node-shift : (k : Kind) (F : Forest ℤ) → Shifts F → isEnd F ≡ false → Sums k T (weigh F)
+  pub node-shift : (k : Kind) (F : Forest ℤ) → Shifts F → isEnd F ≡ false → Sums k T (weigh F)
       → value T k (shares T G F) ≡ base +ℤ pos (heightValue T k (heightShares T G (lowered F)))
   node-shift k F ih f b =
       ap (value T k) ih
       ∙ value-shift base T k (heightShares T G (lowered F)) some (some-shares T G (lowered F) (map-end (above (h .lowest)) F ∙ f)) (full k F b)
 
-  utility-shift : (v : ℤ) → Within h v → v *ℤ pos G ≡ base +ℤ pos (above (h .lowest) v * G)
+  pub utility-shift : (v : ℤ) → Within h v → v *ℤ pos G ≡ base +ℤ pos (above (h .lowest) v * G)
   utility-shift v w =
       ap (λ (z : ℤ). z *ℤ pos G) (sym (height-back (h .lowest) v (w .0))) ∙ leaf-shift (h .lowest) (above (h .lowest) v) G
 

@@ -9,7 +9,7 @@ use lib.IntN.{ℤ, pos, negsuc, negℤ, subℕ, _+ℤ_, _-ℤ_, _*ℤ_}
 use lib.Signed.{leZ}
 use Rattle.worth.specs.Worth.{maxZ, minZ, floorZ}
 
-same-test : (b c : Bool) → (Holds b → Holds c) → (Holds c → Holds b) → b ≡ c
+pub same-test : (b c : Bool) → (Holds b → Holds c) → (Holds c → Holds b) → b ≡ c
 same-test true true f g = refl
 same-test true false f g = absurd (f tt)
 same-test false true f g = absurd (g tt)

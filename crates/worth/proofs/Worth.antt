@@ -33,7 +33,7 @@ first-each P [] z e = z
 first-each P (x ∷ xs) z e = e .0
 
 -- more above b
-le-above : (b : ℤ) (x y : ℕ) → x ≤ y → leZ (b +ℤ pos x) (b +ℤ pos y) ≡ true
+pub le-above : (b : ℤ) (x y : ℕ) → x ≤ y → leZ (b +ℤ pos x) (b +ℤ pos y) ≡ true
 le-above b x y h =
     let p : ℕ = plus b in
     let q : ℕ = minus b in
@@ -85,7 +85,7 @@ module _ (s : List ℕ) (t : Table) (h : readText s ≡ fine t) where
       (accepted-filled s t h) (accepted-balanced s t h) (rw (heights-map t) at heights-exact)
 
   -- the highest end in grains
-  top : t .head .highest *ℤ pos (grain t) ≡ t .head .lowest *ℤ pos (grain t) +ℤ pos (span (t .head) * grain t)
+  pub top : t .head .highest *ℤ pos (grain t) ≡ t .head .lowest *ℤ pos (grain t) +ℤ pos (span (t .head) * grain t)
   top =
       ap (λ (z : ℤ). z *ℤ pos (grain t)) (sym (height-back (t .head .lowest) (t .head .highest) (accepted-ranged s t h .order)))
       ∙ leaf-shift (t .head .lowest) (span (t .head)) (grain t)

@@ -1,0 +1,317 @@
+-- The search over the integers is the search over heights, from the lowest end up. Assumes nothing.
+use Prim.Native.Nat.{ℕ, _+_, _*_, _-_, _/_, min, max, _≤_, _<_}
+use mathlib.Core.Path.{_≡_, refl, ap, ap₂, _∙_}
+use mathlib.Core.Bool.{Bool, true, false, not, _&&_, cond, true≢false, false≢true}
+use mathlib.Core.List.{List, [], _∷_, _++_}
+use native.Mathlib.Nat.{lt-mul-div-succ, mul-div-le, mul-le-mul-left, mul-sub, le-trans}
+use native.Mathlib.Omega.{arith}
+use lib.Dec.{T as Holds, leb, ltb, leb→le, le→leb, nleb→lt, lt→ltb, ltb→lt, not-T}
+use lib.IntN.{ℤ, pos, negℤ, _+ℤ_, _-ℤ_, _*ℤ_}
+use lib.Signed.{leZ}
+use Rattle.table.specs.Tree.{Kind, MAX, MIN, CHANCE, Forest, end, leaf, inner, isEnd, weigh}
+use Rattle.search.specs.Search.{Frame, Play, noPlay, child, Seen, State, Rules, begin, lower, upper, beats, better, take, finish, cut, stop, point, enter, after, scan, search, searchRoot}
+use Rattle.worth.specs.Worth.{maxZ, minZ, floorZ}
+use Rattle.search.specs.Whole.{whole, ceilZ, downZ, upZ, gainZ, lossZ}
+use Rattle.search.specs.Heights.{natural, ceil}
+use Rattle.search.proofs.Heights.{Sound, Within, Pays, Positive, shift, total}
+use Rattle.search.proofs.Contain.{contained, Holding, hold-point, hold-under}
+use Rattle.search.proofs.Width.{ceil-le, drop-top}
+use Rattle.search.proofs.Safe.{share-fits, Safe, safe-begin, safe-lower, safe-upper, safe-take}
+use Rattle.worth.proofs.Signs.{same-test, Is, is-eq, is-add, is-neg, is-minus, is-mul, is-le, is-max, is-min, is-floor}
+
+-- m - n is the quotient of a - b by w, rounded up
+is-ceil : (w : ℕ) (z : ℤ) (a b m n : ℕ) → 0 < w → Is z a b → a + w * n ≤ w * m + b → w * m + b < a + w * n + w → Is (ceilZ z w) m n
+unfolding ceilZ
+is-ceil w z a b m n w-pos p l u = is-neg (floorZ (negℤ z) w) n m (is-floor w (negℤ z) b a n m w-pos (is-neg z a b p) (omega arith) (omega arith))
+
+ceil-lt : (x w : ℕ) → 0 < w → w * ceil x w < x + w
+unfolding ceil
+ceil-lt x w p = omega (arith, mul-div-le (x + (w - 1)) w)
+
+isEnd-shift : (Lo : ℤ) (f : Forest ℕ) → isEnd (shift Lo f) ≡ isEnd f
+unfolding shift
+isEnd-shift Lo end = refl
+isEnd-shift Lo (leaf n w h rest) = refl
+isEnd-shift Lo (inner n w k under rest) = refl
+
+pick-rel : {A B : Type 0} (R : A → B → Type 0) (x y : A) (x2 y2 : B) (b c : Bool) → c ≡ b → R x x2 → (Holds (not b) → R y y2)
+    → R (cond b x y) (cond c x2 y2)
+pick-rel R x y x2 y2 true true e p q = p
+pick-rel R x y x2 y2 true false e p q = absurd (false≢true e)
+pick-rel R x y x2 y2 false true e p q = absurd (true≢false e)
+pick-rel R x y x2 y2 false false e p q = q tt
+
+still-open : (b c : Bool) → Holds (not (not b && c)) → Holds (not b) → Holds (not c)
+still-open true c h e = absurd e
+still-open false c h e = h
+
+open-fits : (al be l h ε : ℕ) → max al l + ε < min be h → (l ≤ min be h) × (max al l ≤ h)
+open-fits al be l h ε o = omega arith
+
+-- where there is no clamp, a chance node's child to come has a window that is not below or above what is possible
+abbrev pub Ready : Kind → Bool → State ℕ → Type 0
+Ready MAX e s = Unit {0}
+Ready MIN e s = Unit {0}
+Ready CHANCE e s = Holds (not e) → (s .lo ≤ s .beta) × (s .alpha ≤ s .hi)
+
+pub ready-begin : (d : Frame ℕ) (k : Kind) (x : Bool) (a b : ℕ) (l : List ℕ) → (d .bottom ≤ b) × (a ≤ d .top) → Ready k x (begin d k a b l)
+unfolding begin
+ready-begin d MAX x a b l h = tt
+ready-begin d MIN x a b l h = tt
+ready-begin d CHANCE x a b l h = λ _. h
+
+pub ready-take : (ε : ℕ) (e : Frame ℕ) (k : Kind) (n w : ℕ) (s : State ℕ) (r : Seen ℕ) (rest : Forest ℕ)
+    → Holds (not (stop natural ε rest (take natural e k n w s r))) → Ready k (isEnd rest) (take natural e k n w s r)
+unfolding take stop
+ready-take ε e MAX n w s r rest h = tt
+ready-take ε e MIN n w s r rest h = tt
+ready-take ε e CHANCE n w s r rest h = λ x. open-fits _ _ _ _ ε (nleb→lt _ _ (still-open (isEnd rest) _ h x))
+
+-- both stand p above and q below
+module _ (p q : ℕ) where
+  -- the integer z has the height h
+  abbrev pub Rel : ℕ → ℤ → Type 0
+  Rel h z = Is z (p + h) q
+
+  pub rel-max : (a b : ℕ) (y z : ℤ) → Rel a y → Rel b z → Rel (max a b) (maxZ y z)
+  rel-max a b y z i j = is-eq (maxZ y z) _ _ _ _ (is-max y z _ _ _ _ i j) (omega arith)
+
+  pub rel-min : (a b : ℕ) (y z : ℤ) → Rel a y → Rel b z → Rel (min a b) (minZ y z)
+  rel-min a b y z i j = is-eq (minZ y z) _ _ _ _ (is-min y z _ _ _ _ i j) (omega arith)
+
+  pub rel-le : (ε a b : ℕ) (y z : ℤ) → Rel a y → Rel b z → leZ z (y +ℤ pos ε) ≡ leb b (a + ε)
+  rel-le ε a b y z i j =
+      is-le z (y +ℤ pos ε) (p + b) q (p + a + ε) (q + 0) j (is-add y (pos ε) (p + a) q ε 0 i (omega arith))
+      ∙ same-test (leb (p + b + (q + 0)) (p + a + ε + q)) (leb b (a + ε))
+      (λ h. le→leb b (a + ε) (omega (arith, leb→le (p + b + (q + 0)) (p + a + ε + q) h)))
+      (λ h. le→leb (p + b + (q + 0)) (p + a + ε + q) (omega (arith, leb→le b (a + ε) h)))
+
+  rel-low-chance : (T w B lo rl : ℕ) (b y z : ℤ) → 0 < T → B ≤ rl → Rel B b → Rel lo y → Rel rl z
+      → Rel (lo + w * (rl - B) / T) (y +ℤ floorZ (pos w *ℤ (z -ℤ b)) T)
+  rel-low-chance T w B lo rl b y z T-pos bl ib i j =
+      let m = is-mul w (z -ℤ b) _ _ (is-minus z b _ _ _ _ j ib) in
+      let e = mul-sub w rl B in
+      let l = mul-le-mul-left w bl in
+      let f = is-floor T (pos w *ℤ (z -ℤ b)) _ _ (w * (rl - B) / T) 0 T-pos m (omega (arith, mul-div-le (w * (rl - B)) T))
+      (omega (arith, lt-mul-div-succ (w * (rl - B)) T-pos)) in
+      is-eq (y +ℤ floorZ (pos w *ℤ (z -ℤ b)) T) _ _ _ _ (is-add y (floorZ (pos w *ℤ (z -ℤ b)) T) _ _ _ _ i f) (omega arith)
+
+  rel-high-chance : (T w A hi rh : ℕ) (t y z : ℤ) → 0 < T → rh ≤ A → w * (A - rh) / T ≤ hi → Rel A t → Rel hi y → Rel rh z
+      → Rel (hi - w * (A - rh) / T) (y -ℤ floorZ (pos w *ℤ (t -ℤ z)) T)
+  rel-high-chance T w A hi rh t y z T-pos rS fits it i j =
+      let m = is-mul w (t -ℤ z) _ _ (is-minus t z _ _ _ _ it j) in
+      let e = mul-sub w A rh in
+      let l = mul-le-mul-left w rS in
+      let f = is-floor T (pos w *ℤ (t -ℤ z)) _ _ (w * (A - rh) / T) 0 T-pos m (omega (arith, mul-div-le (w * (A - rh)) T))
+      (omega (arith, lt-mul-div-succ (w * (A - rh)) T-pos)) in
+      is-eq (y -ℤ floorZ (pos w *ℤ (t -ℤ z)) T) _ _ _ _ (is-minus y (floorZ (pos w *ℤ (t -ℤ z)) T) _ _ _ _ i f) (omega arith)
+
+  module _ (T w B A : ℕ) (b t : ℤ) (w-pos : 0 < w) (BA : B ≤ A) (ib : Rel B b) (it : Rel A t) where
+    lower-fit : (al hi : ℕ) (y z : ℤ) → al ≤ hi → Rel al y → Rel hi z
+        → Rel (max B (A - ceil ((hi - al) * T) w)) (maxZ b (floorZ (pos T *ℤ (y -ℤ z)) w +ℤ t))
+    lower-fit al hi y z fits i j =
+        let x : ℤ = pos T *ℤ (y -ℤ z) in
+        let m = is-mul T (y -ℤ z) _ _ (is-minus y z _ _ _ _ i j) in
+        let e = mul-sub T hi al in
+        let l = mul-le-mul-left T fits in
+        let f = is-floor w x _ _ 0 (ceil ((hi - al) * T) w) w-pos m (omega (arith, ceil-le ((hi - al) * T) w w-pos))
+        (omega (arith, ceil-lt ((hi - al) * T) w w-pos)) in
+        is-eq (maxZ b (floorZ x w +ℤ t)) _ _ _ _ (is-max b (floorZ x w +ℤ t) _ _ _ _ ib (is-add (floorZ x w) t _ _ _ _ f it)) (omega arith)
+
+    upper-fit : (be lo : ℕ) (y z : ℤ) → lo ≤ be → Rel be y → Rel lo z
+        → Rel (min A (B + ceil ((be - lo) * T) w)) (minZ t (ceilZ (pos T *ℤ (y -ℤ z)) w +ℤ b))
+    upper-fit be lo y z fits i j =
+        let x : ℤ = pos T *ℤ (y -ℤ z) in
+        let m = is-mul T (y -ℤ z) _ _ (is-minus y z _ _ _ _ i j) in
+        let e = mul-sub T be lo in
+        let l = mul-le-mul-left T fits in
+        let f = is-ceil w x _ _ (ceil ((be - lo) * T) w) 0 w-pos m (omega (arith, ceil-le ((be - lo) * T) w w-pos))
+        (omega (arith, ceil-lt ((be - lo) * T) w w-pos)) in
+        is-eq (minZ t (ceilZ x w +ℤ b)) _ _ _ _ (is-min t (ceilZ x w +ℤ b) _ _ _ _ it (is-add (ceilZ x w) b _ _ _ _ f ib)) (omega arith)
+
+  pub record RelFrame (e : Frame ℕ) (z : Frame ℤ) : Type 0 where
+    pub bottom : Rel (e .bottom) (z .bottom)
+    pub top : Rel (e .top) (z .top)
+    pub total : z .total ≡ e .total
+
+  abbrev pub RelPlay : Play ℕ → Play ℤ → Type 0
+  RelPlay noPlay noPlay = Unit {0}
+  RelPlay noPlay (child m l h) = ⊥
+  RelPlay (child m l h) noPlay = ⊥
+  RelPlay (child m l h) (child m2 l2 h2) = (m2 ≡ m) × Rel l l2 × Rel h h2
+
+  pub record RelState (s : State ℕ) (z : State ℤ) : Type 0 where
+    pub alpha : Rel (s .alpha) (z .alpha)
+    pub beta : Rel (s .beta) (z .beta)
+    pub lo : Rel (s .lo) (z .lo)
+    pub hi : Rel (s .hi) (z .hi)
+    pub play : RelPlay (s .play) (z .play)
+    pub read : z .read ≡ s .read
+
+  pub record RelSeen (s : Seen ℕ) (z : Seen ℤ) : Type 0 where
+    pub low : Rel (s .low) (z .low)
+    pub high : Rel (s .high) (z .high)
+    pub play : RelPlay (s .play) (z .play)
+    pub read : z .read ≡ s .read
+
+  pub rel-begin : (e : Frame ℕ) (ez : Frame ℤ) (k : Kind) (a b : ℕ) (y z : ℤ) (l m : List ℕ) → RelFrame e ez → Rel a y → Rel b z → m ≡ l
+      → RelState (begin e k a b l) (begin ez k y z m)
+  unfolding begin
+  rel-begin e ez MAX a b y z l m f i j r = record { alpha = i; beta = j; lo = f .bottom; hi = f .bottom; play = tt; read = r }
+  rel-begin e ez MIN a b y z l m f i j r = record { alpha = i; beta = j; lo = f .top; hi = f .top; play = tt; read = r }
+  rel-begin e ez CHANCE a b y z l m f i j r = record { alpha = i; beta = j; lo = f .bottom; hi = f .top; play = tt; read = r }
+
+  rel-cut : (e : Frame ℕ) (ez : Frame ℤ) (k : Kind) (s : State ℕ) (z : State ℤ) → RelFrame e ez → RelState s z → RelSeen (cut e k s) (cut ez k z)
+  unfolding cut
+  rel-cut e ez MAX s z f i = record { low = i .lo; high = f .top; play = i .play; read = i .read }
+  rel-cut e ez MIN s z f i = record { low = f .bottom; high = i .hi; play = i .play; read = i .read }
+  rel-cut e ez CHANCE s z f i = record { low = i .lo; high = i .hi; play = i .play; read = i .read }
+
+  pub rel-lower : (e : Frame ℕ) (ez : Frame ℤ) (k : Kind) (w : ℕ) (s : State ℕ) (z : State ℤ) → Pays k w → e .bottom ≤ e .top → RelFrame e ez
+      → Ready k false s → RelState s z → Rel (lower natural e k w s) (lower whole ez k w z)
+  unfolding lower downZ
+  rel-lower e ez MAX w s z wp o f r i = i .alpha
+  rel-lower e ez MIN w s z wp o f r i = i .alpha
+  rel-lower e ez CHANCE w s z wp o f r i =
+      rw (f .total) (lower-fit (e .total) w _ _ (ez .bottom) (ez .top) wp o (f .bottom) (f .top) _ _ (z .alpha) (z .hi) (r tt .1) (i .alpha) (i .hi))
+
+  pub rel-upper : (e : Frame ℕ) (ez : Frame ℤ) (k : Kind) (w : ℕ) (s : State ℕ) (z : State ℤ) → Pays k w → e .bottom ≤ e .top → RelFrame e ez
+      → Ready k false s → RelState s z → Rel (upper natural e k w s) (upper whole ez k w z)
+  unfolding upper upZ
+  rel-upper e ez MAX w s z wp o f r i = i .beta
+  rel-upper e ez MIN w s z wp o f r i = i .beta
+  rel-upper e ez CHANCE w s z wp o f r i =
+      rw (f .total) (upper-fit (e .total) w _ _ (ez .bottom) (ez .top) wp o (f .bottom) (f .top) _ _ (z .beta) (z .lo) (r tt .0) (i .beta) (i .lo))
+
+  pub le-same : (a b : ℕ) (y z : ℤ) → Rel a y → Rel b z → leZ y z ≡ leb a b
+  le-same a b y z i j =
+      is-le y z (p + a) q (p + b) q i j
+      ∙ same-test (leb (p + a + q) (p + b + q)) (leb a b) (λ h. le→leb a b (omega (arith, leb→le (p + a + q) (p + b + q) h)))
+      (λ h. le→leb (p + a + q) (p + b + q) (omega (arith, leb→le a b h)))
+
+  less-same : (a b : ℕ) (y z : ℤ) → Rel a y → Rel b z → not (leZ z y) ≡ ltb a b
+  less-same a b y z i j =
+      ap not (le-same b a z y j i)
+      ∙ same-test (not (leb b a)) (ltb a b) (λ h. lt→ltb a b (nleb→lt b a h)) (λ h. not-T (leb b a) (λ x. omega (arith, leb→le b a x, ltb→lt a b h)))
+
+  same : (k : Kind) (l h bl bh : ℕ) (zl zh zbl zbh : ℤ) → Rel l zl → Rel h zh → Rel bl zbl → Rel bh zbh
+      → beats whole k zl zh zbl zbh ≡ beats natural k l h bl bh
+  unfolding beats
+  same MAX l h bl bh zl zh zbl zbh a b c d = less-same bl l zbl zl c a
+  same MIN l h bl bh zl zh zbl zbh a b c d = less-same h bh zh zbh b d
+  same CHANCE l h bl bh zl zh zbl zbh a b c d = refl
+
+  rel-better : (k : Kind) (n : ℕ) (u : Play ℕ) (v : Play ℤ) (r : Seen ℕ) (x : Seen ℤ) → RelPlay u v → RelSeen r x
+      → RelPlay (better natural k n u r) (better whole k n v x)
+  unfolding better
+  rel-better k n noPlay noPlay r x i o = (refl, o .low, o .high)
+  rel-better k n noPlay (child m l h) r x i o = absurd i
+  rel-better k n (child m l h) noPlay r x i o = absurd i
+  rel-better k n (child m l h) (child m2 l2 h2) r x i o =
+      pick-rel RelPlay _ _ _ _ (beats natural k (r .low) (r .high) l h) (beats whole k (x .low) (x .high) l2 h2)
+      (same k _ _ _ _ (x .low) (x .high) l2 h2 (o .low) (o .high) (i .1) (i .2)) (refl, o .low, o .high) (λ _. i)
+
+  pub rel-take : (S : ℕ) (e : Frame ℕ) (ez : Frame ℤ) (k : Kind) (n w W : ℕ) (s : State ℕ) (z : State ℤ) (r : Seen ℕ) (x : Seen ℤ) → RelFrame e ez
+      → e .bottom ≤ r .low → r .low ≤ r .high → r .high ≤ e .top → Safe S e k (w + W) s
+      → RelState s z → RelSeen r x → RelState (take natural e k n w s r) (take whole ez k n w z x)
+  unfolding take gainZ lossZ
+  rel-take S e ez MAX n w W s z r x f bl lh rS j i o =
+      let l = rel-max _ _ (z .lo) (x .low) (i .lo) (o .low) in
+      let h = rel-max _ _ (z .hi) (x .high) (i .hi) (o .high) in
+      record { alpha = rel-max _ _ (z .alpha) _ (i .alpha) l; beta = rel-min _ _ (z .beta) _ (i .beta) (f .top); lo = l; hi = h; play = rel-better MAX n (s .play) (z .play) r x (i .play) o; read = o .read }
+  rel-take S e ez MIN n w W s z r x f bl lh rS j i o =
+      let l = rel-min _ _ (z .lo) (x .low) (i .lo) (o .low) in
+      let h = rel-min _ _ (z .hi) (x .high) (i .hi) (o .high) in
+      record { alpha = rel-max _ _ (z .alpha) _ (i .alpha) (f .bottom); beta = rel-min _ _ (z .beta) _ (i .beta) h; lo = l; hi = h; play = rel-better MIN n (s .play) (z .play) r x (i .play) o; read = o .read }
+  rel-take S e ez CHANCE n w W s z r x f bl lh rS j i o =
+      let T : ℕ = e .total in
+      let B : ℕ = e .bottom in
+      let ey : T * (w * (e .top - r .high) / T) ≤ w * (e .top - B - (r .high - B)) = rw (drop-top B (e .top) (r .high) (le-trans bl lh))
+      (mul-div-le _ T) in
+      let fits = share-fits (e .top - B) T w W (s .lo) (s .hi) (r .high - B) (w * (e .top - r .high) / T) (j .4) ey (j .2) in
+      rw (f .total) (
+      let l = rel-low-chance T w B (s .lo) (r .low) (ez .bottom) (z .lo) (x .low) (j .4) bl (f .bottom) (i .lo) (o .low) in
+      let h = rel-high-chance T w (e .top) (s .hi) (r .high) (ez .top) (z .hi) (x .high) (j .4) rS fits (f .top) (i .hi) (o .high) in
+      record { alpha = rel-max _ _ (z .alpha) _ (i .alpha) l; beta = rel-min _ _ (z .beta) _ (i .beta) h; lo = l; hi = h; play = tt; read = o .read })
+
+  module _ (Lo : ℤ) (isLo : Is Lo p q) (S : ℕ) (R : Rules ℕ) (frameZ : ℕ → Forest ℤ → Frame ℤ)
+      (frames : (n : ℕ) (f : Forest ℕ) → RelFrame (R .frame n f) (frameZ n (shift Lo f)))
+      (flat : (n : ℕ) (f : Forest ℕ) → (R .frame n f .bottom ≡ 0) × (R .frame n f .top ≡ S)) where
+    abbrev Z : Rules ℤ
+    Z = record { frame = frameZ; margin = R .margin }
+
+    rel-lift : (h : ℕ) → Rel h (Lo +ℤ pos h)
+    rel-lift h = is-eq (Lo +ℤ pos h) (p + h) (q + 0) _ _ (is-add Lo (pos h) p q h 0 isLo (omega arith)) (omega arith)
+
+    pub rel-point : (n h : ℕ) (l m : List ℕ) → m ≡ l → RelSeen (point n h l) (point n (Lo +ℤ pos h) m)
+    unfolding point
+    rel-point n h l m r = record { low = rel-lift h; high = rel-lift h; play = tt; read = ap (λ x. x ++ (n ∷ [])) r }
+
+    pub rel-stop : (rest : Forest ℕ) (s : State ℕ) (z : State ℤ) → RelState s z
+        → stop whole (R .margin) (shift Lo rest) z ≡ stop natural (R .margin) rest s
+    unfolding stop
+    rel-stop rest s z i = ap₂ (λ x y. not x && y) (isEnd-shift Lo rest) (rel-le (R .margin) _ _ (z .alpha) (z .beta) (i .alpha) (i .beta))
+
+    rel-after : (e : Frame ℕ) (ez : Frame ℤ) (k : Kind) (rest : Forest ℕ) (s : State ℕ) (z : State ℤ) → RelFrame e ez → RelState s z
+        → (Holds (not (stop natural (R .margin) rest s)) → RelSeen (scan natural R e k rest s) (scan whole Z ez k (shift Lo rest) z))
+        → RelSeen (after natural R e k rest s) (after whole Z ez k (shift Lo rest) z)
+    rel-after e ez k rest s z f i g =
+        pick-rel RelSeen _ _ _ _ (stop natural (R .margin) rest s) (stop whole (R .margin) (shift Lo rest) z) (rel-stop rest s z i)
+        (rel-cut e ez k s z f i) g
+
+    -- a child has given r, over the integers x
+    rel-step : (e : Frame ℕ) (ez : Frame ℤ) (k : Kind) (n w : ℕ) (rest : Forest ℕ) (s : State ℕ) (z : State ℤ) (r : Seen ℕ) (x : Seen ℤ) (v : ℕ)
+        → RelFrame e ez → e .top ≤ S → Holding e v r → Safe S e k (w + weigh rest) s → RelState s z → RelSeen r x
+        → ((t : State ℕ) (y : State ℤ) → Safe S e k (weigh rest) t → Ready k (isEnd rest) t → RelState t y → RelSeen (scan natural R e k rest t) (scan whole Z ez k (shift Lo rest) y))
+        → RelSeen (after natural R e k rest (take natural e k n w s r)) (after whole Z ez k (shift Lo rest) (take whole ez k n w z x))
+    rel-step e ez k n w rest s z r x v f t h j i o ih =
+        let lh = le-trans (h .1) (h .2) in
+        let j2 = safe-take S e k n w (weigh rest) s r t (h .0) lh (h .3) j in
+        let e2 = rel-take S e ez k n w (weigh rest) s z r x f (h .0) lh (h .3) j i o in
+        rel-after e ez k rest _ _ f e2 (λ more. ih _ _ j2 (ready-take (R .margin) e k n w s r rest more) e2)
+
+    pub shifted : (e : Frame ℕ) (ez : Frame ℤ) (k : Kind) (f : Forest ℕ) (s : State ℕ) (z : State ℤ) → RelFrame e ez → e .bottom ≤ e .top → e .top ≤ S
+        → Within (R .frame) e f → Positive k f → Safe S e k (weigh f) s → Ready k (isEnd f) s → RelState s z
+        → RelSeen (scan natural R e k f s) (scan whole Z ez k (shift Lo f) z)
+    unfolding scan shift weigh finish
+    shifted e ez k end s z f b t i o j r g = record { low = g .lo; high = g .hi; play = g .play; read = g .read }
+    shifted e ez k (leaf n w h rest) s z f b t i o j r g =
+        rel-step e ez k n w rest s z (point n h (s .read)) (point n (Lo +ℤ pos h) (z .read)) h f t
+        (hold-point e n h (s .read) (i .0, i .1)) j g (rel-point n h (s .read) (z .read) (g .read))
+        (λ u y j2 r2 g2. shifted e ez k rest u y f b t (i .2) (o .1) j2 r2 g2)
+    shifted e ez k (inner n w c under rest) s z f b t i o j r g =
+        let d : Frame ℕ = R .frame n under in
+        let dz : Frame ℤ = frameZ n (shift Lo under) in
+        let la : ℕ = lower natural e k w s in
+        let ub : ℕ = upper natural e k w s in
+        let y : Seen ℕ = enter natural R e k n w c under s in
+        let v = hold-under e d _ y (i .0) (i .1) (contained R d c under la ub (s .read) (i .2) (i .3)) in
+        let la-fits : la ≤ S = safe-lower S e k w _ s (le-trans b t) t j in
+        let ub-fits : ub ≤ S = safe-upper S e k w _ s t j in
+        let u = shifted d dz c under (begin d c la ub (s .read)) (begin dz c (lower whole ez k w z) (upper whole ez k w z) (z .read)) (frames n under)
+        (i .2 .ends) (le-trans (i .1) t) (i .3) (o .1)
+        (safe-begin S d c under la ub (s .read) (i .2) (le-trans (i .1) t) la-fits ub-fits)
+        (ready-begin d c (isEnd under) la ub (s .read) (let q = flat n under in (rw (q .0) (omega arith), rw (q .1) la-fits)))
+        (rel-begin d dz c la ub (lower whole ez k w z) (upper whole ez k w z) (s .read) (z .read) (frames n under) (rel-lower e ez k w s z (o .0) b f r g) (rel-upper e ez k w s z (o .0) b f r g) (g .read)) in
+        rel-step e ez k n w rest s z y (enter whole Z ez k n w c (shift Lo under) z) _ f t v j g u
+        (λ u y j2 r2 g2. shifted e ez k rest u y f b t (i .4) (o .2) j2 r2 g2)
+
+    pub shifted-search : (n : ℕ) (k : Kind) (f : Forest ℕ) → Sound (R .frame n f) k f → R .frame n f .top ≤ S → Within (R .frame) (R .frame n f) f
+        → Positive k f → RelSeen (search natural R (R .frame n f) k f) (search whole Z (frameZ n (shift Lo f)) k (shift Lo f))
+    unfolding search
+    shifted-search n k f x t i o =
+        let e : Frame ℕ = R .frame n f in
+        let ez : Frame ℤ = frameZ n (shift Lo f) in
+        let g : RelFrame e ez = frames n f in
+        shifted e ez k f (begin e k (e .bottom) (e .top) []) (begin ez k (ez .bottom) (ez .top) []) g (x .ends) t i o
+        (safe-begin S e k f (e .bottom) (e .top) [] x t (le-trans (x .ends) t) t)
+        (ready-begin e k (isEnd f) (e .bottom) (e .top) [] (x .ends, x .ends))
+        (rel-begin e ez k (e .bottom) (e .top) (ez .bottom) (ez .top) [] [] g (g .bottom) (g .top) refl)
+
+    -- the search of a root
+    pub shifted-root : (e : Frame ℕ) (f : Forest ℕ) → e .top ≤ S → Within (R .frame) e f → Positive MAX f
+        → RelSeen (searchRoot natural R f) (searchRoot whole Z (shift Lo f))
+    unfolding searchRoot shift
+    shifted-root e end t i o = record { low = frames 0 end .bottom; high = frames 0 end .top; play = tt; read = refl }
+    shifted-root e (leaf n w h rest) t i o = rel-point n h [] [] refl
+    shifted-root e (inner n w k under rest) t i o = shifted-search n k under (i .2) (le-trans (i .1) t) (i .3) (o .1)

@@ -1,0 +1,45 @@
+-- The divisions of lines 20 and 21 leave no remainder: what that says of a search. Document 01, 'Grains'. Assumes nothing: these are definitions.
+use Prim.Native.Nat.{ℕ}
+use mathlib.Core.Path.{_≡_}
+use mathlib.Core.Bool.{false}
+use mathlib.Core.List.{[]}
+use lib.IntN.{ℤ, pos, _-ℤ_, _*ℤ_}
+use Rattle.table.specs.Tree.{Kind, MAX, MIN, CHANCE, Forest, end, leaf, inner}
+use Rattle.table.specs.Table.{Table, tree, grain}
+use Rattle.worth.specs.Worth.{floorZ}
+use Rattle.search.specs.Search.{Frame, Seen, State, Arith, Rules, begin, point, lower, upper, take, stop, enter}
+use Rattle.search.specs.Whole.{whole, inGrains, rules}
+
+-- What Q says of a C's frame, a child's weight and what that child gave, for every child that a search takes under a C: the walk of `scan`.
+module _ {A : Type 0} (O : Arith A) (R : Rules A) (Q : Frame A → ℕ → Seen A → Type 0) where
+  abbrev pub AtChance : Frame A → Kind → ℕ → Seen A → Type 0
+  AtChance e MAX w r = Unit {0}
+  AtChance e MIN w r = Unit {0}
+  AtChance e CHANCE w r = Q e w r
+
+  abbrev pub EachTaken : Frame A → Kind → Forest A → State A → Type 0
+  EachTaken e k end s = Unit {0}
+  EachTaken e k (leaf n w v rest) s =
+      AtChance e k w (point n v (s .read))
+      × (stop O (R .margin) rest (take O e k n w s (point n v (s .read))) ≡ false → EachTaken e k rest (take O e k n w s (point n v (s .read))))
+  EachTaken e k (inner n w c under rest) s =
+      AtChance e k w (enter O R e k n w c under s)
+      × EachTaken (R .frame n under) c under (begin (R .frame n under) c (lower O e k w s) (upper O e k w s) (s .read))
+      × (stop O (R .margin) rest (take O e k n w s (enter O R e k n w c under s)) ≡ false → EachTaken e k rest (take O e k n w s (enter O R e k n w c under s)))
+
+  -- in the search of a root
+  abbrev pub EachTakenRoot : Forest A → Type 0
+  EachTakenRoot end = Unit {0}
+  EachTakenRoot (leaf n w v rest) = Unit {0}
+  EachTakenRoot (inner n w k under rest) =
+      EachTaken (R .frame n under) k under (begin (R .frame n under) k (R .frame n under .bottom) (R .frame n under .top) [])
+
+-- T times the quotient is what was divided, in `gainZ` and in `lossZ`
+abbrev pub Whole : Frame ℤ → ℕ → Seen ℤ → Type 0
+Whole e w r =
+    (pos (e .total) *ℤ floorZ (pos w *ℤ (r .low -ℤ e .bottom)) (e .total) ≡ pos w *ℤ (r .low -ℤ e .bottom))
+    × (pos (e .total) *ℤ floorZ (pos w *ℤ (e .top -ℤ r .high)) (e .total) ≡ pos w *ℤ (e .top -ℤ r .high))
+
+-- "that division never leaves a remainder", of lines 20 and 21 in the search of a table
+abbrev pub NoRemainder : Table → ℕ → Type 0
+NoRemainder t ε = EachTakenRoot whole (rules t ε) Whole (inGrains (grain t) (tree t))
