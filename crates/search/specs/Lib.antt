@@ -1,3 +1,4 @@
 pub mod Search
 pub mod Heights
 pub mod Whole
+pub mod Inside
