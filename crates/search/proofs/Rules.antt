@@ -43,11 +43,6 @@ module _ (t : Slices) (g : Rule) (k : Kind) (s : State) (c e used room : ℕ) wh
   abbrev pub ChildTold : Found → List ℕ → List ℕ → Type 0
   ChildTold r came now = NodeTold t g c used (alphaFor k g heft s) (betaFor k g heft s) r came now
 
-  -- the same from a call at α and β
-  pub told-at : (r : Found) (came now : List ℕ) (α β : ℕ) → α ≡ alphaFor k g heft s → β ≡ betaFor k g heft s
-      → NodeTold t g c used α β r came now → ChildTold r came now
-  told-at r came now α β p q h F x is lt = subst₂ (λ (α β : ℕ). Gives r (first g F α β) used came now) p q (h F x is lt)
-
   pub ready-node : Ready t g k s c e used room → (x α β : ℕ) → x ≡ stopOf t c → α ≤ g .top → β ≤ g .top → ReadyNode t g c x used room α β
   ready-node R x α β q p p′ =
       let st = step t c e (R .nodes) (R .spans) (R .some) in
@@ -116,7 +111,7 @@ module _ (t : Slices) (g : Rule) (k : Kind) (s : State) (c e used room : ℕ) wh
         let G = told F e is lt in
         let one : over k g F s ≡ join k g (after k g c heft s (got .low) (got .high)) (got .read) (isEnd (restOf F)) (over k g (restOf F) (after k g c heft s (got .low) (got .high)))
         = subst₂ (λ (i w : ℕ). let a = first g F (alphaFor k g w s) (betaFor k g w s) in
-            over k g F s ≡ join k g (after k g i w s (a .low) (a .high)) (a .read) (isEnd (restOf F)) (over k g (restOf F) (after k g i w s (a .low) (a .high))))
+        over k g F s ≡ join k g (after k g i w s (a .low) (a .high)) (a .read) (isEnd (restOf F)) (over k g (restOf F) (after k g i w s (a .low) (a .high))))
         (sym (st .number)) (sym (st .weight)) (over-step k g F s (st .some)) in
         one ∙ ap (λ (z : State). join k g z (got .read) (isEnd (restOf F)) (over k g (restOf F) z)) (sym (es ∙ ap₂ (λ (l h : ℕ). after k g c heft s l h) (G .low) (G .high)))
 
@@ -237,6 +232,9 @@ module _ (t : Slices) (g : Rule) (c used α β : ℕ) (came : List ℕ) where
   pub searched-same : {r r′ : Found} {now now′ : List ℕ} → r ≡ r′ → now ≡ now′ → NodeSearched t g c used α β came r′ now′ → NodeSearched t g c used α β came r now
   searched-same p q h = subst₂ (λ (r : Found) (now : List ℕ). NodeSearched t g c used α β came r now) (sym p) (sym q) h
 
+  pub searched-at : {α′ β′ : ℕ} {r : Found} {now : List ℕ} → α′ ≡ α → β′ ≡ β → NodeSearched t g c used α′ β′ came r now → NodeSearched t g c used α β came r now
+  searched-at {r = r} {now = now} p q h = subst₂ (λ (α β : ℕ). NodeSearched t g c used α β came r now) p q h
+
   leaf-tells : (r : Found) (now : List ℕ) → getD (t .kinds) c 0 ≡ 0 → LeafAt r (getD (t .heights) c 0 * g .grain) used c came now → NodeTold t g c used α β r came now
   unfolding Spans first put
   leaf-tells r now z L end e is lt = absurd (omega arith)
@@ -278,6 +276,7 @@ going-start t g k s c e used came R = record { ready = R; same = refl; past = om
 pub record Child (t : Slices) (g : Rule) (c₀ e c x used room α β : ℕ) : Type 0 where
   pub node : ReadyNode t g c x used room α β
   pub less : x - (c + 1) < e - c₀
+  pub inside : c < x
   pub small : c < 1024
 
 pub child-of : {t : Slices} {g : Rule} {k : Kind} {s₀ s : State} {c₀ e used₀ c used : ℕ} {came₀ came : List ℕ} → Going t g k s₀ c₀ e used₀ came₀ s c used came
@@ -288,6 +287,7 @@ child-of {t} {g} {k} {s₀} {s} {c₀} {e} {used₀} {c} {used} {came₀} {came}
     record {
       node = ready-node t g k s c e used (length came) R x α β q p p′;
       less = omega (arith, q, st .within, st .below, I .past);
+      inside = omega (arith, q, st .below);
       small = omega (arith, R .some, R .holds .few);
     }
 
@@ -298,6 +298,13 @@ module _ {t : Slices} {g : Rule} {c₀ e c x used room α β : ℕ} (C : Child t
 
   pub child-three : (y : ℕ) → y ≡ getD (t .kinds) c 0 → (y ≡ 0 → ⊥) → (y ≡ 1 → ⊥) → (y ≡ 2 → ⊥) → getD (t .kinds) c 0 ≡ 3
   child-three = ready-three t g c x used room α β (C .node)
+
+  -- what a call of `leaf_at` asks
+  pub child-leaf : (y : ℕ) → y ≡ getD (t .kinds) c 0 → y ≡ 0
+      → (c < length (t .heights)) × (used < room) × (c < 1024) × (getD (t .heights) c 0 * g .grain < 9223372036854775808)
+  child-leaf y q z =
+      let L = ready-leaf t g c x used room α β (C .node) (sym q ∙ z) in
+      (omega (arith, C .inside, C .node .holds .heights), L .0, C .small, L .1)
 
 -- after a child is searched: the loop stood at c, the child's run ends at x, r is its answer, s′ the state after it, `now` the list
 pub record Turn (t : Slices) (g : Rule) (k : Kind) (s₀ : State) (c₀ e used₀ : ℕ) (came₀ : List ℕ) (c x : ℕ) (r : Found) (s′ : State) (now : List ℕ) : Type 0 where
