@@ -1,3 +1,4 @@
 pub mod Sizes
 pub mod Forest
 pub mod Rules
+pub mod Bridge
