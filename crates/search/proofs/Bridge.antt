@@ -82,14 +82,14 @@ plays-after MAX g i w s (child m l x) A z top h =
 plays-after MIN g i w s (child m l x) A z top h =
     rw (h .2) (min-later g i m l (s .high) (A .low) (A .high) s (h .0) (h .1) refl z (ltb (A .high) (s .high)) refl)
 
-plays-start : (k : Kind) (g : Rule) (α β : ℕ) → Plays k g (start k g α β) noPlay
+pub plays-start : (k : Kind) (g : Rule) (α β : ℕ) → Plays k g (start k g α β) noPlay
 plays-start MAX g α β = (refl, refl)
 plays-start MIN g α β = (refl, refl)
 plays-start CHANCE g α β = (refl, tt)
 
 -- ---- one child
 
-begin-lift : (k : Kind) (g : Rule) (α β : ℕ) (l : List ℕ) → begin (frameOf (g .top) (g .total)) k α β l ≡ lift (start k g α β) noPlay l
+pub begin-lift : (k : Kind) (g : Rule) (α β : ℕ) (l : List ℕ) → begin (frameOf (g .top) (g .total)) k α β l ≡ lift (start k g α β) noPlay l
 unfolding begin
 begin-lift MAX g α β l = refl
 begin-lift MIN g α β l = refl
@@ -163,7 +163,7 @@ abbrev Next : Kind → Rule → (i w : ℕ) → Forest ℕ → State → Play �
 Next k g i w rest s p l A a =
     let t : State = after k g i w s (a .low) (a .high) in
     Agrees (alg.after natural (heightRules (g .top) (g .total) (g .margin)) (frameOf (g .top) (g .total)) k (grained (g .grain) rest)
-      (take natural (frameOf (g .top) (g .total)) k i w (lift s p l) A))
+    (take natural (frameOf (g .top) (g .total)) k i w (lift s p l) A))
     (join k g t (a .read) (isEnd rest) (over k g rest t)) l
 
 -- what the induction gives for the children `rest`

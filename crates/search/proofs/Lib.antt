@@ -2,3 +2,4 @@ pub mod Sizes
 pub mod Forest
 pub mod Rules
 pub mod Bridge
+pub mod Root
