@@ -3,3 +3,4 @@ pub mod Forest
 pub mod Rules
 pub mod Bridge
 pub mod Root
+pub mod Ready
