@@ -17,3 +17,9 @@ pub mod Changed
 pub mod Turn
 pub mod Turned
 pub mod Worked
+pub mod Sizes
+pub mod Forest
+pub mod Rules
+pub mod Bridge
+pub mod Call
+pub mod Ready

@@ -4,3 +4,4 @@ pub mod Whole
 pub mod Unread
 pub mod Exact
 pub mod Turned
+pub mod Inside

@@ -1,0 +1,19 @@
+-- Products and quotients within bounds; equal states. Assumes nothing.
+use Prim.Native.Nat.{ℕ, _*_, _/_, _≤_}
+use mathlib.Core.Path.{_≡_}
+use native.Mathlib.Nat.{mul-le-mul, mul-le-mul-right, div-le-of-le-mul}
+use Rattle.search.specs.declared.State.{State}
+
+-- grains times a weight or the total
+pub product : (a b : ℕ) → a ≤ 35184372088832 → b ≤ 64 → a * b ≤ 2251799813685248
+product a b p q = mul-le-mul {n₂ = 35184372088832} {m₂ = 64} p q
+
+pub product′ : (b a : ℕ) → b ≤ 64 → a ≤ 35184372088832 → b * a ≤ 2251799813685248
+product′ b a q p = mul-le-mul {n₂ = 64} {m₂ = 35184372088832} q p
+
+-- a share of x, w of t parts, is at most x
+pub share : (w x t : ℕ) → w ≤ t → w * x / t ≤ x
+share w x t p = div-le-of-le-mul t (mul-le-mul-right x p)
+
+pub state-eq : (x y : State) → x .alpha ≡ y .alpha → x .beta ≡ y .beta → x .low ≡ y .low → x .high ≡ y .high → x .play ≡ y .play → x ≡ y
+state-eq x y p q r s t = λ i. record { alpha = p i; beta = q i; low = r i; high = s i; play = t i }

@@ -1,0 +1,27 @@
+-- `search::max_after` meets its contract. Assumes nothing.
+use mathlib.Core.Path.{refl}
+use native.Mathlib.Omega.{arith}
+use borrow.Author.Needs.{needs}
+use Rattle.search.proofs.Sizes.{state-eq}
+use Rattle.search.proofs.max_after.Statement.{statement}
+use Rattle.search.proofs.max_after.Tie as tie
+
+max-of-requires : tie.Need-max-of-requires
+max-of-requires c κs = search needs
+
+max-of-requires-2 : tie.Need-max-of-requires-2
+max-of-requires-2 c κs = search needs
+
+max-of-requires-3 : tie.Need-max-of-requires-3
+max-of-requires-3 c κs = search needs
+
+prefer-requires : tie.Need-prefer-requires
+prefer-requires c κs = search needs
+
+returns : tie.Need-returns
+returns c = state-eq _ _ (omega arith) refl (omega arith) (omega arith) (c .prefer .ensures)
+
+pub max-after-spec : {M : Type 1} → statement M
+max-after-spec =
+    tie.close
+    (tie.spec max-of-requires max-of-requires-2 max-of-requires-3 prefer-requires returns)

@@ -1,0 +1,27 @@
+-- `search::min_after` meets its contract. Assumes nothing.
+use mathlib.Core.Path.{refl}
+use native.Mathlib.Omega.{arith}
+use borrow.Author.Needs.{needs}
+use Rattle.search.proofs.Sizes.{state-eq}
+use Rattle.search.proofs.min_after.Statement.{statement}
+use Rattle.search.proofs.min_after.Tie as tie
+
+min-of-requires : tie.Need-min-of-requires
+min-of-requires c κs = search needs
+
+min-of-requires-2 : tie.Need-min-of-requires-2
+min-of-requires-2 c κs = search needs
+
+min-of-requires-3 : tie.Need-min-of-requires-3
+min-of-requires-3 c κs = search needs
+
+prefer-requires : tie.Need-prefer-requires
+prefer-requires c κs = search needs
+
+returns : tie.Need-returns
+returns c = state-eq _ _ refl (omega arith) (omega arith) (omega arith) (c .prefer .ensures)
+
+pub min-after-spec : {M : Type 1} → statement M
+min-after-spec =
+    tie.close
+    (tie.spec min-of-requires min-of-requires-2 min-of-requires-3 prefer-requires returns)
