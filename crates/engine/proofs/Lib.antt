@@ -1,2 +1,3 @@
 pub mod Sums
 pub mod Known
+pub mod Searching

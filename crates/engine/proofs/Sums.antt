@@ -2,7 +2,7 @@
 use Prim.Native.Nat.{ℕ, zero, suc, _+_, _*_, _^_, _≤_, _<_}
 use native.Mathlib.Nat.{mul-le-mul}
 use native.Mathlib.Omega.{arith}
-use mathlib.Core.Path.{_≡_, refl}
+use mathlib.Core.Path.{_≡_, refl, ap, _∙_}
 use mathlib.Core.Bool.{Bool, true, false}
 use lib.Dec.{ltb}
 use lib.IntN.{ℤ, pos, negsuc, negℤ, subℕ, _+ℤ_, _*ℤ_}
@@ -61,3 +61,10 @@ module _ (z : ℤ) (g h : ℕ) (hz : mag z ≤ 1000000) (hg : g ≤ 16777216) (h
 
   pub over-is : toZ w64 (ofZ w64 (toZ w64 (ofZ w64 (toZ w64 (ofZ w64 z) *ℤ toZ w64 g)) +ℤ toZ w64 h)) ≡ z *ℤ pos g +ℤ pos h
   over-is = rw add-is (read-back (z *ℤ pos g +ℤ pos h) sum)
+
+-- the grains that a call computed, as they are handed on
+pub grains-back : (lowest : ℤ) (grain height : ℕ) (r : ℤ) → mag lowest ≤ 1000000 → grain ≤ 16777216 → height ≤ 35184372088832
+    → r ≡ toZ w64 (ofZ w64 lowest) *ℤ pos grain +ℤ pos height → toZ w64 (ofZ w64 r) ≡ lowest *ℤ pos grain +ℤ pos height
+grains-back lowest grain height r a b c e =
+    let made : r ≡ lowest *ℤ pos grain +ℤ pos height = e ∙ ap (λ (z : ℤ). z *ℤ pos grain +ℤ pos height) (read-back lowest (omega (arith, a))) in
+    ap (λ (z : ℤ). toZ w64 (ofZ w64 z)) made ∙ read-back (lowest *ℤ pos grain +ℤ pos height) (sum lowest grain height a b c)

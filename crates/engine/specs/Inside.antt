@@ -1,8 +1,5 @@
 -- What the contracts of private functions cite; no public promise names these.
 use Prim.Native.Nat.{ℕ, _*_, _≤_}
-use mathlib.Core.Bool.{cond}
-use mathlib.Core.Option.{Option, none, some}
-use lib.Dec.{eqb}
 use lib.IntN.{ℤ, _-ℤ_}
 use lib.Signed.{mag}
 use Rattle.line.specs.Line.{toNat}
@@ -21,9 +18,5 @@ abbrev pub scaleFor : Summary → Scale
 scaleFor t = record { total = t .total; lowest = t .lowest; grain = t .grain; top = toNat (t .highest -ℤ t .lowest) * t .grain }
 
 -- the numbers that its search goes by
-abbrev pub ruleFor : Summary → ℤ → Rule
-ruleFor t margin = record { margin = toNat margin; top = toNat (t .highest -ℤ t .lowest) * t .grain; total = t .total; grain = t .grain }
-
--- a node number, where 0 stands for none
-abbrev pub numbered : ℕ → Option ℕ
-numbered node = cond (eqb node 0) none (some node)
+abbrev pub ruleFor : Scale → ℤ → Rule
+ruleFor g margin = record { margin = toNat margin; top = g .top; total = g .total; grain = g .grain }

@@ -8,7 +8,8 @@ ghost use Rattle.table.specs.Table.{readText};
 ghost use Rattle.engine.specs.Calls.{exactCall, judgeCall, badMargin, searchCall, searchReads};
 ghost use Rattle.table.specs.Slices.{laid};
 ghost use Rattle.judge.specs.Inside.{playOf};
-ghost use Rattle.engine.specs.Inside.{Spread, scaleFor, ruleFor, numbered};
+ghost use Rattle.search.specs.Inside.{playAt};
+ghost use Rattle.engine.specs.Inside.{Spread, scaleFor, ruleFor};
 use judge::Judged;
 use judge::Play;
 use line::Refusal;
@@ -106,23 +107,21 @@ fn is_bad_margin(margin: i64) -> bool
     (margin < 0) | (40000000000000 < margin)
 }
 
-// The numbers that the search of a table at an accepted margin goes by.
-fn rule_of(t: Summary, margin: i64) -> Rule
-    requires { ⌜ Spread t ⌝ }
-    ensures { λ r. ⌜ r ≡ ruleFor t margin ⌝ }
+// The numbers that a search goes by.
+fn rule_of(g: Scale, margin: i64) -> Rule
+    ensures { λ r. ⌜ r ≡ ruleFor g margin ⌝ }
 {
-    let top = line::natural(t.highest - t.lowest) * t.grain;
     Rule {
         margin: line::natural(margin),
-        top: top,
-        total: t.total,
-        grain: t.grain,
+        top: g.top,
+        total: g.total,
+        grain: g.grain,
     }
 }
 
 // A node number as a play, where 0 stands for none.
 fn play_at(node: usize) -> Play
-    ensures { λ r. ⌜ r ≡ playOf (numbered node) ⌝ }
+    ensures { λ r. ⌜ r ≡ playOf (playAt node) ⌝ }
 {
     if node == 0 {
         return Play::NoPlay;
@@ -149,7 +148,7 @@ pub fn search_table(text: &[u8], margin: i64, leaves: &mut [u16]) -> Bounded
             if leaves.len() < t.leaves {
                 return Bounded::Refused(Refusal::NoRoom);
             }
-            let g = rule_of(t, margin);
+            let g = rule_of(scale_of(t), margin);
             let f = search::search(&kind, &stop, &weight, &height, leaves, t.nodes, g);
             let low = in_grains(t.lowest, t.grain, f.low);
             let high = in_grains(t.lowest, t.grain, f.high);

@@ -12,9 +12,9 @@ use Rattle.table.specs.Slices.{Slices, Spans}
 use Rattle.search.specs.declared.Rule.{Rule}
 use Rattle.search.specs.declared.State.{State}
 use Rattle.search.specs.Search as alg
-use Rattle.search.specs.Search.{Play, noPlay, child, Seen, scan, take, prefer, better, beats, begin, firstLow, firstHigh, cut, finish, point, runLow, runHigh, lower, upper, nextLow, nextHigh, stop}
+use Rattle.search.specs.Search.{Play, noPlay, child, Seen, scan, take, prefer, better, beats, begin, firstLow, firstHigh, cut, finish, point, runLow, runHigh, lower, upper, nextLow, nextHigh, stop, nodeOf}
 use Rattle.search.specs.Heights.{natural, grained, frameOf, heightRules}
-use Rattle.search.specs.Inside.{Answer, start, alphaFor, betaFor, preferred, after, stops, cutLow, cutHigh, join, over, Fit, OkRule, OkBounds, OkKind, playNumber}
+use Rattle.search.specs.Inside.{Answer, start, alphaFor, betaFor, preferred, after, stops, cutLow, cutHigh, join, over, Fit, OkRule, OkBounds, OkKind, playAt}
 use Rattle.search.proofs.Forest.{stopOf, spans-le, Within, alpha-ok, beta-ok, start-ok, start-kind, after-ok, after-kind, over-within}
 
 -- the code's state and answer, with the play p and the leaves l read before, as those of Algorithm 1
@@ -24,9 +24,9 @@ lift s p l = record { alpha = s .alpha; beta = s .beta; lo = s .low; hi = s .hig
 abbrev seen : Answer → Play ℕ → List ℕ → Seen ℕ
 seen a p l = record { low = a .low; high = a .high; play = p; read = l ++ a .read }
 
--- the same answer, for some play of the same number
+-- the same answer, for some play of that number
 abbrev pub Agrees : Seen ℕ → Answer → List ℕ → Type 0
-Agrees A a l = (p : Play ℕ) × (A ≡ seen a p l) × (playNumber p ≡ a .play)
+Agrees A a l = (p : Play ℕ) × (A ≡ seen a p l) × (playAt (a .play) ≡ nodeOf p)
 
 -- ---- the play
 
@@ -45,9 +45,9 @@ abbrev Plays : Kind → Rule → State → Play ℕ → Type 0
 Plays k g s noPlay = (s .play ≡ 0) × Fresh k g s
 Plays k g s (child m l h) = (s .play ≡ m) × (0 < m) × Best k s l h
 
-plays-number : (k : Kind) (g : Rule) (s : State) (p : Play ℕ) → Plays k g s p → playNumber p ≡ s .play
-plays-number k g s noPlay h = sym (h .0)
-plays-number k g s (child m l x) h = sym (h .0)
+plays-number : (k : Kind) (g : Rule) (s : State) (p : Play ℕ) → Plays k g s p → playAt (s .play) ≡ nodeOf p
+plays-number k g s noPlay h = ap playAt (h .0)
+plays-number k g s (child m l x) h = ap playAt (h .0) ∙ rw (ne-eqb m 0 (λ e. omega (arith, h .1))) refl
 
 -- the first child is taken; later ones where they beat the best
 first-taken : (play i : ℕ) (b : Bool) → play ≡ 0 → preferred play i b ≡ i

@@ -11,7 +11,7 @@ use Rattle.search.specs.declared.Rule.{Rule}
 use Rattle.search.specs.declared.Found.{Found}
 use Rattle.search.specs.Search.{Seen, noPlay, searchRoot, search, point}
 use Rattle.search.specs.Heights.{natural, grained, frameOf, heightRules}
-use Rattle.search.specs.Inside.{Answer, start, first, put, Gives, Fit, OkRule, ReadyRoot, Shows, Searched}
+use Rattle.search.specs.Inside.{Answer, start, first, put, Gives, Fit, OkRule, ReadyRoot, Shows, Searched, playAt}
 use Rattle.search.proofs.Forest.{stopOf, spans-le, leaves-split, start-ok, start-kind, first-few}
 use Rattle.search.proofs.Rules.{NodeTold, ReadyNode}
 use Rattle.search.proofs.Bridge.{Agrees, begin-lift, plays-start, bridge}
@@ -85,7 +85,7 @@ shown r A a came now few G (p, e, n) =
     rw e (record {
       low = G .low;
       high = G .high;
-      play = G .play ∙ sym n;
+      play = ap playAt (G .play) ∙ n;
       used = omega (arith, G .used);
       leaves = G .leaves ∙ put-laid came (a .read) few;
     })

@@ -4,6 +4,7 @@ use Prim.Native.Nat.{ℕ, suc, _+_, _-_, _*_, _/_, _≤_, _<_, min, max}
 use mathlib.Core.Path.{_≡_}
 use mathlib.Core.Bool.{Bool, true, false, _||_, cond}
 use mathlib.Core.List.{List, [], _∷_, _++_}
+use mathlib.Core.Option.{Option, none, some}
 use lib.Dec.{eqb, leb, ltb}
 use lib.ListN.{length, getD, set}
 use Rattle.line.specs.Line.{Weighs}
@@ -13,7 +14,7 @@ use Rattle.table.specs.Accepted.{Sums, Rooted}
 use Rattle.search.specs.declared.Rule.{Rule}
 use Rattle.search.specs.declared.State.{State}
 use Rattle.search.specs.declared.Found.{Found}
-use Rattle.search.specs.Search.{Seen, Play, noPlay, child, searchRoot}
+use Rattle.search.specs.Search.{Seen, searchRoot, nodeOf}
 use Rattle.search.specs.Heights.{ceil, natural, grained, heightRules}
 
 abbrev pub slices : (K S W H : List ℕ) → Slices
@@ -208,16 +209,15 @@ pub record ReadyRoot (t : Slices) (g : Rule) (n room : ℕ) : Type 0 where
   pub holds : Holds t n
   pub space : leaves nodes ≤ room
 
--- the node number of a play, 0 for none
-abbrev pub playNumber : Play ℕ → ℕ
-playNumber noPlay = 0
-playNumber (child m l h) = m
+-- a node number as a play: 0 stands for none, as node 0 is no child
+abbrev pub playAt : ℕ → Option ℕ
+playAt n = cond (eqb n 0) none (some n)
 
 -- the result r, with the list as it came and as it is now, is what was seen
 pub record Shows (r : Found) (a : Seen ℕ) (came now : List ℕ) : Type 0 where
   pub low : r .low ≡ a .low
   pub high : r .high ≡ a .high
-  pub play : r .play ≡ playNumber (a .play)
+  pub play : playAt (r .play) ≡ nodeOf (a .play)
   pub used : r .used ≡ length (a .read)
   pub leaves : now ≡ laid (a .read) came
 
