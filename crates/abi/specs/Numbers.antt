@@ -7,11 +7,16 @@ use Rattle.table.specs.declared.Summary.{Summary}
 use Rattle.table.specs.declared.Reading.{Reading}
 use Rattle.table.specs.declared.Reading.the-variants.{Accepted, Refused}
 use Rattle.line.specs.Refusal.{numberOf, lineOf}
+use Rattle.judge.specs.declared.Play.{Play}
+use Rattle.judge.specs.declared.Play.the-variants.{Child, NoPlay}
 use Rattle.judge.specs.declared.Judged.{Judged}
 use Rattle.judge.specs.declared.Judged.the-variants.{NoDecision, Judged as Lost, NoChild}
 use Rattle.engine.specs.declared.Opinion
 use Rattle.engine.specs.declared.Opinion.{Opinion}
-use Rattle.engine.specs.Calls.{judgeNumber, judgeLine}
+use Rattle.engine.specs.declared.Bounds.{Bounds}
+use Rattle.engine.specs.declared.Bounded
+use Rattle.engine.specs.declared.Bounded.{Bounded}
+use Rattle.engine.specs.Calls.{judgeNumber, judgeLine, searchNumber, searchLine}
 use Rattle.engine.specs.declared.Exact
 use Rattle.engine.specs.declared.Exact.{Exact}
 
@@ -47,6 +52,27 @@ judgedNumbers NoChild = []
 abbrev pub judgeNumbers : Opinion → List ℕ
 judgeNumbers (Opinion.the-variants.Given j) = judgedNumbers j
 judgeNumbers (Opinion.the-variants.Refused r) = []
+
+-- the same of a search: low, high, the node number of the play, 0 for none (the root is no play), the number of leaves read, and G
+abbrev pub searchCode : Bounded → ℕ
+searchCode b = 100 * searchLine b + searchNumber b
+
+abbrev pub nodeNumber : Play → ℕ
+nodeNumber (Child n) = n
+nodeNumber NoPlay = 0
+
+abbrev pub boundsNumbers : Bounds → List ℤ
+boundsNumbers b = b .low ∷ b .high ∷ pos (nodeNumber (b .play)) ∷ pos (b .leaves) ∷ pos (b .grain) ∷ []
+
+abbrev pub searchNumbers : Bounded → List ℤ
+searchNumbers (Bounded.the-variants.Found b) = boundsNumbers b
+searchNumbers (Bounded.the-variants.Refused r) = []
+
+-- its counts fit a signed number
+pub record SmallBounds (b : Bounds) : Type 0 where
+  pub play : nodeNumber (b .play) < 2 ^ 63
+  pub leaves : b .leaves < 2 ^ 63
+  pub grain : b .grain < 2 ^ 63
 
 module _ {A : Type 0} where
   -- the list l with xs written from its entry i on, as far as it goes

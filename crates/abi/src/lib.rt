@@ -2,16 +2,19 @@
 // returns 0; where it refuses, it writes nothing and returns the refusal's line and number as one, so that 309 is refusal 9 at line 3.
 ghost use mathlib.Core.Path.{_≡_};
 ghost use Prim.Native.Nat.{_<_, _≤_, _^_};
-ghost use lib.ListN.{set};
+ghost use lib.ListN.{length, set};
 ghost use lib.IntN.{pos};
 ghost use Rattle.line.specs.Refusal.{lineOf};
 ghost use Rattle.table.specs.Table.{readText, answer};
-ghost use Rattle.table.specs.Slices.{fitted, kindsOf, stopsOf, weightsOf, heightsOf, decoded};
-ghost use Rattle.engine.specs.Calls.{exactCall, judgeCall};
-ghost use Rattle.abi.specs.Numbers.{codeOf, numbersOf, worthCode, worthNumbers, judgeCode, judgedNumbers, judgeNumbers, put, Small};
+ghost use Rattle.table.specs.Slices.{laid, fitted, kindsOf, stopsOf, weightsOf, heightsOf, decoded};
+ghost use Rattle.engine.specs.Calls.{exactCall, judgeCall, searchCall, searchReads};
+ghost use Rattle.abi.specs.Numbers.{codeOf, numbersOf, worthCode, worthNumbers, judgeCode, judgedNumbers, judgeNumbers, nodeNumber, searchCode, boundsNumbers, searchNumbers, put, Small, SmallBounds};
+use engine::Bounded;
+use engine::Bounds;
 use engine::Exact;
 use engine::Opinion;
 use judge::Judged;
+use judge::Play;
 use line::Refusal;
 use table::Reading;
 use table::Summary;
@@ -145,5 +148,48 @@ pub extern "C" fn margin_judge(text: &[u8], number: i64, numbers: &mut [u64]) ->
     match engine::judge_play(text, number) {
         Opinion::Refused(r) => refusal_code(r),
         Opinion::Given(j) => put_judged(j, numbers),
+    }
+}
+
+// A play as a node number, 0 for none.
+fn node_number(p: Play) -> usize
+    ensures { λ n. ⌜ n ≡ nodeNumber p ⌝ }
+{
+    match p {
+        Play::Child(n) => n,
+        Play::NoPlay => 0,
+    }
+}
+
+fn put_bounds(b: Bounds, numbers: &mut [i64])
+    requires { ⌜ SmallBounds b ⌝ }
+    ensures { λ _. ⌜ now (numbers .exit) ≡ put 0 (boundsNumbers b) (now (numbers .entry)) ⌝ }
+{
+    put_at(numbers, 0, b.low);
+    put_at(numbers, 1, b.high);
+    put_at(numbers, 2, signed(node_number(b.play) as u64));
+    put_at(numbers, 3, signed(b.leaves as u64));
+    put_at(numbers, 4, signed(b.grain));
+}
+
+// The search at a margin in grains: low, high, the play's node number (0 for none), the number of leaves read and G go to `numbers`,
+// and the leaves read to `leaves`, in reading sequence. Where the call is refused, nothing is written.
+#[no_mangle]
+pub extern "C" fn margin_search(
+    text: &[u8],
+    margin: i64,
+    leaves: &mut [u16],
+    numbers: &mut [i64],
+) -> u64
+    ensures code { λ r. ⌜ r ≡ searchCode (searchCall (readText (now (text .entry))) margin (length (now (leaves .entry)))) ⌝ }
+    ensures numbers { λ _. ⌜ now (numbers .exit) ≡ put 0 (searchNumbers (searchCall (readText (now (text .entry))) margin (length (now (leaves .entry))))) (now (numbers .entry)) ⌝ }
+    ensures lists { λ _. ⌜ now (leaves .exit) ≡ laid (searchReads (readText (now (text .entry))) margin (length (now (leaves .entry)))) (now (leaves .entry)) ⌝ }
+{
+    match engine::search_table(text, margin, leaves) {
+        Bounded::Refused(r) => refusal_code(r),
+        Bounded::Found(b) => {
+            put_bounds(b, numbers);
+            0
+        }
     }
 }

@@ -1,6 +1,6 @@
 -- The root child of a number: its worth over the integers, from its worth over heights. Assumes nothing.
 use Prim.Native.Nat.{ℕ, suc, _+_, _≤_, _<_}
-use mathlib.Core.Path.{_≡_, refl, sym, ap, _∙_}
+use mathlib.Core.Path.{_≡_, refl, sym, ap, ap₂, _∙_}
 use mathlib.Core.Bool.{Bool, true, false, cond}
 use mathlib.Core.Option.{some}
 use native.Mathlib.Omega.{arith}
@@ -10,7 +10,7 @@ use lib.ListN.{getD}
 use lib.IntN.{ℤ, pos, _+ℤ_, _*ℤ_}
 use Rattle.line.specs.declared.Head.{Head}
 use Rattle.line.specs.Line.{Within}
-use Rattle.table.specs.Tree.{Kind, Forest, end, leaf, inner, isChance}
+use Rattle.table.specs.Tree.{Kind, Forest, end, leaf, inner, isChance, leaves}
 use Rattle.table.specs.Slices.{Slices, Spans}
 use Rattle.table.specs.Accepted.{one, Filled, Balanced, Proper}
 use Rattle.table.proofs.Heights.{above, mapForest, map-end, map-filled}
@@ -117,3 +117,10 @@ module _ (T G K S : ℕ) (h : Head) (positive : 0 < T) where
   unfolding grained
   play-worth (inner n w k under rest) p fl bl sm s e x m v i =
       child-worth 1 (0 + one k) (isChance k) under (p .3) (fl .1) (bl .1) (sm .2) 1 (rising-under s 0 e n w k (lowered under) (lowered rest) x) m v i
+
+-- grains change no leaf's place
+pub grains-leaves : (G : ℕ) (f : Forest ℤ) → leaves (inGrains G f) ≡ leaves f
+unfolding inGrains leaves
+grains-leaves G end = refl
+grains-leaves G (leaf n w u rest) = ap (λ (a : ℕ). 1 + a) (grains-leaves G rest)
+grains-leaves G (inner n w k under rest) = ap₂ (λ (a b : ℕ). a + b) (grains-leaves G under) (grains-leaves G rest)

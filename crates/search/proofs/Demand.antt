@@ -1,5 +1,5 @@
 -- Demand 3 of the search of every accepted table. Document 01, 'The search'. Assumes nothing.
-use Prim.Native.Nat.{ℕ, _+_, _*_, _^_, _≤_}
+use Prim.Native.Nat.{ℕ, _+_, _*_, _^_, _≤_, _<_}
 use mathlib.Core.Path.{_≡_, refl, sym, ap, ap₂, subst, _∙_}
 use mathlib.Core.Bool.{true, false}
 use mathlib.Core.List.{List}
@@ -10,7 +10,7 @@ use lib.ListN.{length}
 use lib.IntN.{ℤ, pos, _+ℤ_, _*ℤ_, +ℤ-assoc}
 use lib.Signed.{leZ}
 use Rattle.line.specs.Refusal.{fine}
-use Rattle.table.specs.Tree.{MAX, Forest}
+use Rattle.table.specs.Tree.{MAX, Forest, leaves}
 use Rattle.table.specs.Table.{Table, tree, readText, greatest, grain}
 use Rattle.table.specs.Slices.{Spans, heightTree, slicesOf}
 use Rattle.table.specs.Accepted.{span, Filled, Balanced, Proper, Rooted}
@@ -33,7 +33,8 @@ use Rattle.search.proofs.Worths.{plain}
 use Rattle.search.proofs.Grains.{within, positive, fit}
 use Rattle.search.proofs.Root.{OnSide, Played, holds, narrow, plays}
 use Rattle.search.proofs.Remainder.{whole-root}
-use Rattle.search.proofs.Children.{grains-shift, play-worth, root-same}
+use Rattle.search.proofs.Few.{few-reads, root-child-below}
+use Rattle.search.proofs.Children.{grains-leaves, grains-shift, play-worth, root-same}
 
 -- ε more
 le-margin : (b : ℤ) (x y ε : ℕ) → x ≤ y + ε → leZ (b +ℤ pos x) (b +ℤ pos y +ℤ pos ε) ≡ true
@@ -197,6 +198,16 @@ module _ (s : List ℕ) (t : Table) (r : readText s ≡ fine t) (ε : ℕ) where
         λ d. ap₂ leZ x high-is ∙ le-above base (p .value) (heights .high)
             (subst (λ (q : Root). OnSide q (heights .low) (heights .high) (p .value)) (root-is ∙ d) (p .side)),
       )
+
+  -- the play is a node of the table
+  pub play-small : (m : ℕ) → nodeOf (searched t ε .play) ≡ some m → m < length (t .lines)
+  play-small m e =
+      let p = played m e in
+      root-child-below (plain top-height (t .head .total)) G m (p .value) 0 (length (t .lines)) (slicesOf t) (heightTree t) (accepted-spans s t r) (p .named)
+
+  -- no more leaves are read than there are
+  pub reads-few : length (searched t ε .read) ≤ leaves (tree t)
+  reads-few = rw (grains-leaves G (tree t)) at (few-reads whole (rules t ε) (inGrains G (tree t)))
 
   -- ---- the divisions of lines 20 and 21
 

@@ -12,13 +12,14 @@ pub mod Grains
 pub mod Root
 pub mod Children
 pub mod Remainder
+pub mod Sizes
+pub mod Forest
+pub mod Few
 pub mod Demand
 pub mod Changed
 pub mod Turn
 pub mod Turned
 pub mod Worked
-pub mod Sizes
-pub mod Forest
 pub mod Rules
 pub mod Bridge
 pub mod Call
