@@ -11,7 +11,7 @@ use Rattle.table.specs.Accepted.{Sums}
 use Rattle.search.specs.declared.Rule.{Rule}
 use Rattle.search.specs.declared.State.{State}
 use Rattle.search.specs.declared.Found.{Found}
-use Rattle.search.specs.Inside.{Answer, start, alphaFor, betaFor, after, stops, cutLow, cutHigh, join, over, first, put, Gives, LeafAt, Fit, OkRule, OkBounds, OkKind, Holds, Ready}
+use Rattle.search.specs.Inside.{Answer, start, alphaFor, betaFor, afterChance, after, stops, cutLow, cutHigh, join, over, first, put, Gives, LeafAt, Fit, OkRule, OkBounds, OkKind, Holds, Ready}
 use Rattle.search.proofs.Forest.{put-put, stopOf, restOf, numberOf, weightOf, leaves-split, weigh-split, fit-rest, spans-lt, spans-last, spans-more, Step, step, over-step, alpha-ok, beta-ok, start-ok, start-kind, after-ok, after-kind, first-within, first-few}
 
 -- what is told of the node at entry c, searched in the window α, β: its result r, and the list as it came and as it is now
@@ -232,9 +232,6 @@ module _ (t : Slices) (g : Rule) (c used α β : ℕ) (came : List ℕ) where
   pub searched-same : {r r′ : Found} {now now′ : List ℕ} → r ≡ r′ → now ≡ now′ → NodeSearched t g c used α β came r′ now′ → NodeSearched t g c used α β came r now
   searched-same p q h = subst₂ (λ (r : Found) (now : List ℕ). NodeSearched t g c used α β came r now) (sym p) (sym q) h
 
-  pub searched-at : {α′ β′ : ℕ} {r : Found} {now : List ℕ} → α′ ≡ α → β′ ≡ β → NodeSearched t g c used α′ β′ came r now → NodeSearched t g c used α β came r now
-  searched-at {r = r} {now = now} p q h = subst₂ (λ (α β : ℕ). NodeSearched t g c used α β came r now) p q h
-
   leaf-tells : (r : Found) (now : List ℕ) → getD (t .kinds) c 0 ≡ 0 → LeafAt r (getD (t .heights) c 0 * g .grain) used c came now → NodeTold t g c used α β r came now
   unfolding Spans first put
   leaf-tells r now z L end e is lt = absurd (omega arith)
@@ -258,6 +255,17 @@ module _ (t : Slices) (g : Rule) (c used α β : ℕ) (came : List ℕ) where
   pub searched-inner : (x : ℕ) (j : Kind) (r : Found) (now : List ℕ) → getD (t .kinds) c 0 ≡ codeOf j → x ≡ stopOf t c
       → ((H : Forest ℕ) → Spans t (c + 1) x H → Gives r (over j g H (start j g α β)) used came now) → length now ≡ length came → NodeSearched t g c used α β came r now
   searched-inner x j r now z q more kept = record { tells = inner-tells x j r now z (sym q) more; kept = kept }
+
+-- ---- a C's child: the weight that was read is the one in the slice
+
+pub searched-window : (t : Slices) (g : Rule) (s : State) (c used : ℕ) (came : List ℕ) {w α β : ℕ} {r : Found} {now : List ℕ} → w ≡ getD (t .weights) c 0
+    → α ≡ alphaFor CHANCE g w s → β ≡ betaFor CHANCE g w s → NodeSearched t g c used α β came r now
+    → NodeSearched t g c used (alphaFor CHANCE g (getD (t .weights) c 0) s) (betaFor CHANCE g (getD (t .weights) c 0) s) came r now
+searched-window t g s c used came {r = r} {now = now} e p q h =
+    subst₂ (λ (α β : ℕ). NodeSearched t g c used α β came r now) (p ∙ ap (λ (y : ℕ). alphaFor CHANCE g y s) e) (q ∙ ap (λ (y : ℕ). betaFor CHANCE g y s) e) h
+
+pub chance-state : (g : Rule) (c : ℕ) (r : Found) (s s′ : State) {w w′ : ℕ} → s′ ≡ afterChance g w s (r .low) (r .high) → w ≡ w′ → s′ ≡ after CHANCE g c w′ s (r .low) (r .high)
+chance-state g c r s s′ p e = p ∙ ap (λ (y : ℕ). afterChance g y s (r .low) (r .high)) e
 
 -- ---- the loop over the children
 

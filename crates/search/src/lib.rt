@@ -3,7 +3,7 @@ ghost use mathlib.Core.Path.{_≡_};
 ghost use Prim.Native.Nat.{_+_, _-_, _*_, _<_, _≤_, min, max};
 ghost use lib.ListN.{length, getD};
 ghost use Rattle.table.specs.Tree.{MAX, MIN, CHANCE};
-ghost use Rattle.search.specs.Inside.{slices, start, alphaFor, betaFor, preferred, after, stops, LeafAt, OkRule, OkBounds, Ready, Told, ReadyRoot, Searched};
+ghost use Rattle.search.specs.Inside.{slices, start, alphaFor, betaFor, preferred, afterMax, afterMin, afterChance, stops, LeafAt, OkRule, OkBounds, Ready, Told, ReadyRoot, Searched};
 
 // The margin, the grains between the ends, the total of the weights, and the grains in a point.
 pub struct Rule {
@@ -109,8 +109,8 @@ fn prefer(play: usize, i: usize, beats: bool) -> usize
     if beats { i } else { play }
 }
 
-fn max_after(g: Rule, i: usize, s: State, low: u64, high: u64) -> State
-    ensures { λ r. ⌜ r ≡ after MAX g i 0 s low high ⌝ }
+fn max_after(i: usize, s: State, low: u64, high: u64) -> State
+    ensures { λ r. ⌜ r ≡ afterMax i s low high ⌝ }
 {
     let l = max_of(s.low, low);
     let h = max_of(s.high, high);
@@ -125,8 +125,8 @@ fn max_after(g: Rule, i: usize, s: State, low: u64, high: u64) -> State
     }
 }
 
-fn min_after(g: Rule, i: usize, s: State, low: u64, high: u64) -> State
-    ensures { λ r. ⌜ r ≡ after MIN g i 0 s low high ⌝ }
+fn min_after(i: usize, s: State, low: u64, high: u64) -> State
+    ensures { λ r. ⌜ r ≡ afterMin i s low high ⌝ }
 {
     let l = min_of(s.low, low);
     let h = min_of(s.high, high);
@@ -155,7 +155,7 @@ fn chance_window(g: Rule, s: State, w: u64) -> Window
 
 fn chance_after(g: Rule, s: State, w: u64, low: u64, high: u64) -> State
     requires { ⌜ OkRule g × OkBounds g s × (w ≤ g .total) × (low ≤ g .top) × (high ≤ g .top) ⌝ }
-    ensures { λ r. ⌜ r ≡ after CHANCE g 0 w s low high ⌝ }
+    ensures { λ r. ⌜ r ≡ afterChance g w s low high ⌝ }
 {
     let l = s.low + w * low / g.total;
     let h = monus(s.high, w * (g.top - high) / g.total);
@@ -214,58 +214,18 @@ fn max_over(
     loop {
         let e = stop_at(stop, i);
         let k = kind_at(kind, i);
-        let mut r = Found {
-            low: 0,
-            high: 0,
-            play: 0,
-            used: n,
-        };
-        if k == 0 {
-            r = leaf_at(height, leaves, n, i, g.grain);
+        let a = t.alpha;
+        let b = t.beta;
+        let r = if k == 0 {
+            leaf_at(height, leaves, n, i, g.grain)
         } else if k == 1 {
-            r = max_over(
-                kind,
-                stop,
-                weight,
-                height,
-                leaves,
-                n,
-                g,
-                i + 1,
-                e,
-                t.alpha,
-                t.beta,
-            );
+            max_over(kind, stop, weight, height, leaves, n, g, i + 1, e, a, b)
         } else if k == 2 {
-            r = min_over(
-                kind,
-                stop,
-                weight,
-                height,
-                leaves,
-                n,
-                g,
-                i + 1,
-                e,
-                t.alpha,
-                t.beta,
-            );
+            min_over(kind, stop, weight, height, leaves, n, g, i + 1, e, a, b)
         } else {
-            r = chance_over(
-                kind,
-                stop,
-                weight,
-                height,
-                leaves,
-                n,
-                g,
-                i + 1,
-                e,
-                t.alpha,
-                t.beta,
-            );
-        }
-        t = max_after(g, i, t, r.low, r.high);
+            chance_over(kind, stop, weight, height, leaves, n, g, i + 1, e, a, b)
+        };
+        t = max_after(i, t, r.low, r.high);
         n = r.used;
         if e == end {
             return Found {
@@ -316,58 +276,18 @@ fn min_over(
     loop {
         let e = stop_at(stop, i);
         let k = kind_at(kind, i);
-        let mut r = Found {
-            low: 0,
-            high: 0,
-            play: 0,
-            used: n,
-        };
-        if k == 0 {
-            r = leaf_at(height, leaves, n, i, g.grain);
+        let a = t.alpha;
+        let b = t.beta;
+        let r = if k == 0 {
+            leaf_at(height, leaves, n, i, g.grain)
         } else if k == 1 {
-            r = max_over(
-                kind,
-                stop,
-                weight,
-                height,
-                leaves,
-                n,
-                g,
-                i + 1,
-                e,
-                t.alpha,
-                t.beta,
-            );
+            max_over(kind, stop, weight, height, leaves, n, g, i + 1, e, a, b)
         } else if k == 2 {
-            r = min_over(
-                kind,
-                stop,
-                weight,
-                height,
-                leaves,
-                n,
-                g,
-                i + 1,
-                e,
-                t.alpha,
-                t.beta,
-            );
+            min_over(kind, stop, weight, height, leaves, n, g, i + 1, e, a, b)
         } else {
-            r = chance_over(
-                kind,
-                stop,
-                weight,
-                height,
-                leaves,
-                n,
-                g,
-                i + 1,
-                e,
-                t.alpha,
-                t.beta,
-            );
-        }
-        t = min_after(g, i, t, r.low, r.high);
+            chance_over(kind, stop, weight, height, leaves, n, g, i + 1, e, a, b)
+        };
+        t = min_after(i, t, r.low, r.high);
         n = r.used;
         if e == end {
             return Found {
@@ -419,60 +339,20 @@ fn chance_over(
         let e = stop_at(stop, i);
         let k = kind_at(kind, i);
         let w = weight_at(weight, i);
-        let mut r = Found {
-            low: 0,
-            high: 0,
-            play: 0,
-            used: n,
-        };
-        if k == 0 {
-            r = leaf_at(height, leaves, n, i, g.grain);
+        let r = if k == 0 {
+            leaf_at(height, leaves, n, i, g.grain)
         } else {
             let v = chance_window(g, t, w);
+            let a = v.alpha;
+            let b = v.beta;
             if k == 1 {
-                r = max_over(
-                    kind,
-                    stop,
-                    weight,
-                    height,
-                    leaves,
-                    n,
-                    g,
-                    i + 1,
-                    e,
-                    v.alpha,
-                    v.beta,
-                );
+                max_over(kind, stop, weight, height, leaves, n, g, i + 1, e, a, b)
             } else if k == 2 {
-                r = min_over(
-                    kind,
-                    stop,
-                    weight,
-                    height,
-                    leaves,
-                    n,
-                    g,
-                    i + 1,
-                    e,
-                    v.alpha,
-                    v.beta,
-                );
+                min_over(kind, stop, weight, height, leaves, n, g, i + 1, e, a, b)
             } else {
-                r = chance_over(
-                    kind,
-                    stop,
-                    weight,
-                    height,
-                    leaves,
-                    n,
-                    g,
-                    i + 1,
-                    e,
-                    v.alpha,
-                    v.beta,
-                );
+                chance_over(kind, stop, weight, height, leaves, n, g, i + 1, e, a, b)
             }
-        }
+        };
         t = chance_after(g, t, w, r.low, r.high);
         n = r.used;
         if e == end {

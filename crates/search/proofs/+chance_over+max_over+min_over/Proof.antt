@@ -1,6 +1,6 @@
 -- The three searches, which call one another, meet their contracts: one loop over the children each. Assumes nothing.
 use Prim.Native.Nat.{ℕ, _-_, _≤_, _<_}
-use mathlib.Core.Path.{_≡_, refl, sym, ap, _∙_}
+use mathlib.Core.Path.{refl, sym, _∙_}
 use mathlib.Core.Logic.{⊎-elim}
 use native.Mathlib.Omega.{arith}
 use borrow.Author.Needs.{needs}
@@ -8,9 +8,9 @@ use borrow.Fn.Kinds.{In}
 use borrow.Fn.PlainCycle.{Measures, is, falls, and}
 use lib.ListN.{length, getD}
 use Rattle.table.specs.Tree.{MAX, MIN, CHANCE}
-use Rattle.search.specs.Inside.{slices, start, alphaFor, betaFor, after}
+use Rattle.search.specs.Inside.{slices, start, alphaFor, betaFor}
 use Rattle.search.proofs.Forest.{step, fit-weight, alpha-ok, beta-ok}
-use Rattle.search.proofs.Rules.{within, Going, going-start, NodeSearched, searched-same, searched-at, searched-leaf, searched-inner, Child, child-of, child-asks, child-three, child-leaf, Turn, turn-same, turn-less, turn-margin, turn-last, turn-cut, turn-on}
+use Rattle.search.proofs.Rules.{within, chance-state, Going, going-start, NodeSearched, searched-same, searched-window, searched-leaf, searched-inner, Child, child-of, child-asks, child-three, child-leaf, Turn, turn-same, turn-less, turn-margin, turn-last, turn-cut, turn-on}
 use Rattle.search.proofs.chance_over.Reads as chance-over
 use Rattle.search.proofs.chance_over.Kinds as chance-over-kinds
 use Rattle.search.proofs.+chance_over+max_over+min_over.Lts-chance_over as chance-over-lts
@@ -176,12 +176,12 @@ chance-over-joined t c =
     ⊎-elim
     (λ w. searched-same T (a .g) (l .i) (l .n) α β (l .leaves) (w .6) (w .5) (searched-leaf T (a .g) (l .i) (l .n) α β (l .leaves) (w .2 .result) (w .2 .last .1 .0) (sym (k .ensures) ∙ w .0 .taken) (w .2 .ensures)))
     (⊎-elim
-    (λ w. searched-same T (a .g) (l .i) (l .n) α β (l .leaves) (w .8) (w .7) (searched-at T (a .g) (l .i) (l .n) α β (l .leaves) (w .1 .ensures .0 ∙ ap (λ (y : ℕ). alphaFor CHANCE (a .g) y (l .t)) h) (w .1 .ensures .1 ∙ ap (λ (y : ℕ). betaFor CHANCE (a .g) y (l .t)) h)
+    (λ w. searched-same T (a .g) (l .i) (l .n) α β (l .leaves) (w .8) (w .7) (searched-window T (a .g) (l .t) (l .i) (l .n) (l .leaves) h (w .1 .ensures .0) (w .1 .ensures .1)
     (searched-inner T (a .g) (l .i) (l .n) (w .1 .result .alpha) (w .1 .result .beta) (l .leaves) (x .result) MAX (w .4 .result) (w .4 .last .1 .1 .1 .1 .0) (sym (k .ensures) ∙ w .2 .taken) (x .ensures) (w .4 .ensures) (w .4 .kept .1 .1 .1 .1 .0))))
     (⊎-elim
-    (λ w. searched-same T (a .g) (l .i) (l .n) α β (l .leaves) (w .9) (w .8) (searched-at T (a .g) (l .i) (l .n) α β (l .leaves) (w .1 .ensures .0 ∙ ap (λ (y : ℕ). alphaFor CHANCE (a .g) y (l .t)) h) (w .1 .ensures .1 ∙ ap (λ (y : ℕ). betaFor CHANCE (a .g) y (l .t)) h)
+    (λ w. searched-same T (a .g) (l .i) (l .n) α β (l .leaves) (w .9) (w .8) (searched-window T (a .g) (l .t) (l .i) (l .n) (l .leaves) h (w .1 .ensures .0) (w .1 .ensures .1)
     (searched-inner T (a .g) (l .i) (l .n) (w .1 .result .alpha) (w .1 .result .beta) (l .leaves) (x .result) MIN (w .5 .result) (w .5 .last .1 .1 .1 .1 .0) (sym (k .ensures) ∙ w .3 .taken) (x .ensures) (w .5 .ensures) (w .5 .kept .1 .1 .1 .1 .0))))
-    (λ w. searched-same T (a .g) (l .i) (l .n) α β (l .leaves) (w .9) (w .8) (searched-at T (a .g) (l .i) (l .n) α β (l .leaves) (w .1 .ensures .0 ∙ ap (λ (y : ℕ). alphaFor CHANCE (a .g) y (l .t)) h) (w .1 .ensures .1 ∙ ap (λ (y : ℕ). betaFor CHANCE (a .g) y (l .t)) h)
+    (λ w. searched-same T (a .g) (l .i) (l .n) α β (l .leaves) (w .9) (w .8) (searched-window T (a .g) (l .t) (l .i) (l .n) (l .leaves) h (w .1 .ensures .0) (w .1 .ensures .1)
     (searched-inner T (a .g) (l .i) (l .n) (w .1 .result .alpha) (w .1 .result .beta) (l .leaves) (x .result) CHANCE (w .5 .result) (w .5 .last .1 .1 .1 .1 .0) (child-three (chance-over-near t (c .before)) _ (k .ensures) (w .0 .left) (w .2 .left) (w .3 .left)) (x .ensures) (w .5 .ensures) (w .5 .kept .1 .1 .1 .1 .0))))))
     (c .if1 .came)
 
@@ -212,7 +212,7 @@ chance-over-turn t c =
       going = l .inv;
       stop = c .before .before .before .before .stop-at .ensures;
       told = S .tells;
-      state = f .ensures ∙ ap (λ (y : ℕ). after CHANCE (a .g) (l .i) y (l .t) (c .before .if1 .r .low) (c .before .if1 .r .high)) (c .before .before .weight-at .ensures);
+      state = chance-state (a .g) (l .i) (c .before .if1 .r) (l .t) (f .result) (f .ensures) (c .before .before .weight-at .ensures);
       kept = S .kept;
     }
 
