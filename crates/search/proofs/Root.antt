@@ -1,16 +1,16 @@
 -- The search of a whole table: what the calls at the root ask, and what they give. Assumes nothing.
-use Prim.Native.Nat.{ℕ, suc, _+_, _*_, _≤_, _<_}
+use Prim.Native.Nat.{ℕ, suc, _≤_, _<_}
 use mathlib.Core.Path.{_≡_, refl, sym, ap, subst, _∙_}
-use mathlib.Core.List.{List, [], _∷_, _++_}
+use mathlib.Core.List.{List, [], _∷_}
 use native.Mathlib.Omega.{arith}
-use lib.ListN.{length, getD, set, drop}
-use Rattle.table.specs.Tree.{Kind, MAX, Forest, end, leaf, inner, weigh, leaves}
+use lib.ListN.{length, set}
+use Rattle.table.specs.Tree.{MAX, Forest, end, leaf, inner, weigh, leaves}
 use Rattle.table.specs.Slices.{Slices, Spans, laid}
 use Rattle.table.specs.Accepted.{Rooted}
 use Rattle.search.specs.declared.Rule.{Rule}
 use Rattle.search.specs.declared.Found.{Found}
 use Rattle.search.specs.Search.{Seen, noPlay, searchRoot, search, point}
-use Rattle.search.specs.Heights.{natural, grained, frameOf, heightRules}
+use Rattle.search.specs.Heights.{natural, grained, heightRules}
 use Rattle.search.specs.Inside.{Answer, start, first, put, Gives, Fit, OkRule, ReadyRoot, Shows, Searched}
 use Rattle.search.proofs.Forest.{stopOf, spans-le, leaves-split, start-ok, start-kind, first-few}
 use Rattle.search.proofs.Rules.{NodeTold, ReadyNode}

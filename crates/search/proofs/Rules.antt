@@ -2,7 +2,7 @@
 use Prim.Native.Nat.{ℕ, _+_, _-_, _*_, _≤_, _<_}
 use mathlib.Core.Path.{_≡_, refl, sym, ap, ap₂, subst, subst₂, _∙_}
 use mathlib.Core.Bool.{Bool, true, false}
-use mathlib.Core.List.{List, [], _∷_, _++_}
+use mathlib.Core.List.{List}
 use native.Mathlib.Omega.{arith}
 use lib.ListN.{length, getD, set, length-set, length-append}
 use Rattle.table.specs.Tree.{Kind, MAX, MIN, CHANCE, Forest, end, leaf, inner, codeOf, isEnd, weigh, leaves}
@@ -12,7 +12,7 @@ use Rattle.search.specs.declared.Rule.{Rule}
 use Rattle.search.specs.declared.State.{State}
 use Rattle.search.specs.declared.Found.{Found}
 use Rattle.search.specs.Inside.{Answer, start, alphaFor, betaFor, afterChance, after, stops, cutLow, cutHigh, join, over, first, put, Gives, LeafAt, Fit, OkRule, OkBounds, OkKind, Holds, Ready}
-use Rattle.search.proofs.Forest.{put-put, stopOf, restOf, numberOf, weightOf, leaves-split, weigh-split, fit-rest, spans-lt, spans-last, spans-more, Step, step, over-step, alpha-ok, beta-ok, start-ok, start-kind, after-ok, after-kind, first-within, first-few}
+use Rattle.search.proofs.Forest.{put-put, stopOf, restOf, leaves-split, weigh-split, fit-rest, spans-lt, spans-last, spans-more, step, over-step, alpha-ok, beta-ok, start-ok, start-kind, after-ok, after-kind, first-within, first-few}
 
 -- what is told of the node at entry c, searched in the window α, β: its result r, and the list as it came and as it is now
 abbrev pub NodeTold : Slices → Rule → (c used α β : ℕ) → Found → List ℕ → List ℕ → Type 0

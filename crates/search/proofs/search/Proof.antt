@@ -1,13 +1,12 @@
 -- `search::search` meets its contract. Assumes nothing.
-use Prim.Native.Nat.{ℕ, _<_}
-use mathlib.Core.Path.{_≡_, sym, _∙_}
+use mathlib.Core.Path.{sym, _∙_}
 use native.Mathlib.Omega.{arith}
 use borrow.Author.Needs.{needs}
 use denote.Ref.{now}
-use lib.ListN.{length, getD}
+use lib.ListN.{length}
 use Rattle.table.specs.Tree.{MAX, MIN, CHANCE}
 use Rattle.search.specs.Inside.{slices}
-use Rattle.search.proofs.Rules.{ReadyNode, ready-inner, ready-three, ready-leaf, NodeSearched, searched-leaf, searched-inner}
+use Rattle.search.proofs.Rules.{ReadyNode, ready-inner, ready-three, ready-leaf, searched-leaf, searched-inner}
 use Rattle.search.proofs.Root.{root-ready, root-long, root-searched}
 use Rattle.search.proofs.search.Statement.{statement}
 use Rattle.search.proofs.search.Tie as tie
