@@ -167,22 +167,19 @@ chance-over-joined : (t : ℕ) (c : chance-over-lts.Joined1 (chance-over-claims 
 chance-over-joined t c =
     let a = c .before .before .before .before .before .before .before .before .before .before .args in
     let l = c .before .before .before .before .loop in
-    let T = (slices (a .kind .now) (a .stop .now) (a .weight .now) (a .height .now)) in
     let k = c .before .before .kind-at in
     let x = c .before .before .before .stop-at in
     let h = c .before .weight-at .ensures in
-    let α : ℕ = alphaFor CHANCE (a .g) (getD (a .weight .now) (l .i) 0) (l .t) in
-    let β : ℕ = betaFor CHANCE (a .g) (getD (a .weight .now) (l .i) 0) (l .t) in
     ⊎-elim
-    (λ w. searched-same T (a .g) (l .i) (l .n) α β (l .leaves) (w .6) (w .5) (searched-leaf T (a .g) (l .i) (l .n) α β (l .leaves) (w .2 .result) (w .2 .last .1 .0) (sym (k .ensures) ∙ w .0 .taken) (w .2 .ensures)))
+    (λ w. searched-same (w .6) (w .5) (searched-leaf (sym (k .ensures) ∙ w .0 .taken) (w .2 .ensures)))
     (⊎-elim
-    (λ w. searched-same T (a .g) (l .i) (l .n) α β (l .leaves) (w .8) (w .7) (searched-window T (a .g) (l .t) (l .i) (l .n) (l .leaves) h (w .1 .ensures .0) (w .1 .ensures .1)
-    (searched-inner T (a .g) (l .i) (l .n) (w .1 .result .alpha) (w .1 .result .beta) (l .leaves) (x .result) MAX (w .4 .result) (w .4 .last .1 .1 .1 .1 .0) (sym (k .ensures) ∙ w .2 .taken) (x .ensures) (w .4 .ensures) (w .4 .kept .1 .1 .1 .1 .0))))
+    (λ w. searched-same (w .8) (w .7) (searched-window (l .t) h (w .1 .ensures .0) (w .1 .ensures .1)
+    (searched-inner MAX (sym (k .ensures) ∙ w .2 .taken) (x .ensures) (w .4 .ensures) (w .4 .kept .1 .1 .1 .1 .0))))
     (⊎-elim
-    (λ w. searched-same T (a .g) (l .i) (l .n) α β (l .leaves) (w .9) (w .8) (searched-window T (a .g) (l .t) (l .i) (l .n) (l .leaves) h (w .1 .ensures .0) (w .1 .ensures .1)
-    (searched-inner T (a .g) (l .i) (l .n) (w .1 .result .alpha) (w .1 .result .beta) (l .leaves) (x .result) MIN (w .5 .result) (w .5 .last .1 .1 .1 .1 .0) (sym (k .ensures) ∙ w .3 .taken) (x .ensures) (w .5 .ensures) (w .5 .kept .1 .1 .1 .1 .0))))
-    (λ w. searched-same T (a .g) (l .i) (l .n) α β (l .leaves) (w .9) (w .8) (searched-window T (a .g) (l .t) (l .i) (l .n) (l .leaves) h (w .1 .ensures .0) (w .1 .ensures .1)
-    (searched-inner T (a .g) (l .i) (l .n) (w .1 .result .alpha) (w .1 .result .beta) (l .leaves) (x .result) CHANCE (w .5 .result) (w .5 .last .1 .1 .1 .1 .0) (child-three (chance-over-near t (c .before)) _ (k .ensures) (w .0 .left) (w .2 .left) (w .3 .left)) (x .ensures) (w .5 .ensures) (w .5 .kept .1 .1 .1 .1 .0))))))
+    (λ w. searched-same (w .9) (w .8) (searched-window (l .t) h (w .1 .ensures .0) (w .1 .ensures .1)
+    (searched-inner MIN (sym (k .ensures) ∙ w .3 .taken) (x .ensures) (w .5 .ensures) (w .5 .kept .1 .1 .1 .1 .0))))
+    (λ w. searched-same (w .9) (w .8) (searched-window (l .t) h (w .1 .ensures .0) (w .1 .ensures .1)
+    (searched-inner CHANCE (child-three (chance-over-near t (c .before)) _ (k .ensures) (w .0 .left) (w .2 .left) (w .3 .left)) (x .ensures) (w .5 .ensures) (w .5 .kept .1 .1 .1 .1 .0))))))
     (c .if1 .came)
 
 chance-over-chance-after-requires : (t : ℕ) → chance-over-lts.Need-chance-after-requires (chance-over-claims t) (chance-over-at t) chance-over.Post chance-over-Inv-loop chance-over-μ-loop
@@ -309,18 +306,15 @@ max-over-joined : (t : ℕ) (c : max-over-lts.Joined1 (max-over-claims t) (max-o
 max-over-joined t c =
     let a = c .before .before .before .before .before .before .before .before .before .args in
     let l = c .before .before .before .loop in
-    let T = (slices (a .kind .now) (a .stop .now) (a .weight .now) (a .height .now)) in
     let k = c .before .kind-at in
     let x = c .before .before .stop-at in
-    let α : ℕ = l .t .alpha in
-    let β : ℕ = l .t .beta in
     ⊎-elim
-    (λ w. searched-same T (a .g) (l .i) (l .n) α β (l .leaves) (w .6) (w .5) (searched-leaf T (a .g) (l .i) (l .n) α β (l .leaves) (w .2 .result) (w .2 .last .1 .0) (sym (k .ensures) ∙ w .0 .taken) (w .2 .ensures)))
+    (λ w. searched-same (w .6) (w .5) (searched-leaf (sym (k .ensures) ∙ w .0 .taken) (w .2 .ensures)))
     (⊎-elim
-    (λ w. searched-same T (a .g) (l .i) (l .n) α β (l .leaves) (w .7) (w .6) (searched-inner T (a .g) (l .i) (l .n) α β (l .leaves) (x .result) MAX (w .3 .result) (w .3 .last .1 .1 .1 .1 .0) (sym (k .ensures) ∙ w .1 .taken) (x .ensures) (w .3 .ensures) (w .3 .kept .1 .1 .1 .1 .0)))
+    (λ w. searched-same (w .7) (w .6) (searched-inner MAX (sym (k .ensures) ∙ w .1 .taken) (x .ensures) (w .3 .ensures) (w .3 .kept .1 .1 .1 .1 .0)))
     (⊎-elim
-    (λ w. searched-same T (a .g) (l .i) (l .n) α β (l .leaves) (w .8) (w .7) (searched-inner T (a .g) (l .i) (l .n) α β (l .leaves) (x .result) MIN (w .4 .result) (w .4 .last .1 .1 .1 .1 .0) (sym (k .ensures) ∙ w .2 .taken) (x .ensures) (w .4 .ensures) (w .4 .kept .1 .1 .1 .1 .0)))
-    (λ w. searched-same T (a .g) (l .i) (l .n) α β (l .leaves) (w .8) (w .7) (searched-inner T (a .g) (l .i) (l .n) α β (l .leaves) (x .result) CHANCE (w .4 .result) (w .4 .last .1 .1 .1 .1 .0) (child-three (max-over-child t (c .before)) _ (k .ensures) (w .0 .left) (w .1 .left) (w .2 .left)) (x .ensures) (w .4 .ensures) (w .4 .kept .1 .1 .1 .1 .0)))))
+    (λ w. searched-same (w .8) (w .7) (searched-inner MIN (sym (k .ensures) ∙ w .2 .taken) (x .ensures) (w .4 .ensures) (w .4 .kept .1 .1 .1 .1 .0)))
+    (λ w. searched-same (w .8) (w .7) (searched-inner CHANCE (child-three (max-over-child t (c .before)) _ (k .ensures) (w .0 .left) (w .1 .left) (w .2 .left)) (x .ensures) (w .4 .ensures) (w .4 .kept .1 .1 .1 .1 .0)))))
     (c .if1 .came)
 
 max-over-max-after-requires : (t : ℕ) → max-over-lts.Need-max-after-requires (max-over-claims t) (max-over-at t) max-over.Post max-over-Inv-loop max-over-μ-loop
@@ -440,18 +434,15 @@ min-over-joined : (t : ℕ) (c : min-over-lts.Joined1 (min-over-claims t) (min-o
 min-over-joined t c =
     let a = c .before .before .before .before .before .before .before .before .before .args in
     let l = c .before .before .before .loop in
-    let T = (slices (a .kind .now) (a .stop .now) (a .weight .now) (a .height .now)) in
     let k = c .before .kind-at in
     let x = c .before .before .stop-at in
-    let α : ℕ = l .t .alpha in
-    let β : ℕ = l .t .beta in
     ⊎-elim
-    (λ w. searched-same T (a .g) (l .i) (l .n) α β (l .leaves) (w .6) (w .5) (searched-leaf T (a .g) (l .i) (l .n) α β (l .leaves) (w .2 .result) (w .2 .last .1 .0) (sym (k .ensures) ∙ w .0 .taken) (w .2 .ensures)))
+    (λ w. searched-same (w .6) (w .5) (searched-leaf (sym (k .ensures) ∙ w .0 .taken) (w .2 .ensures)))
     (⊎-elim
-    (λ w. searched-same T (a .g) (l .i) (l .n) α β (l .leaves) (w .7) (w .6) (searched-inner T (a .g) (l .i) (l .n) α β (l .leaves) (x .result) MAX (w .3 .result) (w .3 .last .1 .1 .1 .1 .0) (sym (k .ensures) ∙ w .1 .taken) (x .ensures) (w .3 .ensures) (w .3 .kept .1 .1 .1 .1 .0)))
+    (λ w. searched-same (w .7) (w .6) (searched-inner MAX (sym (k .ensures) ∙ w .1 .taken) (x .ensures) (w .3 .ensures) (w .3 .kept .1 .1 .1 .1 .0)))
     (⊎-elim
-    (λ w. searched-same T (a .g) (l .i) (l .n) α β (l .leaves) (w .8) (w .7) (searched-inner T (a .g) (l .i) (l .n) α β (l .leaves) (x .result) MIN (w .4 .result) (w .4 .last .1 .1 .1 .1 .0) (sym (k .ensures) ∙ w .2 .taken) (x .ensures) (w .4 .ensures) (w .4 .kept .1 .1 .1 .1 .0)))
-    (λ w. searched-same T (a .g) (l .i) (l .n) α β (l .leaves) (w .8) (w .7) (searched-inner T (a .g) (l .i) (l .n) α β (l .leaves) (x .result) CHANCE (w .4 .result) (w .4 .last .1 .1 .1 .1 .0) (child-three (min-over-child t (c .before)) _ (k .ensures) (w .0 .left) (w .1 .left) (w .2 .left)) (x .ensures) (w .4 .ensures) (w .4 .kept .1 .1 .1 .1 .0)))))
+    (λ w. searched-same (w .8) (w .7) (searched-inner MIN (sym (k .ensures) ∙ w .2 .taken) (x .ensures) (w .4 .ensures) (w .4 .kept .1 .1 .1 .1 .0)))
+    (λ w. searched-same (w .8) (w .7) (searched-inner CHANCE (child-three (min-over-child t (c .before)) _ (k .ensures) (w .0 .left) (w .1 .left) (w .2 .left)) (x .ensures) (w .4 .ensures) (w .4 .kept .1 .1 .1 .1 .0)))))
     (c .if1 .came)
 
 min-over-min-after-requires : (t : ℕ) → min-over-lts.Need-min-after-requires (min-over-claims t) (min-over-at t) min-over.Post min-over-Inv-loop min-over-μ-loop
