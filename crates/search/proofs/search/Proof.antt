@@ -39,9 +39,11 @@ same-length-2 c = search needs
 
 returns-2 : tie.Need-returns-2
 returns-2 c =
-    let a = c .before .before .before .before .before .before .before .before .before .before .before .before .args in
+    let p = c .before .before .before .before .before .before in
+    let a = p .before .before .before .before .before .before .args in
     let f = c .before .before .max-over in
-    root-searched (searched-inner {t = slices (now (a .kind)) (now (a .stop)) (now (a .weight)) (now (a .height))} MAX (sym (c .before .before .before .before .before .before .kind-at .ensures) ∙ c .before .before .before .before .if2 .taken) (sym (root (c .before .before .before .before .before .before) .stop)) (f .ensures) (f .kept .1 .1 .1 .1 .0))
+    let T = slices (now (a .kind)) (now (a .stop)) (now (a .weight)) (now (a .height)) in
+    root-searched (searched-inner {t = T} MAX (sym (p .kind-at .ensures) ∙ c .before .before .before .before .if2 .taken) (sym (root p .stop)) (f .ensures) (f .kept .1 .1 .1 .1 .0))
 
 min-over-requires : tie.Need-min-over-requires
 min-over-requires c κs = ready-inner (root (c .before .before .before .before)) MIN (sym (c .before .before .before .before .kind-at .ensures) ∙ c .before .if3 .taken)
@@ -51,21 +53,27 @@ same-length-3 c = search needs
 
 returns-3 : tie.Need-returns-3
 returns-3 c =
-    let a = c .before .before .before .before .before .before .before .before .before .before .before .before .before .args in
+    let p = c .before .before .before .before .before .before .before in
+    let a = p .before .before .before .before .before .before .args in
     let f = c .before .before .min-over in
-    root-searched (searched-inner {t = slices (now (a .kind)) (now (a .stop)) (now (a .weight)) (now (a .height))} MIN (sym (c .before .before .before .before .before .before .before .kind-at .ensures) ∙ c .before .before .before .before .if3 .taken) (sym (root (c .before .before .before .before .before .before .before) .stop)) (f .ensures) (f .kept .1 .1 .1 .1 .0))
+    let T = slices (now (a .kind)) (now (a .stop)) (now (a .weight)) (now (a .height)) in
+    root-searched (searched-inner {t = T} MIN (sym (p .kind-at .ensures) ∙ c .before .before .before .before .if3 .taken) (sym (root p .stop)) (f .ensures) (f .kept .1 .1 .1 .1 .0))
 
 chance-over-requires : tie.Need-chance-over-requires
-chance-over-requires c κs = ready-inner (root (c .before .before .before .before)) CHANCE (ready-three (root (c .before .before .before .before)) _ (c .before .before .before .before .kind-at .ensures) (c .before .before .before .if1 .left) (c .before .before .if2 .left) (c .before .if3 .left))
+chance-over-requires c κs =
+    let p = c .before .before .before .before in
+    ready-inner (root p) CHANCE (ready-three (root p) _ (p .kind-at .ensures) (c .before .before .before .if1 .left) (c .before .before .if2 .left) (c .before .if3 .left))
 
 same-length-4 : tie.Need-same-length-4
 same-length-4 c = search needs
 
 returns-4 : tie.Need-returns-4
 returns-4 c =
-    let a = c .before .before .before .before .before .before .before .before .before .before .before .before .before .args in
+    let p = c .before .before .before .before .before .before .before in
+    let a = p .before .before .before .before .before .before .args in
     let f = c .before .before .chance-over in
-    root-searched (searched-inner {t = slices (now (a .kind)) (now (a .stop)) (now (a .weight)) (now (a .height))} CHANCE (ready-three (root (c .before .before .before .before .before .before .before)) _ (c .before .before .before .before .before .before .before .kind-at .ensures) (c .before .before .before .before .before .before .if1 .left) (c .before .before .before .before .before .if2 .left) (c .before .before .before .before .if3 .left)) (sym (root (c .before .before .before .before .before .before .before) .stop)) (f .ensures) (f .kept .1 .1 .1 .1 .0))
+    let T = slices (now (a .kind)) (now (a .stop)) (now (a .weight)) (now (a .height)) in
+    root-searched (searched-inner {t = T} CHANCE (ready-three (root p) _ (p .kind-at .ensures) (c .before .before .before .before .before .before .if1 .left) (c .before .before .before .before .before .if2 .left) (c .before .before .before .before .if3 .left)) (sym (root p .stop)) (f .ensures) (f .kept .1 .1 .1 .1 .0))
 
 pub search-spec : {M : Type 1} → statement M
 search-spec =
