@@ -191,7 +191,7 @@ fn leaf_at(height: &[u32], leaves: &mut [u16], used: usize, c: usize, grain: u64
     }
 }
 
-// The children of an M, entries c up to end, in the window alpha, beta.
+// The children of an M, entries c up to end, in the window alpha, beta. (As the value of the `if`, r would be copied once more.)
 fn max_over(
     kind: &[u8],
     stop: &[u16],
@@ -222,15 +222,21 @@ fn max_over(
         let k = kind_at(kind, i);
         let a = t.alpha;
         let b = t.beta;
-        let r = if k == 0 {
-            leaf_at(height, leaves, n, i, g.grain)
-        } else if k == 1 {
-            max_over(kind, stop, weight, height, leaves, n, g, i + 1, e, a, b)
-        } else if k == 2 {
-            min_over(kind, stop, weight, height, leaves, n, g, i + 1, e, a, b)
-        } else {
-            chance_over(kind, stop, weight, height, leaves, n, g, i + 1, e, a, b)
+        let mut r = Found {
+            low: 0,
+            high: 0,
+            play: 0,
+            used: n,
         };
+        if k == 0 {
+            r = leaf_at(height, leaves, n, i, g.grain);
+        } else if k == 1 {
+            r = max_over(kind, stop, weight, height, leaves, n, g, i + 1, e, a, b);
+        } else if k == 2 {
+            r = min_over(kind, stop, weight, height, leaves, n, g, i + 1, e, a, b);
+        } else {
+            r = chance_over(kind, stop, weight, height, leaves, n, g, i + 1, e, a, b);
+        }
         t = max_after(i, t, r.low, r.high);
         n = r.used;
         if e == end {
@@ -284,15 +290,21 @@ fn min_over(
         let k = kind_at(kind, i);
         let a = t.alpha;
         let b = t.beta;
-        let r = if k == 0 {
-            leaf_at(height, leaves, n, i, g.grain)
-        } else if k == 1 {
-            max_over(kind, stop, weight, height, leaves, n, g, i + 1, e, a, b)
-        } else if k == 2 {
-            min_over(kind, stop, weight, height, leaves, n, g, i + 1, e, a, b)
-        } else {
-            chance_over(kind, stop, weight, height, leaves, n, g, i + 1, e, a, b)
+        let mut r = Found {
+            low: 0,
+            high: 0,
+            play: 0,
+            used: n,
         };
+        if k == 0 {
+            r = leaf_at(height, leaves, n, i, g.grain);
+        } else if k == 1 {
+            r = max_over(kind, stop, weight, height, leaves, n, g, i + 1, e, a, b);
+        } else if k == 2 {
+            r = min_over(kind, stop, weight, height, leaves, n, g, i + 1, e, a, b);
+        } else {
+            r = chance_over(kind, stop, weight, height, leaves, n, g, i + 1, e, a, b);
+        }
         t = min_after(i, t, r.low, r.high);
         n = r.used;
         if e == end {
@@ -345,20 +357,26 @@ fn chance_over(
         let e = stop_at(stop, i);
         let k = kind_at(kind, i);
         let w = weight_at(weight, i);
-        let r = if k == 0 {
-            leaf_at(height, leaves, n, i, g.grain)
+        let mut r = Found {
+            low: 0,
+            high: 0,
+            play: 0,
+            used: n,
+        };
+        if k == 0 {
+            r = leaf_at(height, leaves, n, i, g.grain);
         } else {
             let v = chance_window(g, t, w);
             let a = v.alpha;
             let b = v.beta;
             if k == 1 {
-                max_over(kind, stop, weight, height, leaves, n, g, i + 1, e, a, b)
+                r = max_over(kind, stop, weight, height, leaves, n, g, i + 1, e, a, b);
             } else if k == 2 {
-                min_over(kind, stop, weight, height, leaves, n, g, i + 1, e, a, b)
+                r = min_over(kind, stop, weight, height, leaves, n, g, i + 1, e, a, b);
             } else {
-                chance_over(kind, stop, weight, height, leaves, n, g, i + 1, e, a, b)
+                r = chance_over(kind, stop, weight, height, leaves, n, g, i + 1, e, a, b);
             }
-        };
+        }
         t = chance_after(g, t, w, r.low, r.high);
         n = r.used;
         if e == end {
