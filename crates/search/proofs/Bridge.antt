@@ -1,18 +1,18 @@
 -- The search as the code makes it is Algorithm 1 over heights. Assumes nothing.
 -- The code keeps the number of the best child alone: that child's low is the low of an M so far, and its high the high of an N.
-use Prim.Native.Nat.{ℕ, _+_, _-_, _*_, _/_, _≤_, _<_, min, max}
+use Prim.Native.Nat.{ℕ, _+_, _-_, _*_, _/_, _≤_, _<_, max}
 use mathlib.Core.Path.{_≡_, refl, sym, ap, ap₂, subst, _∙_}
-use mathlib.Core.Bool.{Bool, true, false, _||_, cond}
+use mathlib.Core.Bool.{Bool, true, false, cond}
 use mathlib.Core.List.{List, [], _∷_, _++_, append-nil, append-assoc}
 use native.Mathlib.Omega.{arith}
 use borrow.Author.Tests.{ltb-true, ltb-false, ne-eqb}
-use lib.Dec.{eqb, leb, ltb}
+use lib.Dec.{ltb}
 use Rattle.table.specs.Tree.{Kind, MAX, MIN, CHANCE, Forest, end, leaf, inner, isEnd, weigh}
 use Rattle.table.specs.Slices.{Slices, Spans}
 use Rattle.search.specs.declared.Rule.{Rule}
 use Rattle.search.specs.declared.State.{State}
 use Rattle.search.specs.Search as alg
-use Rattle.search.specs.Search.{Play, noPlay, child, Seen, scan, take, prefer, better, beats, begin, firstLow, firstHigh, cut, finish, point, runLow, runHigh, lower, upper, nextLow, nextHigh, stop, nodeOf}
+use Rattle.search.specs.Search.{Play, noPlay, child, Seen, scan, take, prefer, beats, begin, cut, finish, point, lower, upper, stop, nodeOf}
 use Rattle.search.specs.Heights.{natural, grained, frameOf, heightRules}
 use Rattle.search.specs.Inside.{Answer, start, alphaFor, betaFor, preferred, after, stops, cutLow, cutHigh, join, over, Fit, OkRule, OkBounds, OkKind, playAt}
 use Rattle.search.proofs.Forest.{stopOf, spans-le, Within, alpha-ok, beta-ok, start-ok, start-kind, after-ok, after-kind, over-within}

@@ -1,19 +1,19 @@
 -- The search of a whole table: what the calls at the root ask, and what they give. Assumes nothing.
-use Prim.Native.Nat.{ℕ, suc, _+_, _*_, _≤_, _<_}
+use Prim.Native.Nat.{ℕ, suc, _≤_, _<_}
 use mathlib.Core.Path.{_≡_, refl, sym, ap, subst, _∙_}
-use mathlib.Core.List.{List, [], _∷_, _++_}
+use mathlib.Core.List.{List, [], _∷_}
 use native.Mathlib.Omega.{arith}
-use lib.ListN.{length, getD, set, drop}
-use Rattle.table.specs.Tree.{Kind, MAX, Forest, end, leaf, inner, weigh, leaves}
+use lib.ListN.{length, set}
+use Rattle.table.specs.Tree.{MAX, Forest, end, leaf, inner, weigh, leaves}
 use Rattle.table.specs.Slices.{Slices, Spans, laid}
 use Rattle.table.specs.Accepted.{Rooted}
 use Rattle.search.specs.declared.Rule.{Rule}
 use Rattle.search.specs.declared.Found.{Found}
 use Rattle.search.specs.Search.{Seen, noPlay, searchRoot, search, point}
-use Rattle.search.specs.Heights.{natural, grained, frameOf, heightRules}
+use Rattle.search.specs.Heights.{natural, grained, heightRules}
 use Rattle.search.specs.Inside.{Answer, start, first, put, Gives, Fit, OkRule, ReadyRoot, Shows, Searched, playAt}
 use Rattle.search.proofs.Forest.{stopOf, spans-le, leaves-split, start-ok, start-kind, first-few}
-use Rattle.search.proofs.Rules.{NodeTold, ReadyNode}
+use Rattle.search.proofs.Rules.{ReadyNode, NodeSearched}
 use Rattle.search.proofs.Bridge.{Agrees, begin-lift, plays-start, bridge}
 
 -- ---- a list written from its front
@@ -48,8 +48,8 @@ root-some t n (inner i w k under rest) s r =
     let y = spans-le t (stopOf t 0) n rest (s .4) in
     omega arith
 
-pub root-ready : (t : Slices) (g : Rule) (n room : ℕ) → ReadyRoot t g n room → ReadyNode t g 0 n 0 room 0 (g .top)
-root-ready t g n room R =
+pub root-ready : {t : Slices} {g : Rule} {n room : ℕ} → ReadyRoot t g n room → ReadyNode t g 0 n 0 room 0 (g .top)
+root-ready {t} {g} {n} R =
     record {
       nodes = R .nodes;
       parent = MAX;
@@ -65,8 +65,8 @@ root-ready t g n room R =
       space = omega (arith, R .space);
     }
 
-pub root-long : (t : Slices) (g : Rule) (n room : ℕ) → ReadyRoot t g n room → (0 < length (t .kinds)) × (0 < length (t .heights))
-root-long t g n room R =
+pub root-long : {t : Slices} {g : Rule} {n room : ℕ} → ReadyRoot t g n room → (0 < length (t .kinds)) × (0 < length (t .heights))
+root-long {t} {g} {n} R =
     let x = root-some t n (R .nodes) (R .spans) (R .rooted) in
     (omega (arith, x, R .holds .kinds), omega (arith, x, R .holds .heights))
 
@@ -91,10 +91,10 @@ shown r A a came now few G (p, e, n) =
     })
 
 -- what is told of the root is the search of the table
-pub root-searched : (t : Slices) (g : Rule) (n : ℕ) (r : Found) (came now : List ℕ) → NodeTold t g 0 0 0 (g .top) r came now → Searched t g n r came now
-root-searched t g n r came now told R =
+pub root-searched : {t : Slices} {g : Rule} {n : ℕ} {r : Found} {came now : List ℕ} → NodeSearched t g 0 0 0 (g .top) came r now → Searched t g n r came now
+root-searched {t} {g} {n} {r} {came} {now} S R =
     let F = R .nodes in
     shown r (searchRoot natural (heightRules (g .top) (g .total) (g .margin)) (grained (g .grain) F)) (first g F 0 (g .top)) came now
     (omega (arith, first-few g F 0 (g .top), leaves-split F, R .space))
-    (told F n (R .spans) (root-some t n F (R .spans) (R .rooted)))
+    (S .tells F n (R .spans) (root-some t n F (R .spans) (R .rooted)))
     (root-agrees t n g F (R .spans) (R .rooted) (R .rule) (R .fit))

@@ -1,11 +1,11 @@
 -- An accepted table can be searched, and what `search` gives for it is the search of the table. Assumes nothing.
 use Prim.Native.Nat.{ℕ, suc, _*_, _≤_}
 use mathlib.Core.Path.{_≡_, refl, subst}
-use mathlib.Core.Bool.{Bool, true}
+use mathlib.Core.Bool.{Bool}
 use mathlib.Core.List.{List}
 use native.Mathlib.Nat.{mul-le-mul-right}
 use native.Mathlib.Omega.{arith}
-use lib.ListN.{length, take, drop, length-append, length-map}
+use lib.ListN.{length, drop, length-append, length-map}
 use lib.Seq.{take-all}
 use Rattle.line.specs.declared.Line.{Line}
 use Rattle.line.specs.Line.{Weighs}
@@ -13,7 +13,7 @@ use Rattle.line.specs.Refusal.{fine}
 use Rattle.table.specs.Tree.{Kind, MAX, Forest, end, leaf, inner, isChance}
 use Rattle.table.specs.Table.{Table, readText, greatest, leafLines, grain}
 use Rattle.table.specs.Slices.{Slices, heightOf, kindsOf, stopsOf, weightsOf, heightsOf, fitted, heightTree}
-use Rattle.table.specs.Accepted.{span, one, Filled, Balanced, Proper}
+use Rattle.table.specs.Accepted.{span, Filled, Balanced, Proper}
 use Rattle.table.proofs.Accepted.{accepted-ranged, accepted-size, accepted-grain, accepted-lent, heights-rooted, heights-proper, heights-filled, heights-balanced, heights-leaves}
 use Rattle.worth.proofs.Worth.{span-grains}
 use Rattle.worth.proofs.Text.{ends-length}

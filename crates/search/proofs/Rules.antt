@@ -2,7 +2,7 @@
 use Prim.Native.Nat.{ℕ, _+_, _-_, _*_, _≤_, _<_}
 use mathlib.Core.Path.{_≡_, refl, sym, ap, ap₂, subst, subst₂, _∙_}
 use mathlib.Core.Bool.{Bool, true, false}
-use mathlib.Core.List.{List, [], _∷_, _++_}
+use mathlib.Core.List.{List}
 use native.Mathlib.Omega.{arith}
 use lib.ListN.{length, getD, set, length-set, length-append}
 use Rattle.table.specs.Tree.{Kind, MAX, MIN, CHANCE, Forest, end, leaf, inner, codeOf, isEnd, weigh, leaves}
@@ -11,8 +11,8 @@ use Rattle.table.specs.Accepted.{Sums}
 use Rattle.search.specs.declared.Rule.{Rule}
 use Rattle.search.specs.declared.State.{State}
 use Rattle.search.specs.declared.Found.{Found}
-use Rattle.search.specs.Inside.{Answer, start, alphaFor, betaFor, after, stops, cutLow, cutHigh, join, over, first, put, Gives, LeafAt, Fit, OkRule, OkBounds, OkKind, Holds, Ready}
-use Rattle.search.proofs.Forest.{put-put, stopOf, restOf, numberOf, weightOf, leaves-split, weigh-split, fit-rest, spans-lt, spans-last, spans-more, Step, step, over-step, alpha-ok, beta-ok, start-ok, start-kind, after-ok, after-kind, first-within, first-few}
+use Rattle.search.specs.Inside.{Answer, start, alphaFor, betaFor, afterChance, after, stops, cutLow, cutHigh, join, over, first, put, Gives, LeafAt, Fit, OkRule, OkBounds, OkKind, Holds, Ready, Told}
+use Rattle.search.proofs.Forest.{put-put, stopOf, restOf, leaves-split, weigh-split, fit-rest, spans-lt, spans-last, spans-more, step, over-step, alpha-ok, beta-ok, start-ok, start-kind, after-ok, after-kind, first-within, first-few}
 
 -- what is told of the node at entry c, searched in the window α, β: its result r, and the list as it came and as it is now
 abbrev pub NodeTold : Slices → Rule → (c used α β : ℕ) → Found → List ℕ → List ℕ → Type 0
@@ -212,29 +212,22 @@ module _ (t : Slices) (g : Rule) (c x used room α β : ℕ) where
         space = omega arith;
       }
 
-  pub ready-inner : ReadyNode t g c x used room α β → (j : Kind) → getD (t .kinds) c 0 ≡ codeOf j → Ready t g j (start j g α β) (c + 1) x used room
-  ready-inner N j z = ready-under (N .parent) j (N .upto) (N .nodes) (N .spans) (N .fit) (N .some) z (N .stop) (N .rule) (N .alpha) (N .beta) (N .holds) (N .space)
+module _ {t : Slices} {g : Rule} {c x used room α β : ℕ} (N : ReadyNode t g c x used room α β) where
+  pub ready-inner : (j : Kind) → getD (t .kinds) c 0 ≡ codeOf j → Ready t g j (start j g α β) (c + 1) x used room
+  ready-inner j z =
+      ready-under t g c x used room α β (N .parent) j (N .upto) (N .nodes) (N .spans) (N .fit) (N .some) z (N .stop) (N .rule) (N .alpha) (N .beta) (N .holds) (N .space)
 
-  pub ready-three : ReadyNode t g c x used room α β → (y : ℕ) → y ≡ getD (t .kinds) c 0 → (y ≡ 0 → ⊥) → (y ≡ 1 → ⊥) → (y ≡ 2 → ⊥) → getD (t .kinds) c 0 ≡ 3
-  ready-three N y q n0 n1 n2 = spans-three t c (N .upto) (N .nodes) (N .spans) (N .some) (λ z. n0 (q ∙ z)) (λ z. n1 (q ∙ z)) (λ z. n2 (q ∙ z))
+  -- y is the kind that was read
+  pub ready-three : (y : ℕ) → y ≡ getD (t .kinds) c 0 → (y ≡ 0 → ⊥) → (y ≡ 1 → ⊥) → (y ≡ 2 → ⊥) → getD (t .kinds) c 0 ≡ 3
+  ready-three y q n0 n1 n2 = spans-three t c (N .upto) (N .nodes) (N .spans) (N .some) (λ z. n0 (q ∙ z)) (λ z. n1 (q ∙ z)) (λ z. n2 (q ∙ z))
 
-  pub ready-leaf : ReadyNode t g c x used room α β → getD (t .kinds) c 0 ≡ 0 → (used < room) × (getD (t .heights) c 0 * g .grain < 9223372036854775808)
-  ready-leaf N z =
+  pub ready-leaf : getD (t .kinds) c 0 ≡ 0 → (used < room) × (getD (t .heights) c 0 * g .grain < 9223372036854775808)
+  ready-leaf z =
       let L = spans-leaf t g (N .parent) c (N .upto) (N .nodes) (N .spans) (N .some) (N .fit) z in
       (omega (arith, L .1, N .space), omega (arith, L .0, N .rule .top))
 
--- the node at entry c was searched in the window α, β
-pub record NodeSearched (t : Slices) (g : Rule) (c used α β : ℕ) (came : List ℕ) (r : Found) (now : List ℕ) : Type 0 where
-  pub tells : NodeTold t g c used α β r came now
-  pub kept : length now ≡ length came
-
+-- what is told of a leaf, and of an inner node from what is told of its children
 module _ (t : Slices) (g : Rule) (c used α β : ℕ) (came : List ℕ) where
-  pub searched-same : {r r′ : Found} {now now′ : List ℕ} → r ≡ r′ → now ≡ now′ → NodeSearched t g c used α β came r′ now′ → NodeSearched t g c used α β came r now
-  searched-same p q h = subst₂ (λ (r : Found) (now : List ℕ). NodeSearched t g c used α β came r now) (sym p) (sym q) h
-
-  pub searched-at : {α′ β′ : ℕ} {r : Found} {now : List ℕ} → α′ ≡ α → β′ ≡ β → NodeSearched t g c used α′ β′ came r now → NodeSearched t g c used α β came r now
-  searched-at {r = r} {now = now} p q h = subst₂ (λ (α β : ℕ). NodeSearched t g c used α β came r now) p q h
-
   leaf-tells : (r : Found) (now : List ℕ) → getD (t .kinds) c 0 ≡ 0 → LeafAt r (getD (t .heights) c 0 * g .grain) used c came now → NodeTold t g c used α β r came now
   unfolding Spans first put
   leaf-tells r now z L end e is lt = absurd (omega arith)
@@ -243,21 +236,41 @@ module _ (t : Slices) (g : Rule) (c used α β : ℕ) (came : List ℕ) where
       record { low = L .low ∙ v; high = L .high ∙ v; play = L .play; used = L .used; leaves = L .leaves ∙ ap (λ (n : ℕ). set came used n) (sym (is .0)) }
   leaf-tells r now z L (inner i w j under rest) e is lt = absurd (omega (arith, code-pos j, is .1))
 
-  pub searched-leaf : (r : Found) (now : List ℕ) → getD (t .kinds) c 0 ≡ 0 → LeafAt r (getD (t .heights) c 0 * g .grain) used c came now → NodeSearched t g c used α β came r now
-  searched-leaf r now z L = record { tells = leaf-tells r now z L; kept = ap length (L .leaves) ∙ length-set came used c }
-
-  inner-tells : (x : ℕ) (j : Kind) (r : Found) (now : List ℕ) → getD (t .kinds) c 0 ≡ codeOf j → stopOf t c ≡ x
-      → ((H : Forest ℕ) → Spans t (c + 1) x H → Gives r (over j g H (start j g α β)) used came now) → NodeTold t g c used α β r came now
+  inner-tells : (x : ℕ) (j : Kind) (r : Found) (now : List ℕ) → getD (t .kinds) c 0 ≡ codeOf j → x ≡ stopOf t c
+      → Told t g j (c + 1) x used α β r came now → NodeTold t g c used α β r came now
   unfolding Spans first
   inner-tells x j r now z q more end e is lt = absurd (omega arith)
   inner-tells x j r now z q more (leaf i w y rest) e is lt = absurd (omega (arith, code-pos j, is .1))
   inner-tells x j r now z q more (inner i w j′ under rest) e is lt =
       subst (λ (y : Kind). Gives r (over y g under (start y g α β)) used came now) (code-inj j j′ (sym z ∙ is .1))
-      (more under (subst (λ (n : ℕ). Spans t (c + 1) n under) q (is .3)))
+      (more under (subst (λ (n : ℕ). Spans t (c + 1) n under) (sym q) (is .3)))
 
-  pub searched-inner : (x : ℕ) (j : Kind) (r : Found) (now : List ℕ) → getD (t .kinds) c 0 ≡ codeOf j → x ≡ stopOf t c
-      → ((H : Forest ℕ) → Spans t (c + 1) x H → Gives r (over j g H (start j g α β)) used came now) → length now ≡ length came → NodeSearched t g c used α β came r now
-  searched-inner x j r now z q more kept = record { tells = inner-tells x j r now z (sym q) more; kept = kept }
+-- the node at entry c was searched in the window α, β
+pub record NodeSearched (t : Slices) (g : Rule) (c used α β : ℕ) (came : List ℕ) (r : Found) (now : List ℕ) : Type 0 where
+  pub tells : NodeTold t g c used α β r came now
+  pub kept : length now ≡ length came
+
+module _ {t : Slices} {g : Rule} {c used α β : ℕ} {came : List ℕ} where
+  pub searched-same : {r r′ : Found} {now now′ : List ℕ} → r ≡ r′ → now ≡ now′ → NodeSearched t g c used α β came r′ now′ → NodeSearched t g c used α β came r now
+  searched-same p q h = subst₂ (λ (r : Found) (now : List ℕ). NodeSearched t g c used α β came r now) (sym p) (sym q) h
+
+  pub searched-leaf : {r : Found} {now : List ℕ} → getD (t .kinds) c 0 ≡ 0 → LeafAt r (getD (t .heights) c 0 * g .grain) used c came now → NodeSearched t g c used α β came r now
+  searched-leaf {r} {now} z L = record { tells = leaf-tells t g c used α β came r now z L; kept = ap length (L .leaves) ∙ length-set came used c }
+
+  pub searched-inner : {x : ℕ} (j : Kind) {r : Found} {now : List ℕ} → getD (t .kinds) c 0 ≡ codeOf j → x ≡ stopOf t c
+      → Told t g j (c + 1) x used α β r came now → length now ≡ length came → NodeSearched t g c used α β came r now
+  searched-inner {x} j {r} {now} z q more kept = record { tells = inner-tells t g c used α β came x j r now z q more; kept = kept }
+
+-- ---- a C's child: the weight that was read is the one in the slice
+
+pub searched-window : {t : Slices} {g : Rule} (s : State) {c used : ℕ} {came : List ℕ} {w α β : ℕ} {r : Found} {now : List ℕ} → w ≡ getD (t .weights) c 0
+    → α ≡ alphaFor CHANCE g w s → β ≡ betaFor CHANCE g w s → NodeSearched t g c used α β came r now
+    → NodeSearched t g c used (alphaFor CHANCE g (getD (t .weights) c 0) s) (betaFor CHANCE g (getD (t .weights) c 0) s) came r now
+searched-window {t} {g} s {c} {used} {came} {r = r} {now = now} e p q h =
+    subst₂ (λ (α β : ℕ). NodeSearched t g c used α β came r now) (p ∙ ap (λ (y : ℕ). alphaFor CHANCE g y s) e) (q ∙ ap (λ (y : ℕ). betaFor CHANCE g y s) e) h
+
+pub chance-state : (g : Rule) (c : ℕ) (r : Found) (s s′ : State) {w w′ : ℕ} → s′ ≡ afterChance g w s (r .low) (r .high) → w ≡ w′ → s′ ≡ after CHANCE g c w′ s (r .low) (r .high)
+chance-state g c r s s′ p e = p ∙ ap (λ (y : ℕ). afterChance g y s (r .low) (r .high)) e
 
 -- ---- the loop over the children
 
@@ -294,16 +307,16 @@ child-of {t} {g} {k} {s₀} {s} {c₀} {e} {used₀} {c} {used} {came₀} {came}
 module _ {t : Slices} {g : Rule} {c₀ e c x used room α β : ℕ} (C : Child t g c₀ e c x used room α β) where
   -- what a call of the search of kind j asks
   pub child-asks : (m : ℕ) → e - c₀ ≡ m → (j : Kind) → getD (t .kinds) c 0 ≡ codeOf j → (x - (c + 1) < m) × Ready t g j (start j g α β) (c + 1) x used room
-  child-asks m q j is = (omega (arith, C .less), ready-inner t g c x used room α β (C .node) j is)
+  child-asks m q j is = (omega (arith, C .less), ready-inner (C .node) j is)
 
   pub child-three : (y : ℕ) → y ≡ getD (t .kinds) c 0 → (y ≡ 0 → ⊥) → (y ≡ 1 → ⊥) → (y ≡ 2 → ⊥) → getD (t .kinds) c 0 ≡ 3
-  child-three = ready-three t g c x used room α β (C .node)
+  child-three = ready-three (C .node)
 
   -- what a call of `leaf_at` asks
   pub child-leaf : (y : ℕ) → y ≡ getD (t .kinds) c 0 → y ≡ 0
       → (c < length (t .heights)) × (used < room) × (c < 1024) × (getD (t .heights) c 0 * g .grain < 9223372036854775808)
   child-leaf y q z =
-      let L = ready-leaf t g c x used room α β (C .node) (sym q ∙ z) in
+      let L = ready-leaf (C .node) (sym q ∙ z) in
       (omega (arith, C .inside, C .node .holds .heights), L .0, C .small, L .1)
 
 -- after a child is searched: the loop stood at c, the child's run ends at x, r is its answer, s′ the state after it, `now` the list

@@ -6,8 +6,7 @@ use mathlib.Core.Bool.{Bool, true, false, _||_, cond}
 use mathlib.Core.List.{List, [], _∷_, _++_}
 use mathlib.Core.Option.{Option, none, some}
 use lib.Dec.{eqb, leb, ltb}
-use lib.ListN.{length, getD, set}
-use Rattle.line.specs.Line.{Weighs}
+use lib.ListN.{length, set}
 use Rattle.table.specs.Tree.{Kind, MAX, MIN, CHANCE, Forest, end, leaf, inner, isChance, isEnd, weigh, leaves}
 use Rattle.table.specs.Slices.{Slices, Spans, laid}
 use Rattle.table.specs.Accepted.{Sums, Rooted}
@@ -51,8 +50,8 @@ abbrev pub preferred : ℕ → ℕ → Bool → ℕ
 preferred play i beats = cond (eqb play 0 || beats) i play
 
 -- after the child i of weight w with the bounds low and high
-abbrev pub after : Kind → Rule → ℕ → ℕ → State → ℕ → ℕ → State
-after MAX g i w s low high =
+abbrev pub afterMax : (i : ℕ) → State → (low high : ℕ) → State
+afterMax i s low high =
     record {
       alpha = max (s .alpha) (max (s .low) low);
       beta = s .beta;
@@ -60,7 +59,9 @@ after MAX g i w s low high =
       high = max (s .high) high;
       play = preferred (s .play) i (ltb (s .low) low);
     }
-after MIN g i w s low high =
+
+abbrev pub afterMin : (i : ℕ) → State → (low high : ℕ) → State
+afterMin i s low high =
     record {
       alpha = s .alpha;
       beta = min (s .beta) (min (s .high) high);
@@ -68,7 +69,9 @@ after MIN g i w s low high =
       high = min (s .high) high;
       play = preferred (s .play) i (ltb high (s .high));
     }
-after CHANCE g i w s low high =
+
+abbrev pub afterChance : Rule → (w : ℕ) → State → (low high : ℕ) → State
+afterChance g w s low high =
     record {
       alpha = max (s .alpha) (s .low + w * low / g .total);
       beta = min (s .beta) (s .high - w * (g .top - high) / g .total);
@@ -76,6 +79,11 @@ after CHANCE g i w s low high =
       high = s .high - w * (g .top - high) / g .total;
       play = 0;
     }
+
+abbrev pub after : Kind → Rule → (i w : ℕ) → State → (low high : ℕ) → State
+after MAX g i w s low high = afterMax i s low high
+after MIN g i w s low high = afterMin i s low high
+after CHANCE g i w s low high = afterChance g w s low high
 
 abbrev pub stops : Rule → State → Bool
 stops g s = leb (s .beta) (s .alpha + g .margin)

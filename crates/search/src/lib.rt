@@ -1,9 +1,9 @@
-// The bounded search over the decoded table: Algorithm 1 in grains above the lowest end.
+// The bounded search over the decoded table: Algorithm 1 of document 000, whose lines are named here, in grains above the lowest end.
 ghost use mathlib.Core.Path.{_≡_};
 ghost use Prim.Native.Nat.{_+_, _-_, _*_, _<_, _≤_, min, max};
 ghost use lib.ListN.{length, getD};
 ghost use Rattle.table.specs.Tree.{MAX, MIN, CHANCE};
-ghost use Rattle.search.specs.Inside.{slices, start, alphaFor, betaFor, preferred, after, stops, LeafAt, OkRule, OkBounds, Ready, Told, ReadyRoot, Searched};
+ghost use Rattle.search.specs.Inside.{slices, start, alphaFor, betaFor, preferred, afterMax, afterMin, afterChance, stops, LeafAt, OkRule, OkBounds, Ready, Told, ReadyRoot, Searched};
 
 // The margin, the grains between the ends, the total of the weights, and the grains in a point.
 pub struct Rule {
@@ -13,8 +13,8 @@ pub struct Rule {
     pub grain: u64,
 }
 
-// Where the search of a node stands between two children; `play` is the best child's node, 0 for none.
-pub struct State {
+// Where the search of a node stands between two children; `play` is the best child's node, 0 for none (node 0 is no child).
+struct State {
     pub alpha: u64,
     pub beta: u64,
     pub low: u64,
@@ -22,7 +22,8 @@ pub struct State {
     pub play: usize,
 }
 
-pub struct Window {
+// The window of a child.
+struct Window {
     pub alpha: u64,
     pub beta: u64,
 }
@@ -93,6 +94,7 @@ fn weight_at(weight: &[u8], i: usize) -> u64
     wide8(weight[i])
 }
 
+// Line 24: whether the window is within the margin.
 fn stopped(g: Rule, s: State) -> bool
     requires { ⌜ s .alpha + g .margin < 9223372036854775808 ⌝ }
     ensures { λ r. ⌜ r ≡ stops g s ⌝ }
@@ -100,6 +102,7 @@ fn stopped(g: Rule, s: State) -> bool
     s.beta <= s.alpha + g.margin
 }
 
+// The best child: the first entered, then each that beats it.
 fn prefer(play: usize, i: usize, beats: bool) -> usize
     ensures { λ r. ⌜ r ≡ preferred play i beats ⌝ }
 {
@@ -109,8 +112,9 @@ fn prefer(play: usize, i: usize, beats: bool) -> usize
     if beats { i } else { play }
 }
 
-fn max_after(g: Rule, i: usize, s: State, low: u64, high: u64) -> State
-    ensures { λ r. ⌜ r ≡ after MAX g i 0 s low high ⌝ }
+// After the child i of an M, lines 14, 15 and 22. Its beta stays: until the last child its high is the highest end.
+fn max_after(i: usize, s: State, low: u64, high: u64) -> State
+    ensures { λ r. ⌜ r ≡ afterMax i s low high ⌝ }
 {
     let l = max_of(s.low, low);
     let h = max_of(s.high, high);
@@ -125,8 +129,9 @@ fn max_after(g: Rule, i: usize, s: State, low: u64, high: u64) -> State
     }
 }
 
-fn min_after(g: Rule, i: usize, s: State, low: u64, high: u64) -> State
-    ensures { λ r. ⌜ r ≡ after MIN g i 0 s low high ⌝ }
+// After the child i of an N, lines 17, 18 and 23. Its alpha stays.
+fn min_after(i: usize, s: State, low: u64, high: u64) -> State
+    ensures { λ r. ⌜ r ≡ afterMin i s low high ⌝ }
 {
     let l = min_of(s.low, low);
     let h = min_of(s.high, high);
@@ -141,7 +146,7 @@ fn min_after(g: Rule, i: usize, s: State, low: u64, high: u64) -> State
     }
 }
 
-// The window of a C's child of weight w: rounded outward.
+// The window of a C's child of weight w, lines 9 and 10, rounded outward.
 fn chance_window(g: Rule, s: State, w: u64) -> Window
     requires { ⌜ OkRule g × OkBounds g s × (s .alpha ≤ s .high) × (s .low ≤ s .beta) × (0 < w) × (w ≤ g .total) ⌝ }
     ensures { λ r. ⌜ (r .alpha ≡ alphaFor CHANCE g w s) × (r .beta ≡ betaFor CHANCE g w s) ⌝ }
@@ -153,9 +158,10 @@ fn chance_window(g: Rule, s: State, w: u64) -> Window
     Window { alpha: a, beta: b }
 }
 
+// After a C's child of weight w, lines 20 to 23.
 fn chance_after(g: Rule, s: State, w: u64, low: u64, high: u64) -> State
     requires { ⌜ OkRule g × OkBounds g s × (w ≤ g .total) × (low ≤ g .top) × (high ≤ g .top) ⌝ }
-    ensures { λ r. ⌜ r ≡ after CHANCE g 0 w s low high ⌝ }
+    ensures { λ r. ⌜ r ≡ afterChance g w s low high ⌝ }
 {
     let l = s.low + w * low / g.total;
     let h = monus(s.high, w * (g.top - high) / g.total);
@@ -170,7 +176,7 @@ fn chance_after(g: Rule, s: State, w: u64, low: u64, high: u64) -> State
     }
 }
 
-// The leaf at entry c: listed, and both bounds its height in grains.
+// The leaf at entry c, lines 1 and 2: it is listed, and both bounds are its height in grains.
 fn leaf_at(height: &[u32], leaves: &mut [u16], used: usize, c: usize, grain: u64) -> Found
     requires { ⌜ (c < length (now height)) × (used < length (now leaves)) × (c < 1024) × (getD (now height) c 0 * grain < 9223372036854775808) ⌝ }
     ensures { λ r. ⌜ LeafAt r (getD (now (height .entry)) c 0 * grain) used c (now (leaves .entry)) (now (leaves .exit)) ⌝ }
@@ -185,7 +191,7 @@ fn leaf_at(height: &[u32], leaves: &mut [u16], used: usize, c: usize, grain: u64
     }
 }
 
-// The children of an M node, entries c up to end, in the window alpha, beta.
+// The children of an M, entries c up to end, in the window alpha, beta. (As the value of the `if`, r would be copied once more.)
 fn max_over(
     kind: &[u8],
     stop: &[u16],
@@ -214,6 +220,8 @@ fn max_over(
     loop {
         let e = stop_at(stop, i);
         let k = kind_at(kind, i);
+        let a = t.alpha;
+        let b = t.beta;
         let mut r = Found {
             low: 0,
             high: 0,
@@ -223,49 +231,13 @@ fn max_over(
         if k == 0 {
             r = leaf_at(height, leaves, n, i, g.grain);
         } else if k == 1 {
-            r = max_over(
-                kind,
-                stop,
-                weight,
-                height,
-                leaves,
-                n,
-                g,
-                i + 1,
-                e,
-                t.alpha,
-                t.beta,
-            );
+            r = max_over(kind, stop, weight, height, leaves, n, g, i + 1, e, a, b);
         } else if k == 2 {
-            r = min_over(
-                kind,
-                stop,
-                weight,
-                height,
-                leaves,
-                n,
-                g,
-                i + 1,
-                e,
-                t.alpha,
-                t.beta,
-            );
+            r = min_over(kind, stop, weight, height, leaves, n, g, i + 1, e, a, b);
         } else {
-            r = chance_over(
-                kind,
-                stop,
-                weight,
-                height,
-                leaves,
-                n,
-                g,
-                i + 1,
-                e,
-                t.alpha,
-                t.beta,
-            );
+            r = chance_over(kind, stop, weight, height, leaves, n, g, i + 1, e, a, b);
         }
-        t = max_after(g, i, t, r.low, r.high);
+        t = max_after(i, t, r.low, r.high);
         n = r.used;
         if e == end {
             return Found {
@@ -287,7 +259,7 @@ fn max_over(
     }
 }
 
-// The children of an N node, entries c up to end, in the window alpha, beta.
+// The children of an N, entries c up to end, in the window alpha, beta.
 fn min_over(
     kind: &[u8],
     stop: &[u16],
@@ -316,6 +288,8 @@ fn min_over(
     loop {
         let e = stop_at(stop, i);
         let k = kind_at(kind, i);
+        let a = t.alpha;
+        let b = t.beta;
         let mut r = Found {
             low: 0,
             high: 0,
@@ -325,49 +299,13 @@ fn min_over(
         if k == 0 {
             r = leaf_at(height, leaves, n, i, g.grain);
         } else if k == 1 {
-            r = max_over(
-                kind,
-                stop,
-                weight,
-                height,
-                leaves,
-                n,
-                g,
-                i + 1,
-                e,
-                t.alpha,
-                t.beta,
-            );
+            r = max_over(kind, stop, weight, height, leaves, n, g, i + 1, e, a, b);
         } else if k == 2 {
-            r = min_over(
-                kind,
-                stop,
-                weight,
-                height,
-                leaves,
-                n,
-                g,
-                i + 1,
-                e,
-                t.alpha,
-                t.beta,
-            );
+            r = min_over(kind, stop, weight, height, leaves, n, g, i + 1, e, a, b);
         } else {
-            r = chance_over(
-                kind,
-                stop,
-                weight,
-                height,
-                leaves,
-                n,
-                g,
-                i + 1,
-                e,
-                t.alpha,
-                t.beta,
-            );
+            r = chance_over(kind, stop, weight, height, leaves, n, g, i + 1, e, a, b);
         }
-        t = min_after(g, i, t, r.low, r.high);
+        t = min_after(i, t, r.low, r.high);
         n = r.used;
         if e == end {
             return Found {
@@ -389,7 +327,7 @@ fn min_over(
     }
 }
 
-// The children of a C node, entries c up to end, in the window alpha, beta.
+// The children of a C, entries c up to end, in the window alpha, beta. A leaf needs no window.
 fn chance_over(
     kind: &[u8],
     stop: &[u16],
@@ -429,48 +367,14 @@ fn chance_over(
             r = leaf_at(height, leaves, n, i, g.grain);
         } else {
             let v = chance_window(g, t, w);
+            let a = v.alpha;
+            let b = v.beta;
             if k == 1 {
-                r = max_over(
-                    kind,
-                    stop,
-                    weight,
-                    height,
-                    leaves,
-                    n,
-                    g,
-                    i + 1,
-                    e,
-                    v.alpha,
-                    v.beta,
-                );
+                r = max_over(kind, stop, weight, height, leaves, n, g, i + 1, e, a, b);
             } else if k == 2 {
-                r = min_over(
-                    kind,
-                    stop,
-                    weight,
-                    height,
-                    leaves,
-                    n,
-                    g,
-                    i + 1,
-                    e,
-                    v.alpha,
-                    v.beta,
-                );
+                r = min_over(kind, stop, weight, height, leaves, n, g, i + 1, e, a, b);
             } else {
-                r = chance_over(
-                    kind,
-                    stop,
-                    weight,
-                    height,
-                    leaves,
-                    n,
-                    g,
-                    i + 1,
-                    e,
-                    v.alpha,
-                    v.beta,
-                );
+                r = chance_over(kind, stop, weight, height, leaves, n, g, i + 1, e, a, b);
             }
         }
         t = chance_after(g, t, w, r.low, r.high);

@@ -1,6 +1,6 @@
 -- The three searches, which call one another, meet their contracts: one loop over the children each. Assumes nothing.
 use Prim.Native.Nat.{ℕ, _-_, _≤_, _<_}
-use mathlib.Core.Path.{_≡_, refl, sym, ap, _∙_}
+use mathlib.Core.Path.{refl, sym, _∙_}
 use mathlib.Core.Logic.{⊎-elim}
 use native.Mathlib.Omega.{arith}
 use borrow.Author.Needs.{needs}
@@ -8,9 +8,10 @@ use borrow.Fn.Kinds.{In}
 use borrow.Fn.PlainCycle.{Measures, is, falls, and}
 use lib.ListN.{length, getD}
 use Rattle.table.specs.Tree.{MAX, MIN, CHANCE}
-use Rattle.search.specs.Inside.{slices, start, alphaFor, betaFor, after}
+use Rattle.search.specs.Inside.{slices, start, alphaFor, betaFor}
 use Rattle.search.proofs.Forest.{step, fit-weight, alpha-ok, beta-ok}
-use Rattle.search.proofs.Rules.{within, Going, going-start, NodeSearched, searched-same, searched-at, searched-leaf, searched-inner, Child, child-of, child-asks, child-three, child-leaf, Turn, turn-same, turn-less, turn-margin, turn-last, turn-cut, turn-on}
+use Rattle.search.proofs.Rules.{within, NodeSearched, searched-same, searched-window, searched-leaf, searched-inner, chance-state, Going, going-start}
+use Rattle.search.proofs.Rules.{Child, child-of, child-asks, child-three, child-leaf, Turn, turn-same, turn-less, turn-margin, turn-last, turn-cut, turn-on}
 use Rattle.search.proofs.chance_over.Reads as chance-over
 use Rattle.search.proofs.chance_over.Kinds as chance-over-kinds
 use Rattle.search.proofs.+chance_over+max_over+min_over.Lts-chance_over as chance-over-lts
@@ -64,7 +65,28 @@ min-over-below t = and 5 min-over-kinds.ps (falls 5 min-over-kinds.ps _<_ μ-min
 
 -- what its callees ask and tell
 abbrev chance-over-claims : ℕ → chance-over-lts.Claims
-chance-over-claims t = (stop-at-reads.Asked, stop-at-reads.Learnt, kind-at-reads.Asked, kind-at-reads.Learnt, weight-at-reads.Asked, weight-at-reads.Learnt, leaf-at-reads.Asked, leaf-at-reads.Learnt, chance-window-reads.Asked, chance-window-reads.Learnt, max-over-below t, max-over.Post, min-over-below t, min-over.Post, chance-over-below t, chance-over.Post, chance-after-reads.Asked, chance-after-reads.Learnt, stopped-reads.Asked, stopped-reads.Learnt)
+chance-over-claims t = (
+  stop-at-reads.Asked,
+  stop-at-reads.Learnt,
+  kind-at-reads.Asked,
+  kind-at-reads.Learnt,
+  weight-at-reads.Asked,
+  weight-at-reads.Learnt,
+  leaf-at-reads.Asked,
+  leaf-at-reads.Learnt,
+  chance-window-reads.Asked,
+  chance-window-reads.Learnt,
+  max-over-below t,
+  max-over.Post,
+  min-over-below t,
+  min-over.Post,
+  chance-over-below t,
+  chance-over.Post,
+  chance-after-reads.Asked,
+  chance-after-reads.Learnt,
+  stopped-reads.Asked,
+  stopped-reads.Learnt,
+)
 
 abbrev chance-over-Inv-loop : chance-over-lts.InvT-loop
 chance-over-Inv-loop kind stop weight height leaves₀ used g c end alpha beta t₀ i₀ n₀ leaves t i n =
@@ -77,7 +99,8 @@ chance-over-loop-holds : (t : ℕ) → chance-over-lts.Need-loop-holds (chance-o
 chance-over-loop-holds t c =
     let p = c .before .before .before .before .before in
     let a = p .args in
-    going-start (slices (a .kind .now) (a .stop .now) (a .weight .now) (a .height .now)) (a .g) CHANCE (start CHANCE (a .g) (a .alpha) (a .beta)) (a .c) (a .end) (a .used) (a .leaves .now) (p .pre .1)
+    let T = (slices (a .kind .now) (a .stop .now) (a .weight .now) (a .height .now)) in
+    going-start T (a .g) CHANCE (start CHANCE (a .g) (a .alpha) (a .beta)) (a .c) (a .end) (a .used) (a .leaves .now) (p .pre .1)
 
 chance-over-stop-at-requires : (t : ℕ) → chance-over-lts.Need-stop-at-requires (chance-over-claims t) (chance-over-at t) chance-over.Post chance-over-Inv-loop chance-over-μ-loop
 chance-over-stop-at-requires t c κs =
@@ -136,53 +159,59 @@ chance-over-child t c =
     let x = c .before .before .before .before .stop-at in
     let h = c .before .before .weight-at in
     let v = c .chance-window in
-    child-of (l .inv) (x .result) (v .result .alpha) (v .result .beta) (x .ensures) (omega (arith, v .ensures .0, alpha-ok CHANCE (a .g) (h .result) (l .t) (R .bounds))) (omega (arith, v .ensures .1, beta-ok CHANCE (a .g) (h .result) (l .t) (R .bounds)))
+    child-of (l .inv) (x .result) (v .result .alpha) (v .result .beta) (x .ensures)
+    (omega (arith, v .ensures .0, alpha-ok CHANCE (a .g) (h .result) (l .t) (R .bounds)))
+    (omega (arith, v .ensures .1, beta-ok CHANCE (a .g) (h .result) (l .t) (R .bounds)))
 
 chance-over-add-max-over : (t : ℕ) → chance-over-lts.Need-add-max-over (chance-over-claims t) (chance-over-at t) chance-over.Post chance-over-Inv-loop chance-over-μ-loop
 chance-over-add-max-over t c = omega (arith, chance-over-child t (c .before .before) .small)
 
 chance-over-max-over-requires : (t : ℕ) → chance-over-lts.Need-max-over-requires (chance-over-claims t) (chance-over-at t) chance-over.Post chance-over-Inv-loop chance-over-μ-loop
 chance-over-max-over-requires t c κs =
-    child-asks (chance-over-child t (c .before .before)) t (c .before .before .before .before .before .before .before .before .before .before .before .before .before .pre .0) MAX (sym (c .before .before .before .before .before .kind-at .ensures) ∙ c .before .if2 .taken)
+    let p = c .before .before .before .before in
+    child-asks (chance-over-child t (c .before .before)) t (p .before .before .before .before .before .before .before .before .before .pre .0) MAX (sym (p .before .kind-at .ensures) ∙ c .before .if2 .taken)
 
 chance-over-add-min-over : (t : ℕ) → chance-over-lts.Need-add-min-over (chance-over-claims t) (chance-over-at t) chance-over.Post chance-over-Inv-loop chance-over-μ-loop
 chance-over-add-min-over t c = omega (arith, chance-over-child t (c .before .before .before) .small)
 
 chance-over-min-over-requires : (t : ℕ) → chance-over-lts.Need-min-over-requires (chance-over-claims t) (chance-over-at t) chance-over.Post chance-over-Inv-loop chance-over-μ-loop
 chance-over-min-over-requires t c κs =
-    child-asks (chance-over-child t (c .before .before .before)) t (c .before .before .before .before .before .before .before .before .before .before .before .before .before .before .pre .0) MIN (sym (c .before .before .before .before .before .before .kind-at .ensures) ∙ c .before .if3 .taken)
+    let p = c .before .before .before .before .before in
+    child-asks (chance-over-child t (c .before .before .before)) t (p .before .before .before .before .before .before .before .before .before .pre .0) MIN (sym (p .before .kind-at .ensures) ∙ c .before .if3 .taken)
 
 chance-over-add-chance-over : (t : ℕ) → chance-over-lts.Need-add-chance-over (chance-over-claims t) (chance-over-at t) chance-over.Post chance-over-Inv-loop chance-over-μ-loop
 chance-over-add-chance-over t c = omega (arith, chance-over-child t (c .before .before .before) .small)
 
 chance-over-chance-over-requires : (t : ℕ) → chance-over-lts.Need-chance-over-requires (chance-over-claims t) (chance-over-at t) chance-over.Post chance-over-Inv-loop chance-over-μ-loop
 chance-over-chance-over-requires t c κs =
-    child-asks (chance-over-child t (c .before .before .before)) t (c .before .before .before .before .before .before .before .before .before .before .before .before .before .before .pre .0) CHANCE (child-three (chance-over-child t (c .before .before .before)) _ (c .before .before .before .before .before .before .kind-at .ensures) (c .before .before .before .before .if1 .left) (c .before .before .if2 .left) (c .before .if3 .left))
+    let p = c .before .before .before .before .before in
+    let C = chance-over-child t (c .before .before .before) in
+    child-asks C t (p .before .before .before .before .before .before .before .before .before .pre .0) CHANCE
+    (child-three C _ (p .before .kind-at .ensures) (c .before .before .before .before .if1 .left) (c .before .before .if2 .left) (c .before .if3 .left))
 
 -- at the place where the four ways meet: what the search of the child told
 chance-over-joined : (t : ℕ) (c : chance-over-lts.Joined1 (chance-over-claims t) (chance-over-at t) chance-over.Post chance-over-Inv-loop chance-over-μ-loop)
     → let a = c .before .before .before .before .before .before .before .before .before .before .args in
     let l = c .before .before .before .before .loop in
-    NodeSearched (slices (a .kind .now) (a .stop .now) (a .weight .now) (a .height .now)) (a .g) (l .i) (l .n) (alphaFor CHANCE (a .g) (getD (a .weight .now) (l .i) 0) (l .t)) (betaFor CHANCE (a .g) (getD (a .weight .now) (l .i) 0) (l .t)) (l .leaves) (c .if1 .r) (c .if1 .leaves)
+    let w : ℕ = getD (a .weight .now) (l .i) 0 in
+    NodeSearched (slices (a .kind .now) (a .stop .now) (a .weight .now) (a .height .now)) (a .g) (l .i) (l .n) (alphaFor CHANCE (a .g) w (l .t)) (betaFor CHANCE (a .g) w (l .t)) (l .leaves) (c .if1 .r) (c .if1 .leaves)
 chance-over-joined t c =
     let a = c .before .before .before .before .before .before .before .before .before .before .args in
     let l = c .before .before .before .before .loop in
-    let T = (slices (a .kind .now) (a .stop .now) (a .weight .now) (a .height .now)) in
     let k = c .before .before .kind-at in
     let x = c .before .before .before .stop-at in
     let h = c .before .weight-at .ensures in
-    let α : ℕ = alphaFor CHANCE (a .g) (getD (a .weight .now) (l .i) 0) (l .t) in
-    let β : ℕ = betaFor CHANCE (a .g) (getD (a .weight .now) (l .i) 0) (l .t) in
     ⊎-elim
-    (λ w. searched-same T (a .g) (l .i) (l .n) α β (l .leaves) (w .6) (w .5) (searched-leaf T (a .g) (l .i) (l .n) α β (l .leaves) (w .2 .result) (w .2 .last .1 .0) (sym (k .ensures) ∙ w .0 .taken) (w .2 .ensures)))
+    (λ w. searched-same (w .6) (w .5) (searched-leaf (sym (k .ensures) ∙ w .0 .taken) (w .2 .ensures)))
     (⊎-elim
-    (λ w. searched-same T (a .g) (l .i) (l .n) α β (l .leaves) (w .8) (w .7) (searched-at T (a .g) (l .i) (l .n) α β (l .leaves) (w .1 .ensures .0 ∙ ap (λ (y : ℕ). alphaFor CHANCE (a .g) y (l .t)) h) (w .1 .ensures .1 ∙ ap (λ (y : ℕ). betaFor CHANCE (a .g) y (l .t)) h)
-    (searched-inner T (a .g) (l .i) (l .n) (w .1 .result .alpha) (w .1 .result .beta) (l .leaves) (x .result) MAX (w .4 .result) (w .4 .last .1 .1 .1 .1 .0) (sym (k .ensures) ∙ w .2 .taken) (x .ensures) (w .4 .ensures) (w .4 .kept .1 .1 .1 .1 .0))))
+    (λ w. searched-same (w .8) (w .7) (searched-window (l .t) h (w .1 .ensures .0) (w .1 .ensures .1)
+    (searched-inner MAX (sym (k .ensures) ∙ w .2 .taken) (x .ensures) (w .4 .ensures) (w .4 .kept .1 .1 .1 .1 .0))))
     (⊎-elim
-    (λ w. searched-same T (a .g) (l .i) (l .n) α β (l .leaves) (w .9) (w .8) (searched-at T (a .g) (l .i) (l .n) α β (l .leaves) (w .1 .ensures .0 ∙ ap (λ (y : ℕ). alphaFor CHANCE (a .g) y (l .t)) h) (w .1 .ensures .1 ∙ ap (λ (y : ℕ). betaFor CHANCE (a .g) y (l .t)) h)
-    (searched-inner T (a .g) (l .i) (l .n) (w .1 .result .alpha) (w .1 .result .beta) (l .leaves) (x .result) MIN (w .5 .result) (w .5 .last .1 .1 .1 .1 .0) (sym (k .ensures) ∙ w .3 .taken) (x .ensures) (w .5 .ensures) (w .5 .kept .1 .1 .1 .1 .0))))
-    (λ w. searched-same T (a .g) (l .i) (l .n) α β (l .leaves) (w .9) (w .8) (searched-at T (a .g) (l .i) (l .n) α β (l .leaves) (w .1 .ensures .0 ∙ ap (λ (y : ℕ). alphaFor CHANCE (a .g) y (l .t)) h) (w .1 .ensures .1 ∙ ap (λ (y : ℕ). betaFor CHANCE (a .g) y (l .t)) h)
-    (searched-inner T (a .g) (l .i) (l .n) (w .1 .result .alpha) (w .1 .result .beta) (l .leaves) (x .result) CHANCE (w .5 .result) (w .5 .last .1 .1 .1 .1 .0) (child-three (chance-over-near t (c .before)) _ (k .ensures) (w .0 .left) (w .2 .left) (w .3 .left)) (x .ensures) (w .5 .ensures) (w .5 .kept .1 .1 .1 .1 .0))))))
+    (λ w. searched-same (w .9) (w .8) (searched-window (l .t) h (w .1 .ensures .0) (w .1 .ensures .1)
+    (searched-inner MIN (sym (k .ensures) ∙ w .3 .taken) (x .ensures) (w .5 .ensures) (w .5 .kept .1 .1 .1 .1 .0))))
+    (λ w. searched-same (w .9) (w .8) (searched-window (l .t) h (w .1 .ensures .0) (w .1 .ensures .1)
+    (searched-inner CHANCE (child-three (chance-over-near t (c .before)) _ (k .ensures) (w .0 .left) (w .2 .left) (w .3 .left))
+    (x .ensures) (w .5 .ensures) (w .5 .kept .1 .1 .1 .1 .0))))))
     (c .if1 .came)
 
 chance-over-chance-after-requires : (t : ℕ) → chance-over-lts.Need-chance-after-requires (chance-over-claims t) (chance-over-at t) chance-over.Post chance-over-Inv-loop chance-over-μ-loop
@@ -192,7 +221,8 @@ chance-over-chance-after-requires t c κs =
     let R = l .inv .ready in
     let u = chance-over-weight t (c .before) in
     let S = chance-over-joined t c in
-    let q = within (slices (a .kind .now) (a .stop .now) (a .weight .now) (a .height .now)) (a .g) CHANCE (l .t) (l .i) (a .end) (l .n) (length (l .leaves)) R (c .if1 .r) (l .leaves) (c .if1 .leaves) (S .tells) in
+    let T = (slices (a .kind .now) (a .stop .now) (a .weight .now) (a .height .now)) in
+    let q = within T (a .g) CHANCE (l .t) (l .i) (a .end) (l .n) (length (l .leaves)) R (c .if1 .r) (l .leaves) (c .if1 .leaves) (S .tells) in
     (R .rule, R .bounds, u .1, q .0, q .1)
 
 -- after the child: one turn of the loop
@@ -212,7 +242,7 @@ chance-over-turn t c =
       going = l .inv;
       stop = c .before .before .before .before .stop-at .ensures;
       told = S .tells;
-      state = f .ensures ∙ ap (λ (y : ℕ). after CHANCE (a .g) (l .i) y (l .t) (c .before .if1 .r .low) (c .before .if1 .r .high)) (c .before .before .weight-at .ensures);
+      state = chance-state (a .g) (l .i) (c .before .if1 .r) (l .t) (f .result) (f .ensures) (c .before .before .weight-at .ensures);
       kept = S .kept;
     }
 
@@ -241,7 +271,24 @@ chance-over-loop-again t c = turn-on (chance-over-turn t (c .before .before .bef
 
 -- what its callees ask and tell
 abbrev max-over-claims : ℕ → max-over-lts.Claims
-max-over-claims t = (stop-at-reads.Asked, stop-at-reads.Learnt, kind-at-reads.Asked, kind-at-reads.Learnt, leaf-at-reads.Asked, leaf-at-reads.Learnt, max-over-below t, max-over.Post, min-over-below t, min-over.Post, chance-over-below t, chance-over.Post, max-after-reads.Asked, max-after-reads.Learnt, stopped-reads.Asked, stopped-reads.Learnt)
+max-over-claims t = (
+  stop-at-reads.Asked,
+  stop-at-reads.Learnt,
+  kind-at-reads.Asked,
+  kind-at-reads.Learnt,
+  leaf-at-reads.Asked,
+  leaf-at-reads.Learnt,
+  max-over-below t,
+  max-over.Post,
+  min-over-below t,
+  min-over.Post,
+  chance-over-below t,
+  chance-over.Post,
+  max-after-reads.Asked,
+  max-after-reads.Learnt,
+  stopped-reads.Asked,
+  stopped-reads.Learnt,
+)
 
 abbrev max-over-Inv-loop : max-over-lts.InvT-loop
 max-over-Inv-loop kind stop weight height leaves₀ used g c end alpha beta t₀ i₀ n₀ leaves t i n =
@@ -254,7 +301,8 @@ max-over-loop-holds : (t : ℕ) → max-over-lts.Need-loop-holds (max-over-claim
 max-over-loop-holds t c =
     let p = c .before .before .before .before .before in
     let a = p .args in
-    going-start (slices (a .kind .now) (a .stop .now) (a .weight .now) (a .height .now)) (a .g) MAX (start MAX (a .g) (a .alpha) (a .beta)) (a .c) (a .end) (a .used) (a .leaves .now) (p .pre .1)
+    let T = (slices (a .kind .now) (a .stop .now) (a .weight .now) (a .height .now)) in
+    going-start T (a .g) MAX (start MAX (a .g) (a .alpha) (a .beta)) (a .c) (a .end) (a .used) (a .leaves .now) (p .pre .1)
 
 max-over-stop-at-requires : (t : ℕ) → max-over-lts.Need-stop-at-requires (max-over-claims t) (max-over-at t) max-over.Post max-over-Inv-loop max-over-μ-loop
 max-over-stop-at-requires t c κs =
@@ -285,21 +333,26 @@ max-over-add-max-over t c = omega (arith, max-over-child t (c .before .before .b
 
 max-over-max-over-requires : (t : ℕ) → max-over-lts.Need-max-over-requires (max-over-claims t) (max-over-at t) max-over.Post max-over-Inv-loop max-over-μ-loop
 max-over-max-over-requires t c κs =
-    child-asks (max-over-child t (c .before .before .before)) t (c .before .before .before .before .before .before .before .before .before .before .before .pre .0) MAX (sym (c .before .before .before .kind-at .ensures) ∙ c .before .if2 .taken)
+    let p = c .before .before .before in
+    child-asks (max-over-child t (c .before .before .before)) t (p .before .before .before .before .before .before .before .before .pre .0) MAX (sym (p .kind-at .ensures) ∙ c .before .if2 .taken)
 
 max-over-add-min-over : (t : ℕ) → max-over-lts.Need-add-min-over (max-over-claims t) (max-over-at t) max-over.Post max-over-Inv-loop max-over-μ-loop
 max-over-add-min-over t c = omega (arith, max-over-child t (c .before .before .before .before) .small)
 
 max-over-min-over-requires : (t : ℕ) → max-over-lts.Need-min-over-requires (max-over-claims t) (max-over-at t) max-over.Post max-over-Inv-loop max-over-μ-loop
 max-over-min-over-requires t c κs =
-    child-asks (max-over-child t (c .before .before .before .before)) t (c .before .before .before .before .before .before .before .before .before .before .before .before .pre .0) MIN (sym (c .before .before .before .before .kind-at .ensures) ∙ c .before .if3 .taken)
+    let p = c .before .before .before .before in
+    child-asks (max-over-child t (c .before .before .before .before)) t (p .before .before .before .before .before .before .before .before .pre .0) MIN (sym (p .kind-at .ensures) ∙ c .before .if3 .taken)
 
 max-over-add-chance-over : (t : ℕ) → max-over-lts.Need-add-chance-over (max-over-claims t) (max-over-at t) max-over.Post max-over-Inv-loop max-over-μ-loop
 max-over-add-chance-over t c = omega (arith, max-over-child t (c .before .before .before .before) .small)
 
 max-over-chance-over-requires : (t : ℕ) → max-over-lts.Need-chance-over-requires (max-over-claims t) (max-over-at t) max-over.Post max-over-Inv-loop max-over-μ-loop
 max-over-chance-over-requires t c κs =
-    child-asks (max-over-child t (c .before .before .before .before)) t (c .before .before .before .before .before .before .before .before .before .before .before .before .pre .0) CHANCE (child-three (max-over-child t (c .before .before .before .before)) _ (c .before .before .before .before .kind-at .ensures) (c .before .before .before .if1 .left) (c .before .before .if2 .left) (c .before .if3 .left))
+    let p = c .before .before .before .before in
+    let C = max-over-child t (c .before .before .before .before) in
+    child-asks C t (p .before .before .before .before .before .before .before .before .pre .0) CHANCE
+    (child-three C _ (p .kind-at .ensures) (c .before .before .before .if1 .left) (c .before .before .if2 .left) (c .before .if3 .left))
 
 -- at the place where the four ways meet: what the search of the child told
 max-over-joined : (t : ℕ) (c : max-over-lts.Joined1 (max-over-claims t) (max-over-at t) max-over.Post max-over-Inv-loop max-over-μ-loop)
@@ -309,18 +362,16 @@ max-over-joined : (t : ℕ) (c : max-over-lts.Joined1 (max-over-claims t) (max-o
 max-over-joined t c =
     let a = c .before .before .before .before .before .before .before .before .before .args in
     let l = c .before .before .before .loop in
-    let T = (slices (a .kind .now) (a .stop .now) (a .weight .now) (a .height .now)) in
     let k = c .before .kind-at in
     let x = c .before .before .stop-at in
-    let α : ℕ = l .t .alpha in
-    let β : ℕ = l .t .beta in
     ⊎-elim
-    (λ w. searched-same T (a .g) (l .i) (l .n) α β (l .leaves) (w .6) (w .5) (searched-leaf T (a .g) (l .i) (l .n) α β (l .leaves) (w .2 .result) (w .2 .last .1 .0) (sym (k .ensures) ∙ w .0 .taken) (w .2 .ensures)))
+    (λ w. searched-same (w .6) (w .5) (searched-leaf (sym (k .ensures) ∙ w .0 .taken) (w .2 .ensures)))
     (⊎-elim
-    (λ w. searched-same T (a .g) (l .i) (l .n) α β (l .leaves) (w .7) (w .6) (searched-inner T (a .g) (l .i) (l .n) α β (l .leaves) (x .result) MAX (w .3 .result) (w .3 .last .1 .1 .1 .1 .0) (sym (k .ensures) ∙ w .1 .taken) (x .ensures) (w .3 .ensures) (w .3 .kept .1 .1 .1 .1 .0)))
+    (λ w. searched-same (w .7) (w .6) (searched-inner MAX (sym (k .ensures) ∙ w .1 .taken) (x .ensures) (w .3 .ensures) (w .3 .kept .1 .1 .1 .1 .0)))
     (⊎-elim
-    (λ w. searched-same T (a .g) (l .i) (l .n) α β (l .leaves) (w .8) (w .7) (searched-inner T (a .g) (l .i) (l .n) α β (l .leaves) (x .result) MIN (w .4 .result) (w .4 .last .1 .1 .1 .1 .0) (sym (k .ensures) ∙ w .2 .taken) (x .ensures) (w .4 .ensures) (w .4 .kept .1 .1 .1 .1 .0)))
-    (λ w. searched-same T (a .g) (l .i) (l .n) α β (l .leaves) (w .8) (w .7) (searched-inner T (a .g) (l .i) (l .n) α β (l .leaves) (x .result) CHANCE (w .4 .result) (w .4 .last .1 .1 .1 .1 .0) (child-three (max-over-child t (c .before)) _ (k .ensures) (w .0 .left) (w .1 .left) (w .2 .left)) (x .ensures) (w .4 .ensures) (w .4 .kept .1 .1 .1 .1 .0)))))
+    (λ w. searched-same (w .8) (w .7) (searched-inner MIN (sym (k .ensures) ∙ w .2 .taken) (x .ensures) (w .4 .ensures) (w .4 .kept .1 .1 .1 .1 .0)))
+    (λ w. searched-same (w .8) (w .7) (searched-inner CHANCE (child-three (max-over-child t (c .before)) _ (k .ensures) (w .0 .left) (w .1 .left) (w .2 .left))
+    (x .ensures) (w .4 .ensures) (w .4 .kept .1 .1 .1 .1 .0)))))
     (c .if1 .came)
 
 max-over-max-after-requires : (t : ℕ) → max-over-lts.Need-max-after-requires (max-over-claims t) (max-over-at t) max-over.Post max-over-Inv-loop max-over-μ-loop
@@ -372,7 +423,24 @@ max-over-loop-again t c = turn-on (max-over-turn t (c .before .before .before)) 
 
 -- what its callees ask and tell
 abbrev min-over-claims : ℕ → min-over-lts.Claims
-min-over-claims t = (stop-at-reads.Asked, stop-at-reads.Learnt, kind-at-reads.Asked, kind-at-reads.Learnt, leaf-at-reads.Asked, leaf-at-reads.Learnt, max-over-below t, max-over.Post, min-over-below t, min-over.Post, chance-over-below t, chance-over.Post, min-after-reads.Asked, min-after-reads.Learnt, stopped-reads.Asked, stopped-reads.Learnt)
+min-over-claims t = (
+  stop-at-reads.Asked,
+  stop-at-reads.Learnt,
+  kind-at-reads.Asked,
+  kind-at-reads.Learnt,
+  leaf-at-reads.Asked,
+  leaf-at-reads.Learnt,
+  max-over-below t,
+  max-over.Post,
+  min-over-below t,
+  min-over.Post,
+  chance-over-below t,
+  chance-over.Post,
+  min-after-reads.Asked,
+  min-after-reads.Learnt,
+  stopped-reads.Asked,
+  stopped-reads.Learnt,
+)
 
 abbrev min-over-Inv-loop : min-over-lts.InvT-loop
 min-over-Inv-loop kind stop weight height leaves₀ used g c end alpha beta t₀ i₀ n₀ leaves t i n =
@@ -385,7 +453,8 @@ min-over-loop-holds : (t : ℕ) → min-over-lts.Need-loop-holds (min-over-claim
 min-over-loop-holds t c =
     let p = c .before .before .before .before .before in
     let a = p .args in
-    going-start (slices (a .kind .now) (a .stop .now) (a .weight .now) (a .height .now)) (a .g) MIN (start MIN (a .g) (a .alpha) (a .beta)) (a .c) (a .end) (a .used) (a .leaves .now) (p .pre .1)
+    let T = (slices (a .kind .now) (a .stop .now) (a .weight .now) (a .height .now)) in
+    going-start T (a .g) MIN (start MIN (a .g) (a .alpha) (a .beta)) (a .c) (a .end) (a .used) (a .leaves .now) (p .pre .1)
 
 min-over-stop-at-requires : (t : ℕ) → min-over-lts.Need-stop-at-requires (min-over-claims t) (min-over-at t) min-over.Post min-over-Inv-loop min-over-μ-loop
 min-over-stop-at-requires t c κs =
@@ -416,21 +485,26 @@ min-over-add-max-over t c = omega (arith, min-over-child t (c .before .before .b
 
 min-over-max-over-requires : (t : ℕ) → min-over-lts.Need-max-over-requires (min-over-claims t) (min-over-at t) min-over.Post min-over-Inv-loop min-over-μ-loop
 min-over-max-over-requires t c κs =
-    child-asks (min-over-child t (c .before .before .before)) t (c .before .before .before .before .before .before .before .before .before .before .before .pre .0) MAX (sym (c .before .before .before .kind-at .ensures) ∙ c .before .if2 .taken)
+    let p = c .before .before .before in
+    child-asks (min-over-child t (c .before .before .before)) t (p .before .before .before .before .before .before .before .before .pre .0) MAX (sym (p .kind-at .ensures) ∙ c .before .if2 .taken)
 
 min-over-add-min-over : (t : ℕ) → min-over-lts.Need-add-min-over (min-over-claims t) (min-over-at t) min-over.Post min-over-Inv-loop min-over-μ-loop
 min-over-add-min-over t c = omega (arith, min-over-child t (c .before .before .before .before) .small)
 
 min-over-min-over-requires : (t : ℕ) → min-over-lts.Need-min-over-requires (min-over-claims t) (min-over-at t) min-over.Post min-over-Inv-loop min-over-μ-loop
 min-over-min-over-requires t c κs =
-    child-asks (min-over-child t (c .before .before .before .before)) t (c .before .before .before .before .before .before .before .before .before .before .before .before .pre .0) MIN (sym (c .before .before .before .before .kind-at .ensures) ∙ c .before .if3 .taken)
+    let p = c .before .before .before .before in
+    child-asks (min-over-child t (c .before .before .before .before)) t (p .before .before .before .before .before .before .before .before .pre .0) MIN (sym (p .kind-at .ensures) ∙ c .before .if3 .taken)
 
 min-over-add-chance-over : (t : ℕ) → min-over-lts.Need-add-chance-over (min-over-claims t) (min-over-at t) min-over.Post min-over-Inv-loop min-over-μ-loop
 min-over-add-chance-over t c = omega (arith, min-over-child t (c .before .before .before .before) .small)
 
 min-over-chance-over-requires : (t : ℕ) → min-over-lts.Need-chance-over-requires (min-over-claims t) (min-over-at t) min-over.Post min-over-Inv-loop min-over-μ-loop
 min-over-chance-over-requires t c κs =
-    child-asks (min-over-child t (c .before .before .before .before)) t (c .before .before .before .before .before .before .before .before .before .before .before .before .pre .0) CHANCE (child-three (min-over-child t (c .before .before .before .before)) _ (c .before .before .before .before .kind-at .ensures) (c .before .before .before .if1 .left) (c .before .before .if2 .left) (c .before .if3 .left))
+    let p = c .before .before .before .before in
+    let C = min-over-child t (c .before .before .before .before) in
+    child-asks C t (p .before .before .before .before .before .before .before .before .pre .0) CHANCE
+    (child-three C _ (p .kind-at .ensures) (c .before .before .before .if1 .left) (c .before .before .if2 .left) (c .before .if3 .left))
 
 -- at the place where the four ways meet: what the search of the child told
 min-over-joined : (t : ℕ) (c : min-over-lts.Joined1 (min-over-claims t) (min-over-at t) min-over.Post min-over-Inv-loop min-over-μ-loop)
@@ -440,18 +514,16 @@ min-over-joined : (t : ℕ) (c : min-over-lts.Joined1 (min-over-claims t) (min-o
 min-over-joined t c =
     let a = c .before .before .before .before .before .before .before .before .before .args in
     let l = c .before .before .before .loop in
-    let T = (slices (a .kind .now) (a .stop .now) (a .weight .now) (a .height .now)) in
     let k = c .before .kind-at in
     let x = c .before .before .stop-at in
-    let α : ℕ = l .t .alpha in
-    let β : ℕ = l .t .beta in
     ⊎-elim
-    (λ w. searched-same T (a .g) (l .i) (l .n) α β (l .leaves) (w .6) (w .5) (searched-leaf T (a .g) (l .i) (l .n) α β (l .leaves) (w .2 .result) (w .2 .last .1 .0) (sym (k .ensures) ∙ w .0 .taken) (w .2 .ensures)))
+    (λ w. searched-same (w .6) (w .5) (searched-leaf (sym (k .ensures) ∙ w .0 .taken) (w .2 .ensures)))
     (⊎-elim
-    (λ w. searched-same T (a .g) (l .i) (l .n) α β (l .leaves) (w .7) (w .6) (searched-inner T (a .g) (l .i) (l .n) α β (l .leaves) (x .result) MAX (w .3 .result) (w .3 .last .1 .1 .1 .1 .0) (sym (k .ensures) ∙ w .1 .taken) (x .ensures) (w .3 .ensures) (w .3 .kept .1 .1 .1 .1 .0)))
+    (λ w. searched-same (w .7) (w .6) (searched-inner MAX (sym (k .ensures) ∙ w .1 .taken) (x .ensures) (w .3 .ensures) (w .3 .kept .1 .1 .1 .1 .0)))
     (⊎-elim
-    (λ w. searched-same T (a .g) (l .i) (l .n) α β (l .leaves) (w .8) (w .7) (searched-inner T (a .g) (l .i) (l .n) α β (l .leaves) (x .result) MIN (w .4 .result) (w .4 .last .1 .1 .1 .1 .0) (sym (k .ensures) ∙ w .2 .taken) (x .ensures) (w .4 .ensures) (w .4 .kept .1 .1 .1 .1 .0)))
-    (λ w. searched-same T (a .g) (l .i) (l .n) α β (l .leaves) (w .8) (w .7) (searched-inner T (a .g) (l .i) (l .n) α β (l .leaves) (x .result) CHANCE (w .4 .result) (w .4 .last .1 .1 .1 .1 .0) (child-three (min-over-child t (c .before)) _ (k .ensures) (w .0 .left) (w .1 .left) (w .2 .left)) (x .ensures) (w .4 .ensures) (w .4 .kept .1 .1 .1 .1 .0)))))
+    (λ w. searched-same (w .8) (w .7) (searched-inner MIN (sym (k .ensures) ∙ w .2 .taken) (x .ensures) (w .4 .ensures) (w .4 .kept .1 .1 .1 .1 .0)))
+    (λ w. searched-same (w .8) (w .7) (searched-inner CHANCE (child-three (min-over-child t (c .before)) _ (k .ensures) (w .0 .left) (w .1 .left) (w .2 .left))
+    (x .ensures) (w .4 .ensures) (w .4 .kept .1 .1 .1 .1 .0)))))
     (c .if1 .came)
 
 min-over-min-after-requires : (t : ℕ) → min-over-lts.Need-min-after-requires (min-over-claims t) (min-over-at t) min-over.Post min-over-Inv-loop min-over-μ-loop

@@ -1,94 +1,79 @@
 -- `search::search` meets its contract. Assumes nothing.
-use Prim.Native.Nat.{ℕ, _<_}
-use mathlib.Core.Path.{_≡_, sym, _∙_}
+use mathlib.Core.Path.{sym, _∙_}
 use native.Mathlib.Omega.{arith}
 use borrow.Author.Needs.{needs}
 use denote.Ref.{now}
-use lib.ListN.{length, getD}
+use lib.ListN.{length}
 use Rattle.table.specs.Tree.{MAX, MIN, CHANCE}
 use Rattle.search.specs.Inside.{slices}
-use Rattle.search.proofs.Rules.{ReadyNode, ready-inner, ready-three, ready-leaf, NodeSearched, searched-leaf, searched-inner}
+use Rattle.search.proofs.Rules.{ReadyNode, ready-inner, ready-three, ready-leaf, searched-leaf, searched-inner}
 use Rattle.search.proofs.Call.{root-ready, root-long, root-searched}
 use Rattle.search.proofs.search.Statement.{statement}
 use Rattle.search.proofs.search.Tie as tie
 
 kind-at-requires : tie.Need-kind-at-requires
-kind-at-requires c κs =
-    let p = c .before .before .before .before .before in
-    let a = p .args in
-    root-long (slices (now (a .kind)) (now (a .stop)) (now (a .weight)) (now (a .height))) (a .g) (a .n) (length (now (a .leaves))) (p .pre) .0
+kind-at-requires c κs = root-long (c .before .before .before .before .before .pre) .0
 
 -- at the place where the root's kind was read
-root : (c : tie.After-kind-at) → let a = c .before .before .before .before .before .before .args in ReadyNode (slices (now (a .kind)) (now (a .stop)) (now (a .weight)) (now (a .height))) (a .g) 0 (a .n) 0 (length (now (a .leaves))) 0 (a .g .top)
-root c =
-    let p = c .before .before .before .before .before .before in
-    let a = p .args in
-    root-ready (slices (now (a .kind)) (now (a .stop)) (now (a .weight)) (now (a .height))) (a .g) (a .n) (length (now (a .leaves))) (p .pre)
+root : (c : tie.After-kind-at)
+    → let a = c .before .before .before .before .before .before .args in
+    ReadyNode (slices (now (a .kind)) (now (a .stop)) (now (a .weight)) (now (a .height))) (a .g) 0 (a .n) 0 (length (now (a .leaves))) 0 (a .g .top)
+root c = root-ready (c .before .before .before .before .before .before .pre)
 
 leaf-at-requires : tie.Need-leaf-at-requires
 leaf-at-requires c κs =
-    let a = c .before .before .before .before .before .before .before .before .args in
-    let N = root (c .before .before) in
-    let L = ready-leaf (slices (now (a .kind)) (now (a .stop)) (now (a .weight)) (now (a .height))) (a .g) 0 (a .n) 0 (length (now (a .leaves))) 0 (a .g .top) N (sym (c .before .before .kind-at .ensures) ∙ c .before .if1 .taken) in
-    (root-long (slices (now (a .kind)) (now (a .stop)) (now (a .weight)) (now (a .height))) (a .g) (a .n) (length (now (a .leaves))) (c .before .before .before .before .before .before .before .before .pre) .1, L .0, omega arith, L .1)
+    let L = ready-leaf (root (c .before .before)) (sym (c .before .before .kind-at .ensures) ∙ c .before .if1 .taken) in
+    (root-long (c .before .before .before .before .before .before .before .before .pre) .1, L .0, omega arith, L .1)
 
 same-length : tie.Need-same-length
 same-length c = search needs
 
 returns : tie.Need-returns
-returns c =
-    let a = c .before .before .before .before .before .before .before .before .before .before .before .args in
-    let f = c .before .before .leaf-at in
-    root-searched (slices (now (a .kind)) (now (a .stop)) (now (a .weight)) (now (a .height))) (a .g) (a .n) (f .result) (now (a .leaves)) (f .last .1 .0)
-    (searched-leaf (slices (now (a .kind)) (now (a .stop)) (now (a .weight)) (now (a .height))) (a .g) 0 0 0 (a .g .top) (now (a .leaves)) (f .result) (f .last .1 .0) (sym (c .before .before .before .before .before .kind-at .ensures) ∙ c .before .before .before .before .if1 .taken) (f .ensures) .tells)
+returns c = root-searched (searched-leaf (sym (c .before .before .before .before .before .kind-at .ensures) ∙ c .before .before .before .before .if1 .taken) (c .before .before .leaf-at .ensures))
 
 max-over-requires : tie.Need-max-over-requires
-max-over-requires c κs =
-    let a = c .before .before .before .before .before .before .before .before .before .args in
-    ready-inner (slices (now (a .kind)) (now (a .stop)) (now (a .weight)) (now (a .height))) (a .g) 0 (a .n) 0 (length (now (a .leaves))) 0 (a .g .top) (root (c .before .before .before)) MAX (sym (c .before .before .before .kind-at .ensures) ∙ c .before .if2 .taken)
+max-over-requires c κs = ready-inner (root (c .before .before .before)) MAX (sym (c .before .before .before .kind-at .ensures) ∙ c .before .if2 .taken)
 
 same-length-2 : tie.Need-same-length-2
 same-length-2 c = search needs
 
 returns-2 : tie.Need-returns-2
 returns-2 c =
-    let a = c .before .before .before .before .before .before .before .before .before .before .before .before .args in
+    let p = c .before .before .before .before .before .before in
+    let a = p .before .before .before .before .before .before .args in
     let f = c .before .before .max-over in
-    let N = root (c .before .before .before .before .before .before) in
-    root-searched (slices (now (a .kind)) (now (a .stop)) (now (a .weight)) (now (a .height))) (a .g) (a .n) (f .result) (now (a .leaves)) (f .last .1 .1 .1 .1 .0)
-    (searched-inner (slices (now (a .kind)) (now (a .stop)) (now (a .weight)) (now (a .height))) (a .g) 0 0 0 (a .g .top) (now (a .leaves)) (a .n) MAX (f .result) (f .last .1 .1 .1 .1 .0) (sym (c .before .before .before .before .before .before .kind-at .ensures) ∙ c .before .before .before .before .if2 .taken) (sym (N .stop)) (f .ensures) (f .kept .1 .1 .1 .1 .0) .tells)
+    let T = slices (now (a .kind)) (now (a .stop)) (now (a .weight)) (now (a .height)) in
+    root-searched (searched-inner {t = T} MAX (sym (p .kind-at .ensures) ∙ c .before .before .before .before .if2 .taken) (sym (root p .stop)) (f .ensures) (f .kept .1 .1 .1 .1 .0))
 
 min-over-requires : tie.Need-min-over-requires
-min-over-requires c κs =
-    let a = c .before .before .before .before .before .before .before .before .before .before .args in
-    ready-inner (slices (now (a .kind)) (now (a .stop)) (now (a .weight)) (now (a .height))) (a .g) 0 (a .n) 0 (length (now (a .leaves))) 0 (a .g .top) (root (c .before .before .before .before)) MIN (sym (c .before .before .before .before .kind-at .ensures) ∙ c .before .if3 .taken)
+min-over-requires c κs = ready-inner (root (c .before .before .before .before)) MIN (sym (c .before .before .before .before .kind-at .ensures) ∙ c .before .if3 .taken)
 
 same-length-3 : tie.Need-same-length-3
 same-length-3 c = search needs
 
 returns-3 : tie.Need-returns-3
 returns-3 c =
-    let a = c .before .before .before .before .before .before .before .before .before .before .before .before .before .args in
+    let p = c .before .before .before .before .before .before .before in
+    let a = p .before .before .before .before .before .before .args in
     let f = c .before .before .min-over in
-    let N = root (c .before .before .before .before .before .before .before) in
-    root-searched (slices (now (a .kind)) (now (a .stop)) (now (a .weight)) (now (a .height))) (a .g) (a .n) (f .result) (now (a .leaves)) (f .last .1 .1 .1 .1 .0)
-    (searched-inner (slices (now (a .kind)) (now (a .stop)) (now (a .weight)) (now (a .height))) (a .g) 0 0 0 (a .g .top) (now (a .leaves)) (a .n) MIN (f .result) (f .last .1 .1 .1 .1 .0) (sym (c .before .before .before .before .before .before .before .kind-at .ensures) ∙ c .before .before .before .before .if3 .taken) (sym (N .stop)) (f .ensures) (f .kept .1 .1 .1 .1 .0) .tells)
+    let T = slices (now (a .kind)) (now (a .stop)) (now (a .weight)) (now (a .height)) in
+    root-searched (searched-inner {t = T} MIN (sym (p .kind-at .ensures) ∙ c .before .before .before .before .if3 .taken) (sym (root p .stop)) (f .ensures) (f .kept .1 .1 .1 .1 .0))
 
 chance-over-requires : tie.Need-chance-over-requires
 chance-over-requires c κs =
-    let a = c .before .before .before .before .before .before .before .before .before .before .args in
-    ready-inner (slices (now (a .kind)) (now (a .stop)) (now (a .weight)) (now (a .height))) (a .g) 0 (a .n) 0 (length (now (a .leaves))) 0 (a .g .top) (root (c .before .before .before .before)) CHANCE (ready-three (slices (now (a .kind)) (now (a .stop)) (now (a .weight)) (now (a .height))) (a .g) 0 (a .n) 0 (length (now (a .leaves))) 0 (a .g .top) (root (c .before .before .before .before)) _ (c .before .before .before .before .kind-at .ensures) (c .before .before .before .if1 .left) (c .before .before .if2 .left) (c .before .if3 .left))
+    let p = c .before .before .before .before in
+    ready-inner (root p) CHANCE (ready-three (root p) _ (p .kind-at .ensures) (c .before .before .before .if1 .left) (c .before .before .if2 .left) (c .before .if3 .left))
 
 same-length-4 : tie.Need-same-length-4
 same-length-4 c = search needs
 
 returns-4 : tie.Need-returns-4
 returns-4 c =
-    let a = c .before .before .before .before .before .before .before .before .before .before .before .before .before .args in
+    let p = c .before .before .before .before .before .before .before in
+    let a = p .before .before .before .before .before .before .args in
     let f = c .before .before .chance-over in
-    let N = root (c .before .before .before .before .before .before .before) in
-    root-searched (slices (now (a .kind)) (now (a .stop)) (now (a .weight)) (now (a .height))) (a .g) (a .n) (f .result) (now (a .leaves)) (f .last .1 .1 .1 .1 .0)
-    (searched-inner (slices (now (a .kind)) (now (a .stop)) (now (a .weight)) (now (a .height))) (a .g) 0 0 0 (a .g .top) (now (a .leaves)) (a .n) CHANCE (f .result) (f .last .1 .1 .1 .1 .0) (ready-three (slices (now (a .kind)) (now (a .stop)) (now (a .weight)) (now (a .height))) (a .g) 0 (a .n) 0 (length (now (a .leaves))) 0 (a .g .top) (root (c .before .before .before .before .before .before .before)) _ (c .before .before .before .before .before .before .before .kind-at .ensures) (c .before .before .before .before .before .before .if1 .left) (c .before .before .before .before .before .if2 .left) (c .before .before .before .before .if3 .left)) (sym (N .stop)) (f .ensures) (f .kept .1 .1 .1 .1 .0) .tells)
+    let T = slices (now (a .kind)) (now (a .stop)) (now (a .weight)) (now (a .height)) in
+    root-searched (searched-inner {t = T} CHANCE (ready-three (root p) _ (p .kind-at .ensures) (c .before .before .before .before .before .before .if1 .left) (c .before .before .before .before .before .if2 .left) (c .before .before .before .before .if3 .left)) (sym (root p .stop)) (f .ensures) (f .kept .1 .1 .1 .1 .0))
 
 pub search-spec : {M : Type 1} → statement M
 search-spec =
