@@ -165,9 +165,10 @@ fn put_bounds(b: Bounds, numbers: &mut [i64])
     requires { ⌜ SmallBounds b ⌝ }
     ensures { λ _. ⌜ now (numbers .exit) ≡ put 0 (boundsNumbers b) (now (numbers .entry)) ⌝ }
 {
+    let play = b.play;
     put_at(numbers, 0, b.low);
     put_at(numbers, 1, b.high);
-    put_at(numbers, 2, signed(node_number(b.play) as u64));
+    put_at(numbers, 2, signed(node_number(play) as u64));
     put_at(numbers, 3, signed(b.leaves as u64));
     put_at(numbers, 4, signed(b.grain));
 }

@@ -1,3 +1,4 @@
 pub mod Sums
 pub mod Known
 pub mod Searching
+pub mod Answered

@@ -38,11 +38,11 @@ use Rattle.engine.specs.Inside.{scaleFor, ruleFor}
 -- ---- the search's own refusals
 
 module _ (t : Table) (m : ℤ) (room : ℕ) where
-  sought-margin : badMargin m ≡ true → sought (fine t) m room ≡ refused BadMargin
+  pub sought-margin : badMargin m ≡ true → sought (fine t) m room ≡ refused BadMargin
   unfolding unless
   sought-margin b = rw b refl
 
-  sought-room : badMargin m ≡ false → room < leaves (tree t) → sought (fine t) m room ≡ refused NoRoom
+  pub sought-room : badMargin m ≡ false → room < leaves (tree t) → sought (fine t) m room ≡ refused NoRoom
   unfolding unless
   sought-room b l = rw (b, lt-ltb room (leaves (tree t)) l) refl
 
