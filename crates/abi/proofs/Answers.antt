@@ -1,5 +1,5 @@
 -- What an answer tells of the text, and that its numbers are small. Assumes nothing.
-use Prim.Native.Nat.{ℕ, _≤_}
+use Prim.Native.Nat.{ℕ, _≤_, _<_}
 use mathlib.Core.Path.{_≡_, ap₂, subst, _∙_}
 use mathlib.Core.List.{List}
 use native.Mathlib.Omega.{arith}
@@ -15,7 +15,11 @@ use Rattle.table.proofs.Accepted.{answer-accepted, accepted-ranged, accepted-si
 use Rattle.engine.specs.declared.Exact.the-variants.{Grains, Refused}
 use Rattle.engine.specs.declared.Opinion
 use Rattle.engine.specs.Calls.{exactCall, judgeCall}
-use Rattle.abi.specs.Numbers.{Small}
+use Rattle.engine.specs.declared.Bounds.{Bounds}
+use Rattle.engine.proofs.Answered.{Sizes, Below}
+use Rattle.judge.specs.declared.Play.{Play}
+use Rattle.judge.specs.declared.Play.the-variants.{Child, NoPlay}
+use Rattle.abi.specs.Numbers.{nodeNumber, Small, SmallBounds}
 
 pub small : (s : List ℕ) (t : Summary) → answer (readText s) ≡ Accepted t → Small t
 small s t e =
@@ -62,3 +66,11 @@ opinion-refused (fine t) i r e = let z : _≡_ {A = ℕ} 0 1 = cc in absurd (ome
 -- an entry more was written
 pub stored : {A : Type 0} {a b b′ : List A} {z z′ : A} (i : ℕ) → a ≡ set b i z → b ≡ b′ → z ≡ z′ → a ≡ set b′ i z′
 stored {A = A} i p q r = p ∙ ap₂ (λ (x : List A) (y : A). set x i y) q r
+
+node-small : (p : Play) → Below 1024 p → nodeNumber p < 1024
+node-small (Child n) h = h
+node-small NoPlay h = omega arith
+
+pub bounds-small : (b : Bounds) → Sizes b → SmallBounds b
+bounds-small b z =
+    record { play = omega (arith, node-small (b .play) (z .play)); leaves = omega (arith, z .leaves); grain = omega (arith, z .grain) }

@@ -1,0 +1,81 @@
+-- `abi::put_bounds` meets its contract. Assumes nothing.
+use mathlib.Core.Path.{_≡_, refl, ap, _∙_}
+use borrow.Author.Needs.{needs}
+use denote.Ref.{now}
+use lib.IntN.{pos}
+use mir.Syntax.{w64}
+use mir.Val.{toZ, ofZ}
+use Rattle.abi.proofs.Answers.{stored}
+use Rattle.abi.proofs.put_bounds.Statement.{statement}
+use Rattle.abi.proofs.put_bounds.Tie as tie
+
+low-back : (s : tie.Start) → toZ w64 (ofZ w64 (s .args .b .low)) ≡ s .args .b .low
+low-back s = search needs
+
+high-back : (s : tie.Start) → toZ w64 (ofZ w64 (s .args .b .high)) ≡ s .args .b .high
+high-back s = search needs
+
+put-at-requires : tie.Need-put-at-requires
+put-at-requires c κs = search needs
+
+put-at-requires-2 : tie.Need-put-at-requires-2
+put-at-requires-2 c κs = search needs
+
+node-number-requires : tie.Need-node-number-requires
+node-number-requires c κs = search needs
+
+signed-requires : tie.Need-signed-requires
+signed-requires c κs = search needs
+
+put-at-requires-3 : tie.Need-put-at-requires-3
+put-at-requires-3 c κs = search needs
+
+signed-requires-2 : tie.Need-signed-requires-2
+signed-requires-2 c κs = search needs
+
+put-at-requires-4 : tie.Need-put-at-requires-4
+put-at-requires-4 c κs = search needs
+
+signed-requires-3 : tie.Need-signed-requires-3
+signed-requires-3 c κs = search needs
+
+put-at-requires-5 : tie.Need-put-at-requires-5
+put-at-requires-5 c κs = search needs
+
+same-length : tie.Need-same-length
+same-length c = search needs
+
+returns : tie.Need-returns
+returns c =
+    let P5 = c .before in
+    let P4 = P5 .before .before .before .before in
+    let P3 = P4 .before .before .before .before in
+    let P2 = P3 .before .before .before .before .before in
+    let P1 = P2 .before .before .before .before in
+    let s = P1 .before .before .before in
+    let b3 : toZ w64 (ofZ w64 (P3 .before .signed .result)) ≡ P3 .before .signed .result = search needs in
+    let b4 : toZ w64 (ofZ w64 (P4 .before .signed2 .result)) ≡ P4 .before .signed2 .result = search needs in
+    let b5 : toZ w64 (ofZ w64 (P5 .before .signed3 .result)) ≡ P5 .before .signed3 .result = search needs in
+    stored 4 (P5 .put-at5 .ensures)
+    (stored 3 (P4 .put-at4 .ensures)
+    (stored 2 (P3 .put-at3 .ensures)
+    (stored 1 (P2 .put-at2 .ensures) (stored {b = now (s .args .numbers)} 0 (P1 .put-at .ensures) refl (low-back s)) (high-back s))
+    (b3 ∙ P3 .before .signed .ensures ∙ ap pos (P3 .before .before .node-number .ensures)))
+    (b4 ∙ P4 .before .signed2 .ensures))
+    (b5 ∙ P5 .before .signed3 .ensures)
+
+pub put-bounds-spec : {M : Type 1} → statement M
+put-bounds-spec =
+    tie.close
+    (tie.spec
+    put-at-requires
+    put-at-requires-2
+    node-number-requires
+    signed-requires
+    put-at-requires-3
+    signed-requires-2
+    put-at-requires-4
+    signed-requires-3
+    put-at-requires-5
+    same-length
+    returns)
