@@ -225,7 +225,8 @@ impl Grower {
     }
 }
 
-fn ends(random: &mut Random) -> (i64, i64) {
+/// The lowest and the highest end of a table.
+pub fn ends(random: &mut Random) -> (i64, i64) {
     let far = FARTHEST_END;
     let one = random.between(-far, far);
     let other = random.between(-far, far);
