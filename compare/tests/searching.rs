@@ -491,6 +491,28 @@ fn every_small_table() {
     demand(10, &comparison.seen.cut_or_not());
 }
 
+/// Tables with few grains from end to end, with every margin up to their span or
+/// to 60 grains: there a window that is rounded the wrong way shows most often.
+#[test]
+fn narrow_tables() {
+    let mut comparison = Comparison::new("searching narrow tables");
+    for number in 0..20_000 {
+        let mut random = Random::of_case(comparison.tally.seed, number);
+        let text = texts::narrow(&mut random);
+        let table = comparison
+            .hold(&text, |table| {
+                (0..=span(table.expect("a valid table")).min(60)).collect()
+            })
+            .expect("valid");
+        let margin = random.between(0, span(&table));
+        comparison.seen.add_tests(&table, margin);
+    }
+    comparison.tally.report();
+    let mut answers = comparison.seen.answers();
+    answers.retain(|(sort, _)| !sort.ends_with("root Leaf"));
+    demand(1_000, &answers);
+}
+
 /// Tables of 1,024 lines with T 64 and the widest ends.
 #[test]
 fn largest_tables() {

@@ -40,6 +40,11 @@ pub fn valid(random: &mut Random) -> Vec<u8> {
     grow::valid(random).text()
 }
 
+/// A valid table where the rounding of windows often decides.
+pub fn narrow(random: &mut Random) -> Vec<u8> {
+    grow::narrow(random).text()
+}
+
 /// A valid table with T 36 where every C has the 21 rolls of two dice.
 pub fn dice(random: &mut Random) -> Vec<u8> {
     dice::dice(random).text()
