@@ -31,32 +31,36 @@ const PATTERN: u16 = 0xa5a5;
 /// The most entries that a list has beyond a table's leaves.
 const SPARE: usize = 30;
 
-/// Room for the longest list lent, and some entries as a guard after it.
-type List = [u16; MOST_NODES + SPARE + 2];
+/// Entries kept as a guard after a list lent.
+const GUARD: usize = 2;
 
-/// What a call must return and write: the answer, and the whole list.
+/// What a call must return and write: the answer with G, and the leaves read, in
+/// reading sequence.
 struct Expected {
     answer: Result<(Found, i64), Refusal>,
-    list: Box<List>,
+    leaves: Vec<u16>,
 }
 
 impl Expected {
     /// What the second engine says of a table that was read.
     fn of(table: &Result<Table, Refusal>, margin: i64, room: usize) -> Expected {
-        let mut list = Box::new([PATTERN; MOST_NODES + SPARE + 2]);
-        let answer = match table {
-            Ok(table) => {
-                second::search(table, margin, &mut list[..room]).map(|found| (found, table.grains))
-            }
-            Err(refusal) => Err(*refusal),
+        let table = match table {
+            Ok(table) => table,
+            Err(refusal) => return Expected::refused(*refusal),
         };
-        Expected { answer, list }
+        let mut leaves = vec![PATTERN; room];
+        match second::search(table, margin, &mut leaves) {
+            Ok(found) => {
+                leaves.truncate(found.read);
+                let answer = Ok((found, table.grains));
+                Expected { answer, leaves }
+            }
+            Err(refusal) => Expected::refused(refusal),
+        }
     }
 
-    /// An answer that is known.
+    /// An answer that is known; play 0 is none.
     fn known(low: i64, high: i64, play: usize, leaves: &[u16], grains: i64) -> Expected {
-        let mut list = Box::new([PATTERN; MOST_NODES + SPARE + 2]);
-        list[..leaves.len()].copy_from_slice(leaves);
         let found = Found {
             low,
             high,
@@ -65,22 +69,14 @@ impl Expected {
         };
         Expected {
             answer: Ok((found, grains)),
-            list,
+            leaves: leaves.to_vec(),
         }
     }
 
-    fn refused(number: u8, line: usize) -> Expected {
+    fn refused(refusal: Refusal) -> Expected {
         Expected {
-            answer: Err(Refusal { number, line }),
-            list: Box::new([PATTERN; MOST_NODES + SPARE + 2]),
-        }
-    }
-
-    /// The leaves read, in reading sequence.
-    fn leaves(&self) -> &[u16] {
-        match &self.answer {
-            Ok((found, _)) => &self.list[..found.read],
-            Err(_) => &[],
+            answer: Err(refusal),
+            leaves: Vec::new(),
         }
     }
 }
@@ -105,20 +101,21 @@ fn hold_to(
         ][..],
         Err(_) => &[],
     };
-    let mut list = [PATTERN; MOST_NODES + SPARE + 2];
+    let mut list = vec![PATTERN; room + GUARD];
     let asked = format_args!("the search with margin {margin} and a list of {room}");
     let returned = (code(&expected.answer), written);
     agree(tally, text, asked, numbers, returned, |lent| {
         engine::search(text, margin, &mut list[..room], lent)
     });
-    if let Some(i) = (0..list.len()).find(|&i| list[i] != expected.list[i]) {
+    let (read, rest) = list.split_at(expected.leaves.len());
+    if read != expected.leaves || rest.iter().any(|&entry| entry != PATTERN) {
         panic!(
             "{}: the engines differ on {asked}\n\
-             list entry {i}: expected {}, got {} ({PATTERN} is untouched)\n\
+             leaves: expected {:?}, then {PATTERN} for each entry left alone\n\
+             got {list:?}\n\
              text of {} bytes:\n{}",
             tally.place(),
-            expected.list[i],
-            list[i],
+            expected.leaves,
             text.len(),
             escaped(text),
         );
@@ -164,7 +161,7 @@ impl Comparison {
                 };
                 self.seen.add_list(room, table.leaves);
                 if let Ok((found, _)) = expected.answer {
-                    keeps_its_promises(table, worths, margin, found, expected.leaves());
+                    keeps_its_promises(table, worths, margin, found, &expected.leaves);
                     self.seen.add_answer(table, margin, found);
                 }
             }
@@ -572,7 +569,7 @@ fn unread_leaves_do_not_matter() {
         hold_to(&tally, &text, margin, table.leaves, ROOM, &expected);
 
         for (i, node) in table.nodes.iter().enumerate() {
-            if node.kind == Kind::Leaf && !expected.leaves().contains(&(i as u16)) {
+            if node.kind == Kind::Leaf && !expected.leaves.contains(&(i as u16)) {
                 let utility = match random.below(3) {
                     0 => table.lowest,
                     1 => table.highest,
@@ -587,7 +584,7 @@ fn unread_leaves_do_not_matter() {
         changed += u64::from(other != table);
         let (found, _) = expected.answer.expect("accepted");
         let worths = second::worths(&other);
-        keeps_its_promises(&other, &worths, margin, found, expected.leaves());
+        keeps_its_promises(&other, &worths, margin, found, &expected.leaves);
         tally.add(&[0]);
     }
     tally.report();
@@ -636,7 +633,7 @@ fn second_engine_searches_a_turned_table_alike() {
                 (Found { low, high, ..found }, grains)
             });
             assert_eq!(other.answer, negated);
-            assert_eq!(other.list, one.list);
+            assert_eq!(other.leaves, one.leaves);
         }
     }
     assert!(cut >= 5_000, "only {cut} searches were cut");
@@ -669,6 +666,7 @@ fn second_engine_rounds_windows_outward() {
 /// Texts, each with a margin and what must come of it.
 fn known() -> Vec<(Vec<u8>, i64, Expected)> {
     let known = Expected::known;
+    let refused = |number, line| Expected::refused(Refusal { number, line });
     let mut all = vec![
         (dotted(TABLE_A), 0, known(3, 3, 1, &[2, 3, 5], 1)),
         (dotted(TABLE_A), 2, known(3, 3, 1, &[2, 3, 5], 1)),
@@ -682,7 +680,7 @@ fn known() -> Vec<(Vec<u8>, i64, Expected)> {
         (
             table_b_with(4, "...3.L....2....2.......2"),
             0,
-            Expected::refused(9, 3),
+            refused(9, 3),
         ),
     ];
     for margin in [0, 1, 12, GREATEST_MARGIN] {
@@ -690,7 +688,7 @@ fn known() -> Vec<(Vec<u8>, i64, Expected)> {
     }
     for table in [TABLE_A, TABLE_B, TABLE_B_TURNED, LONE_LEAF] {
         for margin in [40_000_000_000_001, -1, i64::MIN, i64::MAX] {
-            all.push((dotted(table), margin, Expected::refused(12, 0)));
+            all.push((dotted(table), margin, refused(12, 0)));
         }
     }
     all
@@ -703,7 +701,7 @@ fn second_engine_has_the_known_answers() {
         let room = table.as_ref().map_or(0, |table| table.leaves);
         let got = Expected::of(&table, margin, room);
         assert_eq!(got.answer, expected.answer, "margin {margin}");
-        assert_eq!(got.list, expected.list, "margin {margin}");
+        assert_eq!(got.leaves, expected.leaves, "margin {margin}");
     }
 }
 
@@ -722,7 +720,10 @@ fn examples() {
         }
         // Of several refusals the one that comes first in the sequence counts.
         let short = match expected.answer {
-            Ok(_) => Expected::refused(11, 0),
+            Ok(_) => Expected::refused(Refusal {
+                number: 11,
+                line: 0,
+            }),
             Err(_) => expected,
         };
         for room in 0..leaves {
