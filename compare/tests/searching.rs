@@ -28,7 +28,8 @@ use numbers::{agree, ROOM};
 /// No node has this number, so an entry of a list that was written shows.
 const PATTERN: u16 = 0xa5a5;
 
-/// The most entries that a list has beyond a table's leaves.
+/// A longer list has at most so many entries beyond a table's leaves, or 1,024
+/// entries.
 const SPARE: usize = 30;
 
 /// Entries kept as a guard after a list lent.
@@ -126,7 +127,7 @@ fn hold_to(
 struct Comparison {
     tally: Tally,
     seen: Seen,
-    /// Answers compared so far; it sets the lengths lent next.
+    /// Margins compared so far; it sets the lengths lent next.
     turn: usize,
 }
 
@@ -188,7 +189,7 @@ impl Comparison {
             1 => vec![(leaves + 1, ROOM)],
             2 => vec![(leaves + 1 + self.turn % SPARE, ROOM)],
             3 => vec![(leaves, fewer), (leaves / 2, fewer)],
-            4 => vec![(leaves.max(MOST_NODES), ROOM)],
+            4 => vec![(MOST_NODES, ROOM)],
             5 => vec![(leaves + 2, fewer)],
             _ => vec![(leaves, ROOM)],
         }
