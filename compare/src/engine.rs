@@ -1,6 +1,7 @@
 //! Calls the proved engine through its C interface.
 //!
-//! The only `unsafe` of this crate is here, in `read_into`, `worth` and `judge`.
+//! The only `unsafe` of this crate is here, in `read_into`, `worth`, `judge` and
+//! `search`.
 
 use crate::second::MOST_NODES;
 
@@ -33,6 +34,16 @@ mod abi {
             text_len: usize,
             number: i64,
             numbers: *mut u64,
+            numbers_len: usize,
+        ) -> u64;
+
+        pub fn margin_search(
+            text: *const u8,
+            text_len: usize,
+            margin: i64,
+            leaves: *mut u16,
+            leaves_len: usize,
+            numbers: *mut i64,
             numbers_len: usize,
         ) -> u64;
     }
@@ -148,6 +159,30 @@ pub fn judge(text: &[u8], number: i64, numbers: &mut [i64]) -> u64 {
             text.len(),
             number,
             numbers.as_mut_ptr().cast::<u64>(),
+            numbers.len(),
+        )
+    }
+}
+
+/// Searches the table in `text` to within this margin, in grains. Returns 0 or
+/// the refusal as `read` does, where refusals 12 and 11 have line 0. The low,
+/// the high, the node number of the root child to play (0 for none), the number
+/// of leaves read and G stand first in `numbers`, as far as there is room, and
+/// the node numbers of the leaves read stand first in `leaves`, in reading
+/// sequence. All else in both is left as it was, and everything where the call
+/// is refused.
+#[allow(unsafe_code)]
+pub fn search(text: &[u8], margin: i64, leaves: &mut [u16], numbers: &mut [i64]) -> u64 {
+    // Sound: each pointer stands with the length of what it points to, and the
+    // three slices are apart from each other and lent for the length of the call.
+    unsafe {
+        abi::margin_search(
+            text.as_ptr(),
+            text.len(),
+            margin,
+            leaves.as_mut_ptr(),
+            leaves.len(),
+            numbers.as_mut_ptr(),
             numbers.len(),
         )
     }

@@ -1,5 +1,5 @@
-//! Benchmark of reading and of the exact worth: both engines on the same texts
-//! in the same run.
+//! Benchmark of reading, of the exact worth and of the search: both engines on
+//! the same texts in the same run.
 //!
 //! Run it in release mode: `cargo run --release --bin bench`.
 
@@ -8,7 +8,7 @@ use std::time::{Duration, Instant};
 
 use compare::engine::{self, Lent};
 use compare::random::{seed, Random};
-use compare::second;
+use compare::second::{self, MOST_NODES};
 
 /// Node lines of the tables.
 const SIZES: [usize; 3] = [64, 256, 1_024];
@@ -27,6 +27,8 @@ struct Sort {
     shape: &'static str,
     size: usize,
     texts: Vec<Vec<u8>>,
+    /// From the lowest end to the highest, in grains.
+    span: i64,
 }
 
 /// The times that one sort of texts took.
@@ -51,8 +53,15 @@ fn main() {
     for (shape, make) in shapes {
         for size in SIZES {
             let mut random = Random::new(seed);
-            let texts = (0..TEXTS).map(|_| make(size, &mut random)).collect();
-            sorts.push(Sort { shape, size, texts });
+            let texts: Vec<Vec<u8>> = (0..TEXTS).map(|_| make(size, &mut random)).collect();
+            let table = second::read(&texts[0]).expect("a valid table");
+            let span = (table.highest - table.lowest) * table.grains;
+            sorts.push(Sort {
+                shape,
+                size,
+                texts,
+                span,
+            });
         }
     }
     check(&sorts);
@@ -65,10 +74,10 @@ fn main() {
     let mut lent = Box::new(Lent::PATTERN);
     measure(
         &sorts,
-        |text| {
+        |_, text| {
             black_box(engine::call(black_box(text), black_box(&mut lent)));
         },
-        |text| {
+        |_, text| {
             let _ = black_box(second::read(black_box(text)));
         },
     );
@@ -80,19 +89,75 @@ fn main() {
     let mut numbers = [0; 2];
     measure(
         &sorts,
-        |text| {
+        |_, text| {
             black_box(engine::worth(black_box(text), black_box(&mut numbers)));
         },
-        |text| {
+        |_, text| {
             let _ = black_box(second_worth(black_box(text)));
         },
     );
+
+    println!();
+    println!("The search from the text. The second engine reads the table, then searches it.");
+    println!("The leaf lists are allocated once, outside of the timing.");
+    let mut leaves = Box::new([0; MOST_NODES]);
+    let mut second_leaves = Box::new([0; MOST_NODES]);
+    let mut numbers = [0; 5];
+    for (name, margin) in MARGINS {
+        println!();
+        println!("Margin {name}:");
+        println!();
+        measure(
+            &sorts,
+            |sort, text| {
+                let (leaves, numbers) = (black_box(&mut *leaves), black_box(&mut numbers));
+                black_box(engine::search(
+                    black_box(text),
+                    margin(sort),
+                    leaves,
+                    numbers,
+                ));
+            },
+            |sort, text| {
+                let leaves = black_box(&mut *second_leaves);
+                let _ = black_box(second_search(black_box(text), margin(sort), leaves));
+            },
+        );
+    }
 }
+
+/// The margin of a search, by name, from the table's span.
+type Margin = fn(&Sort) -> i64;
+
+/// None; one by which some leaves stay unread; and one by which all but the
+/// first do.
+const MARGINS: [(&str, Margin); 3] = [
+    ("0", |_| 0),
+    ("a tenth of the span", |sort| sort.span / 10),
+    ("the span", |sort| sort.span),
+];
 
 /// The second engine's worth and G.
 fn second_worth(text: &[u8]) -> Result<[i64; 2], second::Refusal> {
     let table = second::read(text)?;
     Ok([second::worth(&table), table.grains])
+}
+
+/// What the second engine's search finds, as the proved engine writes it.
+fn second_search(
+    text: &[u8],
+    margin: i64,
+    leaves: &mut [u16],
+) -> Result<[i64; 5], second::Refusal> {
+    let table = second::read(text)?;
+    let found = second::search(&table, margin, leaves)?;
+    Ok([
+        found.low,
+        found.high,
+        found.play.unwrap_or(0) as i64,
+        found.read as i64,
+        table.grains,
+    ])
 }
 
 /// All texts are valid tables of the size that they should have, and the
@@ -109,12 +174,27 @@ fn check(sorts: &[Sort]) {
             let mut numbers = [0; 2];
             assert_eq!(engine::worth(text, &mut numbers), 0, "a valid table");
             assert_eq!(Ok(numbers), second_worth(text));
+
+            for (name, margin) in MARGINS {
+                let mut numbers = [0; 5];
+                let mut lists = [[0; MOST_NODES]; 2];
+                let [list, second_list] = &mut lists;
+                let returned = engine::search(text, margin(sort), list, &mut numbers);
+                assert_eq!(returned, 0, "a valid table");
+                let found = second_search(text, margin(sort), second_list);
+                assert_eq!(Ok(numbers), found, "margin {name}");
+                assert_eq!(list, second_list, "margin {name}");
+            }
         }
     }
 }
 
 /// Times a call of each engine on all texts, and prints the times.
-fn measure(sorts: &[Sort], mut proved: impl FnMut(&[u8]), mut second: impl FnMut(&[u8])) {
+fn measure(
+    sorts: &[Sort],
+    mut proved: impl FnMut(&Sort, &[u8]),
+    mut second: impl FnMut(&Sort, &[u8]),
+) {
     let mut cases: Vec<Case> = sorts
         .iter()
         .map(|sort| Case::new(sort, &mut proved, &mut second))
@@ -133,8 +213,8 @@ fn measure(sorts: &[Sort], mut proved: impl FnMut(&[u8]), mut second: impl FnMut
 impl<'a> Case<'a> {
     fn new(
         sort: &'a Sort,
-        proved: &mut impl FnMut(&[u8]),
-        second: &mut impl FnMut(&[u8]),
+        proved: &mut impl FnMut(&Sort, &[u8]),
+        second: &mut impl FnMut(&Sort, &[u8]),
     ) -> Case<'a> {
         let mut case = Case {
             sort,
@@ -149,18 +229,22 @@ impl<'a> Case<'a> {
         case
     }
 
-    fn round(&mut self, proved: &mut impl FnMut(&[u8]), second: &mut impl FnMut(&[u8])) {
+    fn round(
+        &mut self,
+        proved: &mut impl FnMut(&Sort, &[u8]),
+        second: &mut impl FnMut(&Sort, &[u8]),
+    ) {
         let calls = (self.turns * self.sort.texts.len()) as f64;
         self.proved = self.proved.min(self.time(proved) / calls);
         self.second = self.second.min(self.time(second) / calls);
     }
 
     /// The nanoseconds that all turns take.
-    fn time(&self, call: &mut impl FnMut(&[u8])) -> f64 {
+    fn time(&self, call: &mut impl FnMut(&Sort, &[u8])) -> f64 {
         let began = Instant::now();
         for _ in 0..self.turns {
             for text in &self.sort.texts {
-                call(text);
+                call(self.sort, text);
             }
         }
         began.elapsed().as_nanos() as f64

@@ -79,6 +79,20 @@ pub fn close(random: &mut Random) -> Draft {
     grower.grow_all(random, nodes)
 }
 
+/// A valid table with few grains from end to end and weights that seldom divide
+/// T, so that a window under a C is often decided by how it is rounded.
+pub fn narrow(random: &mut Random) -> Draft {
+    let mut grower = Grower::new(random);
+    grower.draft.total = random.between(2, 7);
+    grower.draft.lowest = random.between(-4, 2);
+    grower.draft.highest = grower.draft.lowest + random.between(1, 3);
+    grower.shape = random.pick(&[Shape::Deep, Shape::Bushy, Shape::Any]);
+    grower.chances = 1 + random.below(2);
+    grower.rarity = 2 + random.below(2);
+    let nodes = 6 + random.below(40);
+    grower.grow_all(random, nodes)
+}
+
 /// A table that is valid but for paths of 65 or 66 nodes.
 pub fn too_deep(random: &mut Random) -> Draft {
     let mut grower = Grower::new(random);
@@ -225,7 +239,8 @@ impl Grower {
     }
 }
 
-fn ends(random: &mut Random) -> (i64, i64) {
+/// The lowest and the highest end of a table.
+pub fn ends(random: &mut Random) -> (i64, i64) {
     let far = FARTHEST_END;
     let one = random.between(-far, far);
     let other = random.between(-far, far);

@@ -1,0 +1,267 @@
+//! The bounded search, Algorithm 1 of document 000 in grains: refusals 12 and 11.
+
+use super::table::*;
+
+/// The greatest margin, in grains.
+pub const GREATEST_MARGIN: i64 = 40_000_000_000_000;
+
+/// What the search found.
+#[derive(Clone, Copy, Debug, PartialEq, Eq)]
+pub struct Found {
+    pub low: i64,
+    pub high: i64,
+    /// The root child to play; none where nobody chooses at the root.
+    pub play: Option<usize>,
+    /// How many leaves were read. Their node numbers stand first in the list.
+    pub read: usize,
+}
+
+/// Searches a table to within a margin. The list must have room for all leaves
+/// of the table; it gets the node number of each leaf as it is read.
+pub fn search(table: &Table, margin: i64, leaves: &mut [u16]) -> Result<Found, Refusal> {
+    search_watched(table, margin, leaves, |_, _| {})
+}
+
+/// The search, where each cut test is shown to `watch`: its node and that
+/// node's window. The node is cut if the window is not wider than the margin.
+pub fn search_watched(
+    table: &Table,
+    margin: i64,
+    leaves: &mut [u16],
+    watch: impl FnMut(usize, Window),
+) -> Result<Found, Refusal> {
+    let refused = |number| Err(Refusal { number, line: 0 });
+    if !(0..=GREATEST_MARGIN).contains(&margin) {
+        return refused(12);
+    }
+    if leaves.len() < table.leaves {
+        return refused(11);
+    }
+
+    let scale = Scale::of(table);
+    let whole = Window {
+        alpha: scale.least,
+        beta: scale.greatest,
+    };
+    let mut search = Search {
+        nodes: &table.nodes,
+        grains: table.grains,
+        scale,
+        margin,
+        leaves,
+        read: 0,
+        watch,
+    };
+    let (bounds, play) = match table.nodes[0].kind {
+        Kind::Leaf => (search.leaf(0), None),
+        Kind::Max => search.max(0, whole).playing(),
+        Kind::Min => search.min(0, whole).playing(),
+        Kind::Chance => (search.chance(0, whole), None),
+    };
+    Ok(Found {
+        low: bounds.low,
+        high: bounds.high,
+        play,
+        read: search.read,
+    })
+}
+
+/// The least and the greatest value there is, in grains, and T.
+#[derive(Clone, Copy, Debug)]
+pub struct Scale {
+    pub least: i64,
+    pub greatest: i64,
+    pub total: i64,
+}
+
+/// No product here leaves the range of i64: a difference of two values is at
+/// most 2,000,000 times 64 to the 4th, and it is multiplied by 64 at most.
+impl Scale {
+    fn of(table: &Table) -> Scale {
+        Scale {
+            least: table.lowest * table.grains,
+            greatest: table.highest * table.grains,
+            total: table.total,
+        }
+    }
+
+    /// Line 9: alpha for a child of this weight, from the alpha and the high of
+    /// the chance node above it. The quotient is rounded down.
+    pub fn alpha_below(&self, weight: i64, alpha: i64, high: i64) -> i64 {
+        let quotient = floor((alpha - high) * self.total, weight);
+        self.least.max(quotient + self.greatest)
+    }
+
+    /// Line 10: beta likewise, from beta and low. The quotient is rounded up.
+    pub fn beta_below(&self, weight: i64, beta: i64, low: i64) -> i64 {
+        let quotient = -floor((low - beta) * self.total, weight);
+        self.greatest.min(quotient + self.least)
+    }
+
+    /// A child's part, weight in T, of so many grains; it is a whole number.
+    fn part(&self, weight: i64, grains: i64) -> i64 {
+        let product = weight * grains;
+        debug_assert_eq!(product % self.total, 0, "T leaves a remainder");
+        product / self.total
+    }
+}
+
+/// The quotient rounded down, also below zero; the divisor is above zero.
+fn floor(dividend: i64, divisor: i64) -> i64 {
+    dividend.div_euclid(divisor)
+}
+
+/// L and U of a node.
+#[derive(Clone, Copy)]
+struct Bounds {
+    low: i64,
+    high: i64,
+}
+
+/// Alpha and beta of a node.
+#[derive(Clone, Copy, Debug)]
+pub struct Window {
+    pub alpha: i64,
+    pub beta: i64,
+}
+
+impl Window {
+    /// Lines 22 and 23.
+    fn narrow(&mut self, bounds: Bounds) {
+        self.alpha = self.alpha.max(bounds.low);
+        self.beta = self.beta.min(bounds.high);
+    }
+}
+
+/// The bounds of an M or N, and the child to play there.
+struct Choice {
+    bounds: Bounds,
+    play: usize,
+}
+
+impl Choice {
+    fn playing(self) -> (Bounds, Option<usize>) {
+        (self.bounds, Some(self.play))
+    }
+}
+
+struct Search<'a, W> {
+    nodes: &'a [Node],
+    grains: i64,
+    scale: Scale,
+    margin: i64,
+    leaves: &'a mut [u16],
+    read: usize,
+    watch: W,
+}
+
+impl<W: FnMut(usize, Window)> Search<'_, W> {
+    /// Searches a node by the rule of its kind. A leaf needs no window.
+    fn enter(&mut self, node: usize, window: impl FnOnce() -> Window) -> Bounds {
+        match self.nodes[node].kind {
+            Kind::Leaf => self.leaf(node),
+            Kind::Max => self.max(node, window()).bounds,
+            Kind::Min => self.min(node, window()).bounds,
+            Kind::Chance => self.chance(node, window()),
+        }
+    }
+
+    fn leaf(&mut self, node: usize) -> Bounds {
+        self.leaves[self.read] = node as u16;
+        self.read += 1;
+        let utility = self.nodes[node].utility.expect("a leaf has a utility");
+        let worth = utility * self.grains;
+        Bounds {
+            low: worth,
+            high: worth,
+        }
+    }
+
+    fn max(&mut self, node: usize, mut window: Window) -> Choice {
+        let stop = self.nodes[node].stop;
+        let mut bounds = self.ends();
+        let mut best_high = self.scale.least;
+        let mut child = node + 1;
+        // No low is below the least value, so if none is above it, the first
+        // child has the highest.
+        let mut play = child;
+        loop {
+            let found = self.enter(child, || window);
+            if found.low > bounds.low {
+                play = child;
+            }
+            best_high = best_high.max(found.high);
+            bounds.low = bounds.low.max(found.low);
+            window.narrow(bounds);
+            child = self.nodes[child].stop;
+            if child == stop {
+                bounds.high = best_high;
+                return Choice { bounds, play };
+            }
+            if self.cuts(node, window) {
+                return Choice { bounds, play };
+            }
+        }
+    }
+
+    fn min(&mut self, node: usize, mut window: Window) -> Choice {
+        let stop = self.nodes[node].stop;
+        let mut bounds = self.ends();
+        let mut best_low = self.scale.greatest;
+        let mut child = node + 1;
+        let mut play = child;
+        loop {
+            let found = self.enter(child, || window);
+            if found.high < bounds.high {
+                play = child;
+            }
+            best_low = best_low.min(found.low);
+            bounds.high = bounds.high.min(found.high);
+            window.narrow(bounds);
+            child = self.nodes[child].stop;
+            if child == stop {
+                bounds.low = best_low;
+                return Choice { bounds, play };
+            }
+            if self.cuts(node, window) {
+                return Choice { bounds, play };
+            }
+        }
+    }
+
+    fn chance(&mut self, node: usize, mut window: Window) -> Bounds {
+        let scale = self.scale;
+        let stop = self.nodes[node].stop;
+        let mut bounds = self.ends();
+        let mut child = node + 1;
+        loop {
+            let weight = self.nodes[child].weight;
+            let weight = weight.expect("a child of a C has a weight");
+            let found = self.enter(child, || Window {
+                alpha: scale.alpha_below(weight, window.alpha, bounds.high),
+                beta: scale.beta_below(weight, window.beta, bounds.low),
+            });
+            bounds.low += scale.part(weight, found.low - scale.least);
+            bounds.high -= scale.part(weight, scale.greatest - found.high);
+            window.narrow(bounds);
+            child = self.nodes[child].stop;
+            if child == stop || self.cuts(node, window) {
+                return bounds;
+            }
+        }
+    }
+
+    /// The bounds of a node of which nothing is known.
+    fn ends(&self) -> Bounds {
+        Bounds {
+            low: self.scale.least,
+            high: self.scale.greatest,
+        }
+    }
+
+    /// Line 24, for a child that is not the last.
+    fn cuts(&mut self, node: usize, window: Window) -> bool {
+        (self.watch)(node, window);
+        window.beta <= window.alpha + self.margin
+    }
+}
