@@ -1,3 +1,5 @@
 pub mod Lines
 pub mod Said
 pub mod Canonical
+pub mod Tree
+pub mod Checks
