@@ -3,3 +3,4 @@ pub mod Said
 pub mod Canonical
 pub mod Tree
 pub mod Checks
+pub mod Accepted
