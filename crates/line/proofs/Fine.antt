@@ -122,7 +122,7 @@ ancestors-path Ill (s ∷ P) Q e = wrong-path _ Q e
 ancestors-path (Number (pos n)) (s ∷ P) Q e = e
 ancestors-path (Number (negsuc n)) (s ∷ P) Q e = wrong-path _ Q e
 
-pub right-path : (a : Above) → isWrong a ≡ false → a ≡ path (stepsOf a)
+right-path : (a : Above) → isWrong a ≡ false → a ≡ path (stepsOf a)
 right-path wrong e = absurd (true-ne-false e)
 right-path (path P) e = refl
 

@@ -1,8 +1,8 @@
 -- The turned text of an accepted table is accepted, and its table is the turned one. Assumes nothing.
-use Prim.Native.Nat.{ℕ, zero, suc, _+_, _-_, _*_, _/_, _^_, _≤_, _<_}
+use Prim.Native.Nat.{ℕ, zero, suc, _-_, _*_, _/_, _^_, _≤_, _<_}
 use mathlib.Core.Path.{_≡_, refl, sym, ap, ap₂, subst, _∙_}
 use mathlib.Core.Bool.{Bool, true, false, cond}
-use mathlib.Core.List.{List, [], _∷_, _++_, map}
+use mathlib.Core.List.{List, [], _++_, map}
 use native.Mathlib.Omega.{arith}
 use lib.Dec.{eqb, lit<, lit≤}
 use lib.ListN.{length, getD, take, drop, length-append, length-drop, length-map}
@@ -16,17 +16,17 @@ use Rattle.field.proofs.Width.{few-plain, few-columns}
 use Rattle.line.specs.declared.Head.{Head}
 use Rattle.line.specs.declared.Line.{Line}
 use Rattle.line.specs.declared.Entry.{Entry}
-use Rattle.line.specs.Refusal.{fine, unlessAt, next}
+use Rattle.line.specs.Refusal.{fine, unlessAt}
 use Rattle.line.specs.Line.{header, headerFor, headingOf, Step, entryOf, Placed, placeOf, nodeLine, Ranged}
 use Rattle.table.specs.Tree.{childless, unbalanced}
-use Rattle.table.specs.Table.{Table, badLength, prefix, nodeLines, tree, complete, count, readText}
+use Rattle.table.specs.Table.{Table, badLength, nodeLines, tree, complete, count, readText}
 use Rattle.table.proofs.Accepted.{Checked, checked, accepted-ranged, accepted-size}
 use Rattle.table.proofs.Known.{read-length}
 use Rattle.turn.specs.Text.{headerText, lineText, linesText}
 use Rattle.turn.specs.Turn.{turnLine, turnHead, turnTable, turnedText}
-use Rattle.turn.proofs.Lines.{Fits, entryText, Roomy, text-entry, headingText, HeadRoomy, text-heading}
-use Rattle.turn.proofs.Said.{entryFor, headingFor, line-text, isNone, Short, Said, HeadSaid}
-use Rattle.turn.proofs.Canonical.{First, first, accepted-heading}
+use Rattle.turn.proofs.Lines.{Fits, Roomy, text-entry, HeadRoomy, text-heading}
+use Rattle.turn.proofs.Said.{entryFor, headingFor, line-text, isNone, Short, Said}
+use Rattle.turn.proofs.Canonical.{first}
 use Rattle.turn.proofs.Tree.{tree-turned, childless-turned, unbalanced-turned}
 use Rattle.turn.proofs.Checks.{ranged-turned, header-passes, turnStep, turnPlaced, place-turned}
 

@@ -1,6 +1,6 @@
 -- An accepted text is the text of its table, byte for byte. Assumes nothing.
-use Prim.Native.Nat.{ℕ, zero, suc, _+_, _*_, _-_, _≤_}
-use mathlib.Core.Path.{_≡_, refl, sym, ap, ap₂, subst, _∙_}
+use Prim.Native.Nat.{ℕ, zero, suc, _+_, _*_}
+use mathlib.Core.Path.{_≡_, refl, sym, ap, ap₂, _∙_}
 use mathlib.Core.List.{List, [], _∷_, _++_}
 use native.Mathlib.Omega.{arith}
 use lib.Dec.{eqb, eqb·suc-zero}
@@ -17,7 +17,7 @@ use Rattle.table.proofs.Known.{read-length}
 use Rattle.table.proofs.Accepted.{checked, accepted-ranged, accepted-size}
 use Rattle.turn.specs.Text.{headerText, lineText, linesText, tableText}
 use Rattle.turn.proofs.Lines.{entryText, entry-text, headingText, heading-text}
-use Rattle.turn.proofs.Said.{entryFor, headingFor, isNone, line-text, Said, line-said, HeadSaid, header-said}
+use Rattle.turn.proofs.Said.{isNone, line-text, Said, line-said, HeadSaid, header-said}
 
 none-left : (s : List ℕ) → length s ≡ 0 → [] ≡ s
 none-left [] h = refl
@@ -79,13 +79,13 @@ module _ (s : List ℕ) (t : Table) (h : readText s ≡ fine t) where
   long : length s ≡ 25 * count s + 25
   long = let n : ℕ = count s in omega (arith, accepted-size s t h .2, counted)
 
-  pub accepted-heading : HeadSaid (count s) (take 25 s) (t .head)
-  accepted-heading = header-said (count s) (take 25 s) (t .head) (length-take-le 25 s (omega (arith, long))) (checked s t h .head)
+  heading : HeadSaid (count s) (take 25 s) (t .head)
+  heading = header-said (count s) (take 25 s) (t .head) (length-take-le 25 s (omega (arith, long))) (checked s t h .head)
 
   pub canonical : tableText t ≡ s
   canonical =
       ap (λ (n : ℕ). headerText (t .head) n ++ linesText (t .lines)) counted
       ∙ ap₂ _++_
-      (ap headingText (sym (accepted-heading .heading)) ∙ heading-text (take 25 s) (accepted-heading .written))
+      (ap headingText (sym (heading .heading)) ∙ heading-text (take 25 s) (heading .written))
       (lines-canonical (t .head) (accepted-ranged s t h) (count s) 0 [] (drop 25 s) (t .lines) (omega (arith, long, length-drop 25 s)) refl (checked s t h .lines))
       ∙ take-append-drop 25 s

@@ -5,8 +5,8 @@ use mathlib.Core.Bool.{Bool, true, false, not, _||_, cond, or-comm}
 use mathlib.Core.List.{List, [], _∷_, _++_, map}
 use native.Mathlib.Omega.{arith}
 use borrow.Author.Tests.{eq-eqb, le-ltb}
-use lib.Dec.{eqb, ltb, leb, leb·zero, leb·suc-zero, leb·suc-suc}
-use lib.ListN.{length, length-map}
+use lib.Dec.{eqb, leb·zero, leb·suc-zero, leb·suc-suc}
+use lib.ListN.{length-map}
 use lib.IntN.{ℤ, pos, negsuc, negℤ, natAbs}
 use lib.Signed.{ltZ}
 use Rattle.field.specs.declared.Field.{Field}

@@ -4,3 +4,4 @@ pub mod Canonical
 pub mod Tree
 pub mod Checks
 pub mod Accepted
+pub mod Worked

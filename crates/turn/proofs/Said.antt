@@ -192,7 +192,6 @@ line-said h i P s p ranged long root eq =
 pub record HeadSaid (n : ℕ) (s : List ℕ) (h : Head) : Type 0 where
   pub heading : headingOf s ≡ headingFor h n
   pub written : HeadWritten s
-  pub count : n < 10 ^ 4
 
 pub header-said : (n : ℕ) (s : List ℕ) (h : Head) → length s ≡ 25 → header n s ≡ fine h → HeadSaid n s h
 header-said n s h long eq =
@@ -215,5 +214,4 @@ header-said n s h long eq =
         highest = i .4;
         last = eqb-true (getD s 24 0) 10 (not-false (eqb (getD s 24 0) 10) (i .0));
       };
-      count = small s 0 4 (pos n) count;
     }
