@@ -10,7 +10,7 @@ use lib.Seq.{take-at, drop-at, length-take-le}
 use lib.IntN.{ℤ, pos, negsuc, natAbs}
 use Rattle.field.specs.Field.{strip, digits, whole, signed, fieldOf, digit, leading, decimal, textOf, justified, written}
 use Rattle.field.specs.declared.Whole.the-variants.{Digits}
-use Rattle.field.specs.declared.Field.the-variants.{Number}
+use Rattle.field.specs.declared.Field.the-variants.{Blank, Number}
 use Rattle.field.proofs.Reading.{strip-first, signed-tests}
 use Rattle.field.proofs.Small.{tenth}
 use Rattle.field.proofs.Width.{some-columns}
@@ -78,6 +78,15 @@ unfolding strip
 strip-text (pos n) h = strip-first (decimal n) ∙ simp (ne-eqb (getD (decimal n) 0 0) 32 (omega (arith, decimal-first n h)))
 strip-text (negsuc n) h = refl
 
+-- columns that a number was written to, and blank ones
+pub columns-read : (width : ℕ) (z : ℤ) → natAbs z < 10 ^ 15 → signed (strip (justified width (textOf z))) ≡ Number z
+columns-read width z small = rw (strip-blanks (width - length (textOf z)) (textOf z), strip-text z small) (text-read z small)
+
+pub blanks-read : (width : ℕ) → signed (strip (replicate width 32)) ≡ Blank
+unfolding strip signed
+blanks-read zero = refl
+blanks-read (suc width) = blanks-read width
+
 pub round-trip
     : (d : List ℕ) (at width : ℕ) (z : ℤ)
     → at + width ≤ length d
@@ -89,7 +98,5 @@ round-trip d at width z room few small =
     rw (
       drop-at (take at d) (justified width (textOf z) ++ drop (at + width) d) at (length-take-le at d (omega arith)),
       take-at (justified width (textOf z)) (drop (at + width) d) width size,
-      strip-blanks (width - length (textOf z)) (textOf z),
-      strip-text z small,
     )
-    (text-read z small)
+    (columns-read width z small)

@@ -43,7 +43,7 @@ blank-more i h =
     simp (e, append-nil) (sym (replicate-append-replicate (i - 1 - 0) 1 32))
 
 -- k digits are enough for a number below 10 ^ k, so one more changes nothing
-leading-all : (k n : ℕ) → n < 10 ^ k → leading k n ≡ cond (eqb n 0) [] (leading k (n / 10) ++ (digit n ∷ []))
+pub leading-all : (k n : ℕ) → n < 10 ^ k → leading k n ≡ cond (eqb n 0) [] (leading k (n / 10) ++ (digit n ∷ []))
 unfolding leading
 leading-all zero n h = let z : n ≡ 0 = omega arith in rw z
 leading-all (suc k) n h = rw (leading-all k (n / 10) (tenth n k h))

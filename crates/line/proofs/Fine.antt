@@ -172,7 +172,7 @@ valued : (u : Bool) (h : Head) (f : Field) → isIll f ≡ false → cond u (isB
 valued true h f i b o = inside-field (h .lowest) (h .highest) f b i o
 valued false h f i b o = blank-value f (not-false (isBlank f) b)
 
-valued-small : (u : Bool) (h : Head) (z : ℤ) → Ranged h → Valued u h z → mag z ≤ 1000000
+pub valued-small : (u : Bool) (h : Head) (z : ℤ) → Ranged h → Valued u h z → mag z ≤ 1000000
 valued-small true h z r v =
     inside-mag (h .lowest) (h .highest) z 1000000 (le-trans (mag-abs (h .lowest)) (r .lowest)) (le-trans (mag-abs (h .highest)) (r .highest)) v
 valued-small false h z r v = rw v (omega arith)

@@ -32,7 +32,7 @@ module _ {A B : Type 0} where
   next-fine (refused r) f b e = fine-refused r b e
   next-fine (fine a) f b e = (a, refl, e)
 
-prefix-fine : (done : List Line) (v : Verdict (List Line)) (ls : List Line) → prefix done v ≡ fine ls
+pub prefix-fine : (done : List Line) (v : Verdict (List Line)) (ls : List Line) → prefix done v ≡ fine ls
     → (rest : List Line) × (v ≡ fine rest) × (ls ≡ done ++ rest)
 prefix-fine done (refused r) ls e = fine-refused r ls e
 prefix-fine done (fine rest) ls e = (rest, refl, cc)

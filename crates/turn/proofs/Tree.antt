@@ -1,0 +1,194 @@
+-- The turned table's tree, grains and leaves, and that turning twice changes nothing. Assumes nothing.
+use Prim.Native.Nat.{ℕ, zero, suc, _+_}
+use mathlib.Core.Path.{_≡_, refl, sym, ap, ap₂, _∙_}
+use mathlib.Core.Bool.{Bool, true, false, not, _&&_, cond}
+use mathlib.Core.List.{List, [], _∷_, _++_, map}
+use borrow.Author.Tests.{eqb-true}
+use lib.Dec.{eqb, leb}
+use lib.ListN.{length, length-map}
+use lib.IntN.{ℤ, pos, negsuc, negℤ}
+use Rattle.line.specs.declared.Line.{Line}
+use Rattle.line.specs.Refusal.{fine}
+use Rattle.table.specs.Tree.{Kind, MAX, MIN, CHANCE, Forest, end, leaf, inner, kindOf, isChance, run, after, grow, forest, isEnd, weigh, nodesWhere, childless, unbalanced, leaves}
+use Rattle.table.specs.Table.{Table, tree, readText, greatest, leafLines, grain}
+use Rattle.turn.specs.Text.{tableText}
+use Rattle.turn.specs.Turn.{turnCode, turnLine, turnTable, turnKind, turnTree}
+use Rattle.turn.proofs.Canonical.{canonical}
+
+-- ---- one number
+
+pub neg-neg : (z : ℤ) → negℤ (negℤ z) ≡ z
+neg-neg (pos zero) = refl
+neg-neg (pos (suc n)) = refl
+neg-neg (negsuc n) = refl
+
+-- a kind's number is that of M, of N or another, which turning keeps
+data Code (k : ℕ) : Type 0 where
+  code-max : k ≡ 1 → Code k
+  code-min : k ≡ 2 → Code k
+  code-kept : eqb k 1 ≡ false → eqb k 2 ≡ false → Code k
+
+code : (k : ℕ) → Code k
+code k = go (eqb k 1) (eqb k 2) refl refl
+  where
+    go : (t u : Bool) → eqb k 1 ≡ t → eqb k 2 ≡ u → Code k
+    go true u x y = code-max (eqb-true k 1 x)
+    go false true x y = code-min (eqb-true k 2 y)
+    go false false x y = code-kept x y
+
+pub code-twice : (k : ℕ) → turnCode (turnCode k) ≡ k
+code-twice k = go (code k)
+  where
+    go : Code k → turnCode (turnCode k) ≡ k
+    go (code-max e) = rw e
+    go (code-min e) = rw e
+    go (code-kept x y) = simp (x, y)
+
+-- and so is the answer to whether it is the number j of neither
+pub code-other : (j k : ℕ) → eqb 1 j ≡ false → eqb 2 j ≡ false → eqb (turnCode k) j ≡ eqb k j
+code-other j k m n = go (code k)
+  where
+    go : Code k → eqb (turnCode k) j ≡ eqb k j
+    go (code-max e) = rw e (n ∙ sym m)
+    go (code-min e) = rw e (m ∙ sym n)
+    go (code-kept x y) = simp (x, y)
+
+pub code-leaf : (k : ℕ) → eqb (turnCode k) 0 ≡ eqb k 0
+code-leaf k = code-other 0 k refl refl
+
+pub code-chance : (k : ℕ) → eqb (turnCode k) 3 ≡ eqb k 3
+code-chance k = code-other 3 k refl refl
+
+code-kind : (k : ℕ) → kindOf (turnCode k) ≡ turnKind (kindOf k)
+code-kind k = go (code k)
+  where
+    go : Code k → kindOf (turnCode k) ≡ turnKind (kindOf k)
+    go (code-max e) = rw e
+    go (code-min e) = rw e
+    go (code-kept x y) = simp (x, y)
+
+kind-chance : (k : Kind) → isChance (turnKind k) ≡ isChance k
+kind-chance MAX = refl
+kind-chance MIN = refl
+kind-chance CHANCE = refl
+
+-- ---- twice
+
+lines-twice : (ls : List Line) → map turnLine (map turnLine ls) ≡ ls
+lines-twice [] = refl
+lines-twice (l ∷ ls) = ap₂ _∷_ (ap₂ (λ (k : ℕ) (u : ℤ). record { node = l .node; kind = k; parent = l .parent; weight = l .weight; utility = u; chances = l .chances }) (code-twice (l .kind)) (neg-neg (l .utility))) (lines-twice ls)
+
+pub table-twice : (t : Table) → turnTable (turnTable t) ≡ t
+table-twice t =
+    let lowest = neg-neg (t .head .lowest) in
+    let highest = neg-neg (t .head .highest) in
+    let lines = lines-twice (t .lines) in
+    λ j. record { head = record { total = t .head .total; lowest = lowest j; highest = highest j }; lines = lines j }
+
+-- "Turning twice restores the text."
+pub turn-twice : (s : List ℕ) (t : Table) → readText s ≡ fine t → tableText (turnTable (turnTable t)) ≡ s
+turn-twice s t h = ap tableText (table-twice t) ∙ canonical s t h
+
+-- ---- the tree
+
+run-turned : (n : ℕ) (ls : List Line) → run n (map turnLine ls) ≡ map turnLine (run n ls)
+unfolding run
+run-turned n [] = refl
+run-turned n (l ∷ ls) = go (run-turned n ls) (leb n (l .parent))
+  where
+    go : run n (map turnLine ls) ≡ map turnLine (run n ls) → (b : Bool)
+        → cond b (turnLine l ∷ run n (map turnLine ls)) [] ≡ map turnLine (cond b (l ∷ run n ls) [])
+    go ih true = ap (λ (x : List Line). turnLine l ∷ x) ih
+    go ih false = refl
+
+after-turned : (n : ℕ) (ls : List Line) → after n (map turnLine ls) ≡ map turnLine (after n ls)
+unfolding after
+after-turned n [] = refl
+after-turned n (l ∷ ls) = go (after-turned n ls) (leb n (l .parent))
+  where
+    go : after n (map turnLine ls) ≡ map turnLine (after n ls) → (b : Bool)
+        → cond b (after n (map turnLine ls)) (map turnLine (l ∷ ls)) ≡ map turnLine (cond b (after n ls) (l ∷ ls))
+    go ih true = ih
+    go ih false = refl
+
+grow-turned : (l : Line) (under rest : Forest ℤ) → grow (negℤ (l .utility)) (turnLine l) (turnTree under) (turnTree rest) ≡ turnTree (grow (l .utility) l under rest)
+unfolding turnTree
+grow-turned l under rest = rw (code-leaf (l .kind), code-kind (l .kind)) (go (eqb (l .kind) 0))
+  where
+    go : (b : Bool) → cond b (leaf (l .node) (l .weight) (negℤ (l .utility)) (turnTree rest)) (inner (l .node) (l .weight) (turnKind (kindOf (l .kind))) (turnTree under) (turnTree rest))
+        ≡ turnTree (cond b (leaf (l .node) (l .weight) (l .utility) rest) (inner (l .node) (l .weight) (kindOf (l .kind)) under rest))
+    go true = refl
+    go false = refl
+
+abbrev value : Line → ℤ
+value l = l .utility
+
+forest-turned : (k : ℕ) (ls : List Line) → forest value k (map turnLine ls) ≡ turnTree (forest value k ls)
+unfolding forest turnTree
+forest-turned zero ls = refl
+forest-turned (suc k) [] = refl
+forest-turned (suc k) (l ∷ ls) =
+    ap₂ (grow (negℤ (l .utility)) (turnLine l))
+    (ap (forest value k) (run-turned (l .node) ls) ∙ forest-turned k (run (l .node) ls))
+    (ap (forest value k) (after-turned (l .node) ls) ∙ forest-turned k (after (l .node) ls))
+    ∙ grow-turned l (forest value k (run (l .node) ls)) (forest value k (after (l .node) ls))
+
+pub tree-turned : (t : Table) → tree (turnTable t) ≡ turnTree (tree t)
+tree-turned t = ap (λ (n : ℕ). forest value n (map turnLine (t .lines))) (length-map (t .lines) turnLine) ∙ forest-turned (length (t .lines)) (t .lines)
+
+-- ---- grains and leaves
+
+greatest-turned : (ls : List Line) → greatest (map turnLine ls) ≡ greatest ls
+unfolding greatest
+greatest-turned [] = refl
+greatest-turned (l ∷ ls) = rw (greatest-turned ls)
+
+pub grain-turned : (t : Table) → grain (turnTable t) ≡ grain t
+grain-turned t = rw (greatest-turned (t .lines))
+
+leaf-lines-turned : (ls : List Line) → leafLines (map turnLine ls) ≡ leafLines ls
+unfolding leafLines
+leaf-lines-turned [] = refl
+leaf-lines-turned (l ∷ ls) = rw (code-leaf (l .kind), leaf-lines-turned ls)
+
+pub leaves-turned : (t : Table) → leafLines (turnTable t .lines) ≡ leafLines (t .lines)
+leaves-turned t = leaf-lines-turned (t .lines)
+
+tree-leaves : (f : Forest ℤ) → leaves (turnTree f) ≡ leaves f
+unfolding leaves turnTree
+tree-leaves end = refl
+tree-leaves (leaf n w u rest) = ap (λ (x : ℕ). 1 + x) (tree-leaves rest)
+tree-leaves (inner n w k under rest) = ap₂ _+_ (tree-leaves under) (tree-leaves rest)
+
+pub tree-leaves-turned : (t : Table) → leaves (tree (turnTable t)) ≡ leaves (tree t)
+tree-leaves-turned t = ap leaves (tree-turned t) ∙ tree-leaves (tree t)
+
+-- ---- nodes without a child, and sums
+
+weigh-turned : (f : Forest ℤ) → weigh (turnTree f) ≡ weigh f
+unfolding weigh turnTree
+weigh-turned end = refl
+weigh-turned (leaf n w u rest) = ap (λ (x : ℕ). w + x) (weigh-turned rest)
+weigh-turned (inner n w k under rest) = ap (λ (x : ℕ). w + x) (weigh-turned rest)
+
+end-turned : (f : Forest ℤ) → isEnd (turnTree f) ≡ isEnd f
+unfolding turnTree
+end-turned end = refl
+end-turned (leaf n w u rest) = refl
+end-turned (inner n w k under rest) = refl
+
+-- a condition on a node that turning keeps is met by the same nodes
+nodes-turned : (bad : Kind → Forest ℤ → Bool) → ((k : Kind) (f : Forest ℤ) → bad (turnKind k) (turnTree f) ≡ bad k f)
+    → (f : Forest ℤ) → nodesWhere bad (turnTree f) ≡ nodesWhere bad f
+unfolding nodesWhere turnTree
+nodes-turned bad kept end = refl
+nodes-turned bad kept (leaf n w u rest) = nodes-turned bad kept rest
+nodes-turned bad kept (inner n w k under rest) =
+    ap₂ _++_ (ap (λ (b : Bool). cond b (n ∷ []) []) (kept k under)) (ap₂ _++_ (nodes-turned bad kept under) (nodes-turned bad kept rest))
+
+pub childless-turned : (f : Forest ℤ) → childless (turnTree f) ≡ childless f
+childless-turned f = nodes-turned (λ (k : Kind) (under : Forest ℤ). isEnd under) (λ k under. end-turned under) f
+
+pub unbalanced-turned : (T : ℕ) (f : Forest ℤ) → unbalanced T (turnTree f) ≡ unbalanced T f
+unbalanced-turned T f =
+    nodes-turned (λ (k : Kind) (under : Forest ℤ). isChance k && not (eqb (weigh under) T)) (λ k under. rw (kind-chance k, weigh-turned under)) f
