@@ -9,7 +9,7 @@ use lib.IntN.{ℤ, pos, natAbs, _+ℤ_}
 use Rattle.line.specs.declared.Line.{Line}
 use Rattle.turn.specs.Text.{lineText, linesText}
 use Rattle.turn.specs.Turn.{turnLine}
-use Rattle.turn.specs.Inside.{turnedAt, Fits, Lined, Rows, turnedRows}
+use Rattle.turn.specs.Inside.{turnedAt, Fits, Lined, Rows, turnedRows, RowsTurned}
 use Rattle.turn.proofs.Bytes.{line-long, fits-turned, line-turned}
 
 module _ (kind height : List ℕ) (lowest : ℤ) (n : ℕ) where
@@ -61,7 +61,7 @@ module _ (kind height : List ℕ) (lowest : ℤ) (n : ℕ) where
       abbrev next : List ℕ
       next = turnedAt (25 * i + 25) (getD kind i 0) (lowest +ℤ pos (getD height i 0)) d
 
-      pub rows-more : (S : Rows kind height lowest n (i + 1) next) × (turnedRows kind height lowest n i d R ≡ turnedRows kind height lowest n (i + 1) next S)
+      rows-more : (S : Rows kind height lowest n (i + 1) next) × (turnedRows kind height lowest n i d R ≡ turnedRows kind height lowest n (i + 1) next S)
       rows-more =
           let H = here in
           let x : List ℕ = lineText (turnLine (H .line)) in
@@ -85,9 +85,21 @@ module _ (kind height : List ℕ) (lowest : ℤ) (n : ℕ) where
             H .turned ∙ sym (append-assoc (R .front) x (linesText (map turnLine (H .more)) ++ R .rest)),
           )
 
-    pub rows-done : n ≤ i → d ≡ turnedRows kind height lowest n i d R
+    rows-done : n ≤ i → d ≡ turnedRows kind height lowest n i d R
     rows-done l = R .text ∙ ap (λ (y : List ℕ). R .front ++ (y ++ R .rest)) (none (R .lines) (omega (arith, R .count)))
       where
         none : (ls : List Line) → length ls ≡ 0 → linesText ls ≡ linesText (map turnLine ls)
         none [] e = refl
         none (x ∷ ls) e = absurd (omega arith)
+
+  -- turning the lines from node i on gives what turning all of d₀ gives
+  abbrev pub Turning : List ℕ → ℕ → List ℕ → Type 0
+  Turning d₀ i d =
+      (R : Rows kind height lowest n 0 d₀) → (S : Rows kind height lowest n i d) × (turnedRows kind height lowest n 0 d₀ R ≡ turnedRows kind height lowest n i d S)
+
+  module _ (d₀ : List ℕ) (i : ℕ) (d : List ℕ) (t : Turning d₀ i d) where
+    pub turning-more : i < n → (e : List ℕ) → e ≡ turnedAt (25 * i + 25) (getD kind i 0) (lowest +ℤ pos (getD height i 0)) d → Turning d₀ (i + 1) e
+    turning-more l e q = subst (Turning d₀ (i + 1)) (sym q) (λ R. let (S, a) = t R in let (U, b) = rows-more i d S l in (U, a ∙ b))
+
+    pub turning-done : n ≤ i → RowsTurned kind height lowest n d₀ d
+    turning-done l R = let (S, a) = t R in rows-done i d S l ∙ sym a

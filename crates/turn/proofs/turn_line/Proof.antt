@@ -1,6 +1,6 @@
 -- `turn::turn_line` meets its contract. Assumes nothing.
 use Prim.Native.Nat.{_+_, _≤_, _<_, _^_}
-use mathlib.Core.Path.{_≡_, refl, ap, _∙_}
+use mathlib.Core.Path.{_≡_, refl, ap, ap₂, _∙_}
 use native.Mathlib.Omega.{arith}
 use borrow.Author.Needs.{needs}
 use borrow.Author.Tests.{eq-eqb, ne-eqb}
@@ -23,7 +23,7 @@ cast-write-negated c = search needs
 -- the sum that is computed is the one that is meant
 sum : (s : tie.Start)
     → toZ w64 (ofZ w64 (s .args .lowest)) +ℤ toZ w64 (s .args .h) ≡ s .args .lowest +ℤ pos (s .args .h)
-sum s = ?
+sum s = ap₂ _+ℤ_ (toZ-ofZ w64 (s .args .lowest) (s .fits .lowest)) (toZ-ofZ w64 (pos (s .args .h)) (fits (pos (s .args .h)) (omega arith)))
 
 add-write-negated-2 : tie.Need-add-write-negated-2
 add-write-negated-2 c =
@@ -44,8 +44,10 @@ returns : tie.Need-returns
 returns c =
     let s = c .before .before .before .before .before .before in
     let z = s .args .lowest +ℤ pos (s .args .h) in
-    let t = c .before .before .before .before .if1 .taken in
-    ?
+    let m = s .pre .1 (c .before .before .before .before .if1 .taken) in
+    c .before .before .write-negated .ensures
+    ∙ ap (λ (y : ℤ). written (now (s .args .buffer)) (s .args .at + 16) 8 (negℤ y)) (ap (λ (y : ℤ). toZ w64 (ofZ w64 y)) (sum s) ∙ back z (omega (arith, m)))
+    ∙ rw (c .before .before .before .before .if1 .taken)
 
 add-buffer : tie.Need-add-buffer
 add-buffer c = search needs
