@@ -71,12 +71,12 @@ few-leaves (l ∷ ls) = go (few-leaves ls) (eqb (l .kind) 0)
 
 -- ---- what was checked
 
-record Checked (s : List ℕ) (t : Table) : Type 0 where
-  long : badLength (length s) ≡ false
-  head : header (count s) (take 25 s) ≡ fine (t .head)
-  lines : nodeLines (t .head) (count s) 0 [] (drop 25 s) ≡ fine (t .lines)
-  no-childless : childless (tree t) ≡ []
-  no-unbalanced : unbalanced (t .head .total) (tree t) ≡ []
+pub record Checked (s : List ℕ) (t : Table) : Type 0 where
+  pub long : badLength (length s) ≡ false
+  pub head : header (count s) (take 25 s) ≡ fine (t .head)
+  pub lines : nodeLines (t .head) (count s) 0 [] (drop 25 s) ≡ fine (t .lines)
+  pub no-childless : childless (tree t) ≡ []
+  pub no-unbalanced : unbalanced (t .head .total) (tree t) ≡ []
 
 completed : (a t : Table) → complete a ≡ fine t → (a ≡ t) × (childless (tree t) ≡ []) × (unbalanced (t .head .total) (tree t) ≡ [])
 unfolding complete
@@ -91,7 +91,7 @@ completed a t e =
       subst (λ (x : Table). unbalanced (x .head .total) (tree x) ≡ []) u d,
     )
 
-checked : (s : List ℕ) (t : Table) → readText s ≡ fine t → Checked s t
+pub checked : (s : List ℕ) (t : Table) → readText s ≡ fine t → Checked s t
 unfolding readText
 checked s t e = go (badLength (length s)) refl e
   where

@@ -1,11 +1,11 @@
 -- Numbers and letters replaced where they stand in a table's text. Assumes nothing.
-use Prim.Native.Nat.{ℕ, zero, suc, _+_, _*_, _^_, _≤_, _<_}
+use Prim.Native.Nat.{ℕ, zero, suc, _+_, _^_, _≤_, _<_}
 use mathlib.Core.Path.{_≡_, refl, sym, ap, ap₂, _∙_}
 use mathlib.Core.Bool.{Bool, true, false, cond}
-use mathlib.Core.List.{List, [], _∷_, _++_, map, append-assoc}
+use mathlib.Core.List.{List, [], _∷_, _++_, append-assoc}
 use native.Mathlib.Omega.{arith}
 use lib.Dec.{eqb}
-use lib.ListN.{length, take, drop, set, length-append, length-replicate, length-map}
+use lib.ListN.{length, drop, set, length-append, length-replicate}
 use lib.Seq.{set-at, take-at, drop-at}
 use lib.IntN.{ℤ, pos, negℤ, natAbs}
 use Rattle.field.specs.Field.{textOf, justified, written}
@@ -13,7 +13,7 @@ use Rattle.field.proofs.Width.{few-plain, few-columns}
 use Rattle.field.proofs.Bits.{abs-neg}
 use Rattle.line.specs.declared.Head.{Head}
 use Rattle.line.specs.declared.Line.{Line}
-use Rattle.turn.specs.Text.{columns, blank, newline, headerText, letterOf, parentText, weightText, utilityText, lineText, linesText}
+use Rattle.turn.specs.Text.{columns, blank, newline, headerText, letterOf, parentText, weightText, utilityText, lineText}
 use Rattle.turn.specs.Turn.{turnCode, turnLine, turnHead}
 use Rattle.turn.specs.Inside.{turnedAt, Fits}
 

@@ -1,3 +1,4 @@
 pub mod Bytes
 pub mod Rows
 pub mod Turned
+pub mod Ready

@@ -51,8 +51,8 @@ module _ (kind height : List ℕ) (lowest : ℤ) (n : ℕ) where
       row-inside =
           let H = here in
           let e : length d ≡ length (R .front) + (length (lineText (H .line)) + length (linesText (H .more) ++ R .rest)) =
-              ap length (H .text) ∙ length-append (R .front) (lineText (H .line) ++ (linesText (H .more) ++ R .rest))
-              ∙ ap (λ (m : ℕ). length (R .front) + m) (length-append (lineText (H .line)) (linesText (H .more) ++ R .rest)) in
+          ap length (H .text) ∙ length-append (R .front) (lineText (H .line) ++ (linesText (H .more) ++ R .rest))
+          ∙ ap (λ (m : ℕ). length (R .front) + m) (length-append (lineText (H .line)) (linesText (H .more) ++ R .rest)) in
           omega (arith, e, R .long, line-long (H .line) (H .fits))
 
       pub row-small : getD kind i 0 ≡ 0 → natAbs (lowest +ℤ pos (getD height i 0)) ≤ 1000000
@@ -67,9 +67,9 @@ module _ (kind height : List ℕ) (lowest : ℤ) (n : ℕ) where
           let x : List ℕ = lineText (turnLine (H .line)) in
           let u : ℤ = lowest +ℤ pos (getD height i 0) in
           let e : next ≡ R .front ++ (x ++ (linesText (H .more) ++ R .rest)) =
-              ap (λ (k : ℕ). turnedAt (25 * i + 25) k u d) (H .is-kind)
-              ∙ ap (turnedAt (25 * i + 25) (H .line .kind) u) (H .text)
-              ∙ line-turned (H .line) (H .fits) (R .front) (linesText (H .more) ++ R .rest) (25 * i + 25) u (R .long) (H .is-utility) in (
+          ap (λ (k : ℕ). turnedAt (25 * i + 25) k u d) (H .is-kind)
+          ∙ ap (turnedAt (25 * i + 25) (H .line .kind) u) (H .text)
+          ∙ line-turned (H .line) (H .fits) (R .front) (linesText (H .more) ++ R .rest) (25 * i + 25) u (R .long) (H .is-utility) in (
             record {
               front = R .front ++ x;
               lines = H .more;

@@ -62,7 +62,7 @@ module _ (text kind height : List ℕ) (n : ℕ) (lowest highest : ℤ) (d : Lis
       let X : List ℕ = drop (length text) d in
       ap (λ (y : List ℕ). written (written (y ++ X) 8 8 (negℤ highest)) 16 8 (negℤ lowest)) (R .is-text)
       ∙ ap₂ (λ (y z : ℤ). written (written (tableText (R .table) ++ X) 8 8 (negℤ y)) 16 8 (negℤ z)) (R .is-highest) (R .is-lowest)
-      ∙ rw append-assoc (ends-written h (length ls) few (R .total) low high (linesText ls ++ X))
+      ∙ rw (append-assoc (headerText h (length ls)) (linesText ls) X) (ends-written h (length ls) few (R .total) low high (linesText ls ++ X))
 
   pub ready-rows : Rows kind height lowest n 0 (ended text lowest highest d)
   ready-rows =

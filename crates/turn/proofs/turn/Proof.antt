@@ -1,6 +1,6 @@
 -- `turn::turn` meets its contract. Assumes nothing.
 use Prim.Native.Nat.{ℕ, _≤_}
-use mathlib.Core.Path.{_≡_, sym, ap, ap₂, subst, _∙_}
+use mathlib.Core.Path.{_≡_, ap₂, subst, _∙_}
 use mathlib.Core.List.{List}
 use native.Mathlib.Omega.{arith}
 use borrow.Author.Needs.{needs}
@@ -11,7 +11,7 @@ use mir.Syntax.{w64}
 use mir.Val.{toZ, ofZ}
 use mir.ValLaws.{toZ-ofZ}
 use Rattle.field.specs.Field.{written}
-use Rattle.turn.specs.Inside.{Rows, RowsTurned}
+use Rattle.turn.specs.Inside.{RowsTurned}
 use Rattle.turn.proofs.Turned.{ended, ready-room, ready-rows, ready-turned}
 use Rattle.turn.proofs.turn.Statement.{statement}
 use Rattle.turn.proofs.turn.Tie as tie

@@ -1,10 +1,10 @@
 -- `turn::write_negated` meets its contract. Assumes nothing.
-use Prim.Native.Nat.{_≤_, _<_, _^_}
-use mathlib.Core.Path.{_≡_, ap, _∙_}
+use Prim.Native.Nat.{_≤_}
+use mathlib.Core.Path.{ap, _∙_}
 use native.Mathlib.Omega.{arith}
 use borrow.Author.Needs.{needs}
 use denote.Ref.{now}
-use lib.IntN.{ℤ, natAbs, negℤ}
+use lib.IntN.{natAbs, negℤ}
 use Rattle.field.specs.Field.{written}
 use Rattle.field.proofs.Bits.{neg-fits, neg-back, abs-neg}
 use Rattle.field.proofs.Width.{few-columns}
