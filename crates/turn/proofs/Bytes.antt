@@ -8,7 +8,7 @@ use lib.Dec.{eqb}
 use lib.ListN.{length, drop, set, length-append, length-replicate}
 use lib.Seq.{set-at, take-at, drop-at}
 use lib.IntN.{ℤ, pos, negℤ, natAbs}
-use Rattle.field.specs.Field.{textOf, justified, written}
+use Rattle.field.specs.Field.{leading, textOf, justified, written}
 use Rattle.field.proofs.Width.{few-plain, few-columns}
 use Rattle.field.proofs.Bits.{abs-neg}
 use Rattle.line.specs.declared.Head.{Head}
@@ -127,6 +127,11 @@ pub line-turned : (l : Line) → Fits l → (F R : List ℕ) (at : ℕ) (u : ℤ
 line-turned l fits F R at u f e =
     parts-turned F (columns 4 (pos (l .node))) (parentText l) (weightText l) R at f (node-long l fits) (parent-long l fits) (weight-long l fits)
     (l .kind) u (l .utility) (fits .kind) (fits .utility) e
+
+-- "`-0` is not a number": a utility of 0 is turned into 0, and is written so
+pub zero-turned : (l : Line) → l .kind ≡ 0 → l .utility ≡ pos 0 → utilityText (turnLine l) ≡ blank 7 ++ (48 ∷ [])
+unfolding leading
+zero-turned l k u = rw (k, u) refl
 
 -- ---- the ends
 

@@ -5,7 +5,7 @@ use mathlib.Core.List.{List}
 use native.Mathlib.Omega.{arith}
 use borrow.Author.Needs.{needs}
 use denote.Ref.{now}
-use lib.IntN.{ℤ, negℤ}
+use lib.IntN.{ℤ, negℤ, natAbs}
 use lib.ListN.{length}
 use mir.Syntax.{w64}
 use mir.Val.{toZ, ofZ}
@@ -23,6 +23,9 @@ back-low s = toZ-ofZ w64 (s .args .lowest) (s .fits .lowest)
 back-high : (s : tie.Start) → toZ w64 (ofZ w64 (s .args .highest)) ≡ s .args .highest
 back-high s = toZ-ofZ w64 (s .args .highest) (s .fits .highest)
 
+small : (s : tie.Start) → (natAbs (toZ w64 (ofZ w64 (s .args .lowest))) ≤ 1000000) × (natAbs (toZ w64 (ofZ w64 (s .args .highest))) ≤ 1000000)
+small s = rw (back-low s, back-high s) (s .pre .low, s .pre .high)
+
 room : (s : tie.Start) → 25 ≤ length (now (s .args .buffer))
 room s = ready-room _ _ _ _ _ _ _ (s .pre)
 
@@ -32,13 +35,13 @@ copy-requires c κs = search needs
 write-negated-requires : tie.Need-write-negated-requires
 write-negated-requires c κs =
     let s = c .before .before .before .before .before .before .before .before .before in
-    rw (back-high s) (omega (arith, room s, c .before .before .before .copy .kept .1 .0), s .pre .high)
+    (omega (arith, room s, c .before .before .before .copy .kept .1 .0), omega (arith, small s))
 
 write-negated-requires-2 : tie.Need-write-negated-requires-2
 write-negated-requires-2 c κs =
     let s = c .before .before .before .before .before .before .before .before .before .before .before .before .before in
-    rw (back-low s)
-    (omega (arith, room s, c .before .before .before .before .before .before .before .copy .kept .1 .0, c .before .before .before .write-negated .kept .0), s .pre .low)
+    let w = c .before .before .before in
+    (omega (arith, room s, w .before .before .before .before .copy .kept .1 .0, w .write-negated .kept .0), omega (arith, small s))
 
 -- the buffer before the lines are turned
 ends : (c : tie.After-write-negated2)
