@@ -5,3 +5,7 @@ pub mod Tree
 pub mod Checks
 pub mod Accepted
 pub mod Worked
+pub mod Bytes
+pub mod Rows
+pub mod Turned
+pub mod Ready
