@@ -9,7 +9,7 @@ use lib.Dec.{leb, ltb, leb→le, le→leb, ltb→lt, lt→ltb}
 use Rattle.table.specs.Tree.{Kind, MAX, MIN, CHANCE, Forest, end, leaf, inner, isEnd, weigh}
 use Rattle.worth.proofs.Signs.{same-test}
 use Rattle.search.specs.Search.{Frame, Play, noPlay, child, Seen, State, Rules, begin, lower, upper, beats, better, take, finish, cut, stop, point, enter, after, scan, search, searchRoot}
-use Rattle.search.specs.Turned.{flip}
+use Rattle.turn.specs.Turn.{turnKind}
 use Rattle.search.specs.Heights.{natural}
 use Rattle.search.proofs.Heights.{Sound, Within, total}
 use Rattle.search.proofs.Contain.{contained, Holding, hold-point, hold-under}
@@ -20,7 +20,7 @@ use Rattle.search.proofs.Safe.{share-fits, Low, Safe, safe-window, safe
 unfoldable pub turn : ℕ → Forest ℕ → Forest ℕ
 turn S end = end
 turn S (leaf n w h rest) = leaf n w (S - h) (turn S rest)
-turn S (inner n w k under rest) = inner n w (flip k) (turn S under) (turn S rest)
+turn S (inner n w k under rest) = inner n w (turnKind k) (turn S under) (turn S rest)
 
 abbrev pub turnFrame : ℕ → Frame ℕ → Frame ℕ
 turnFrame S e = record { bottom = S - e .top; top = S - e .bottom; total = e .total }
@@ -81,10 +81,10 @@ turn-upper S B A c p = omega arith
 
 -- a rule for the play that is the same from the other side
 abbrev pub Fairly : ℕ → (Kind → ℕ → ℕ → ℕ → ℕ → Bool) → Type 0
-Fairly S beats = (k : Kind) (l h bl bh : ℕ) → l ≤ S → h ≤ S → bl ≤ S → bh ≤ S → beats (flip k) (S - h) (S - l) (S - bh) (S - bl) ≡ beats k l h bl bh
+Fairly S beats = (k : Kind) (l h bl bh : ℕ) → l ≤ S → h ≤ S → bl ≤ S → bh ≤ S → beats (turnKind k) (S - h) (S - l) (S - bh) (S - bl) ≡ beats k l h bl bh
 
 pub fairly : (S : ℕ) → Fairly S (beats natural)
-unfolding beats flip
+unfolding beats
 fairly S MAX l h bl bh p q u v = ltb-turn S l bl p u
 fairly S MIN l h bl bh p q u v = ltb-turn S bh h v q
 fairly S CHANCE l h bl bh p q u v = refl
@@ -101,7 +101,7 @@ module _ (S : ℕ) where
 
   module _ (R : Rules ℕ) where
     better-turn : (k : Kind) (n : ℕ) (p : Play ℕ) (r : Seen ℕ) → r .low ≤ S → r .high ≤ S → Low S p
-        → better natural (flip k) n (turnPlay S p) (turnSeen S r) ≡ turnPlay S (better natural k n p r)
+        → better natural (turnKind k) n (turnPlay S p) (turnSeen S r) ≡ turnPlay S (better natural k n p r)
     unfolding better
     better-turn k n noPlay r p q i = refl
     better-turn k n (child m l h) r p q i =
@@ -109,8 +109,8 @@ module _ (S : ℕ) where
 
     take-turn : (e : Frame ℕ) (k : Kind) (n w W : ℕ) (s : State ℕ) (r : Seen ℕ) → e .top ≤ S → e .bottom ≤ r .low → r .low ≤ r .high
         → r .high ≤ e .top → Safe S e k (w + W) s
-        → take natural (turnFrame S e) (flip k) n w (turnState s) (turnSeen S r) ≡ turnState (take natural e k n w s r)
-    unfolding take turnState flip
+        → take natural (turnFrame S e) (turnKind k) n w (turnState s) (turnSeen S r) ≡ turnState (take natural e k n w s r)
+    unfolding take turnState
     take-turn e MAX n w W s r t bl lh rS i =
         same-state (sub-min S _ _) (simp sub-max) (sub-max S _ _) (sub-max S _ _)
         (better-turn MAX n (s .play) r (le-trans lh (le-trans rS t)) (le-trans rS t) (i .4)) refl
@@ -133,28 +133,28 @@ module _ (S : ℕ) where
     unfolding stop turnState
     stop-turn rest t p q = ap₂ (λ x y. not x && y) (isEnd-turn S rest) (leb-turn S (R .margin) (t .alpha) (t .beta) p q)
 
-  begin-turn : (e : Frame ℕ) (k : Kind) (a b : ℕ) (l : List ℕ) → begin (turnFrame S e) (flip k) (S - b) (S - a) l ≡ turnState (begin e k a b l)
-  unfolding begin turnState flip
+  begin-turn : (e : Frame ℕ) (k : Kind) (a b : ℕ) (l : List ℕ) → begin (turnFrame S e) (turnKind k) (S - b) (S - a) l ≡ turnState (begin e k a b l)
+  unfolding begin turnState
   begin-turn e MAX a b l = refl
   begin-turn e MIN a b l = refl
   begin-turn e CHANCE a b l = refl
 
-  cut-turn : (e : Frame ℕ) (k : Kind) (s : State ℕ) → cut (turnFrame S e) (flip k) (turnState s) ≡ turnSeen S (cut e k s)
-  unfolding cut turnState flip
+  cut-turn : (e : Frame ℕ) (k : Kind) (s : State ℕ) → cut (turnFrame S e) (turnKind k) (turnState s) ≡ turnSeen S (cut e k s)
+  unfolding cut turnState
   cut-turn e MAX s = refl
   cut-turn e MIN s = refl
   cut-turn e CHANCE s = refl
 
   lower-turn : (e : Frame ℕ) (k : Kind) (w W : ℕ) (s : State ℕ) → Safe S e k W s
-      → lower natural (turnFrame S e) (flip k) w (turnState s) ≡ S - upper natural e k w s
-  unfolding lower upper turnState flip
+      → lower natural (turnFrame S e) (turnKind k) w (turnState s) ≡ S - upper natural e k w s
+  unfolding lower upper turnState
   lower-turn e MAX w W s i = refl
   lower-turn e MIN w W s i = refl
   lower-turn e CHANCE w W s i = rw (sub-swap S (s .beta) (s .lo) (i .1)) (turn-lower S _ _ _)
 
   upper-turn : (e : Frame ℕ) (k : Kind) (w W : ℕ) (s : State ℕ) → e .top ≤ S → Safe S e k W s
-      → upper natural (turnFrame S e) (flip k) w (turnState s) ≡ S - lower natural e k w s
-  unfolding lower upper turnState flip
+      → upper natural (turnFrame S e) (turnKind k) w (turnState s) ≡ S - lower natural e k w s
+  unfolding lower upper turnState
   upper-turn e MAX w W s t i = refl
   upper-turn e MIN w W s t i = refl
   upper-turn e CHANCE w W s t i = rw (sub-swap S (s .hi) (s .alpha) (i .3)) (turn-upper S _ _ _ t)
@@ -164,26 +164,26 @@ module _ (S : ℕ) where
     R2 = reframe R frame
 
     after-turn : (e : Frame ℕ) (k : Kind) (rest : Forest ℕ) (t : State ℕ) → t .alpha ≤ S → t .beta ≤ S
-        → scan natural R2 (turnFrame S e) (flip k) (turn S rest) (turnState t) ≡ turnSeen S (scan natural R e k rest t)
-        → after natural R2 (turnFrame S e) (flip k) (turn S rest) (turnState t) ≡ turnSeen S (after natural R e k rest t)
+        → scan natural R2 (turnFrame S e) (turnKind k) (turn S rest) (turnState t) ≡ turnSeen S (scan natural R e k rest t)
+        → after natural R2 (turnFrame S e) (turnKind k) (turn S rest) (turnState t) ≡ turnSeen S (after natural R e k rest t)
     after-turn e k rest t p q x =
         rw (stop-turn R2 rest t p q, cut-turn e k t, x)
         (cond-map (turnSeen S) (cut e k t) (scan natural R e k rest t) (stop natural (R .margin) rest t))
 
     step-turn : (e : Frame ℕ) (k : Kind) (n w : ℕ) (rest : Forest ℕ) (s : State ℕ) (r r2 : Seen ℕ) (v : ℕ) → e .top ≤ S → Holding e v r
         → Safe S e k (w + weigh rest) s → r2 ≡ turnSeen S r
-        → ((t : State ℕ) → Safe S e k (weigh rest) t → scan natural R2 (turnFrame S e) (flip k) (turn S rest) (turnState t) ≡ turnSeen S (scan natural R e k rest t))
-        → after natural R2 (turnFrame S e) (flip k) (turn S rest) (take natural (turnFrame S e) (flip k) n w (turnState s) (r2)) ≡ turnSeen S (after natural R e k rest (take natural e k n w s r))
+        → ((t : State ℕ) → Safe S e k (weigh rest) t → scan natural R2 (turnFrame S e) (turnKind k) (turn S rest) (turnState t) ≡ turnSeen S (scan natural R e k rest t))
+        → after natural R2 (turnFrame S e) (turnKind k) (turn S rest) (take natural (turnFrame S e) (turnKind k) n w (turnState s) (r2)) ≡ turnSeen S (after natural R e k rest (take natural e k n w s r))
     step-turn e k n w rest s r r2 v t h j x ih =
         let j2 = safe-take S e k n w (weigh rest) s r t (h .0) (le-trans (h .1) (h .2)) (h .3) j in
         let q = safe-window S e k (weigh rest) _ j2 in
-        ap (λ y. after natural R2 (turnFrame S e) (flip k) (turn S rest) (take natural (turnFrame S e) (flip k) n w (turnState s) y)) x
+        ap (λ y. after natural R2 (turnFrame S e) (turnKind k) (turn S rest) (take natural (turnFrame S e) (turnKind k) n w (turnState s) y)) x
         ∙
-        (ap (after natural R2 (turnFrame S e) (flip k) (turn S rest)) (take-turn R2 e k n w (weigh rest) s r t (h .0) (le-trans (h .1) (h .2)) (h .3) j)
+        (ap (after natural R2 (turnFrame S e) (turnKind k) (turn S rest)) (take-turn R2 e k n w (weigh rest) s r t (h .0) (le-trans (h .1) (h .2)) (h .3) j)
         ∙ after-turn e k rest _ (q .0) (q .1) (ih _ j2))
 
     pub turned : (e : Frame ℕ) (k : Kind) (f : Forest ℕ) (s : State ℕ) → e .bottom ≤ e .top → e .top ≤ S → Within (R .frame) e f
-        → Safe S e k (weigh f) s → scan natural R2 (turnFrame S e) (flip k) (turn S f) (turnState s) ≡ turnSeen S (scan natural R e k f s)
+        → Safe S e k (weigh f) s → scan natural R2 (turnFrame S e) (turnKind k) (turn S f) (turnState s) ≡ turnSeen S (scan natural R e k f s)
     unfolding scan turn weigh finish turnState point
     turned e k end s o t i j = refl
     turned e k (leaf n w h rest) s o t i j =
@@ -196,21 +196,21 @@ module _ (S : ℕ) where
         let r : Seen ℕ = enter natural R e k n w c under s in
         let u = hold-under e d _ r (i .0) (i .1) (contained R d c under la ub (s .read) (i .2) (i .3)) in
         let b : e .bottom ≤ S = le-trans o t in
-        let x : enter natural R2 (turnFrame S e) (flip k) n w (flip c) (turn S under) (turnState s) ≡ turnSeen S r
+        let x : enter natural R2 (turnFrame S e) (turnKind k) n w (turnKind c) (turn S under) (turnState s) ≡ turnSeen S r
         = ap
-        (λ m. scan natural R2 m (flip c) (turn S under) (begin m (flip c) (lower natural (turnFrame S e) (flip k) w (turnState s)) (upper natural (turnFrame S e) (flip k) w (turnState s)) (s .read)))
+        (λ m. scan natural R2 m (turnKind c) (turn S under) (begin m (turnKind c) (lower natural (turnFrame S e) (turnKind k) w (turnState s)) (upper natural (turnFrame S e) (turnKind k) w (turnState s)) (s .read)))
         (frames n under)
         ∙
-        (ap (scan natural R2 (turnFrame S d) (flip c) (turn S under)) (ap₂ (λ x y. begin (turnFrame S d) (flip c) x y (s .read)) (lower-turn e k w _ s j) (upper-turn e k w _ s t j) ∙ begin-turn d c la ub (s .read))
+        (ap (scan natural R2 (turnFrame S d) (turnKind c) (turn S under)) (ap₂ (λ x y. begin (turnFrame S d) (turnKind c) x y (s .read)) (lower-turn e k w _ s j) (upper-turn e k w _ s t j) ∙ begin-turn d c la ub (s .read))
         ∙ turned d c under (begin d c la ub (s .read)) (i .2 .ends) (le-trans (i .1) t) (i .3)
         (safe-begin S d c under la ub (s .read) (i .2) (le-trans (i .1) t) (safe-lower S e k w _ s b t j) (safe-upper S e k w _ s t j))) in
         step-turn e k n w rest s r _ _ t u j x (λ z y. turned e k rest z o t (i .4) y)
 
     pub turned-search : (e : Frame ℕ) (k : Kind) (f : Forest ℕ) → e .top ≤ S → Sound e k f → Within (R .frame) e f
-        → search natural R2 (turnFrame S e) (flip k) (turn S f) ≡ turnSeen S (search natural R e k f)
+        → search natural R2 (turnFrame S e) (turnKind k) (turn S f) ≡ turnSeen S (search natural R e k f)
     unfolding search
     turned-search e k f t q i =
-        ap (scan natural R2 (turnFrame S e) (flip k) (turn S f)) (begin-turn e k (e .bottom) (e .top) []) ∙ turned e k f _ (q .ends) t i
+        ap (scan natural R2 (turnFrame S e) (turnKind k) (turn S f)) (begin-turn e k (e .bottom) (e .top) []) ∙ turned e k f _ (q .ends) t i
         (safe-begin S e k f (e .bottom) (e .top) [] q t (le-trans (q .ends) t) t)
 
     -- the search of a root
@@ -220,5 +220,5 @@ module _ (S : ℕ) where
     turned-root e end t i = ap (λ (d : Frame ℕ). record { low = d .bottom; high = d .top; play = noPlay; read = [] }) (frames 0 end)
     turned-root e (leaf n w h rest) t i = refl
     turned-root e (inner n w k under rest) t i =
-        ap (λ (d : Frame ℕ). search natural R2 d (flip k) (turn S under)) (frames n under) ∙ turned-search (R .frame n under) k under
+        ap (λ (d : Frame ℕ). search natural R2 d (turnKind k) (turn S under)) (frames n under) ∙ turned-search (R .frame n under) k under
         (le-trans (i .1) t) (i .2) (i .3)

@@ -21,7 +21,8 @@ use Rattle.worth.proofs.Worth.{top}
 use Rattle.search.specs.Search.{Play, noPlay, child, Seen, searchRoot, nodeOf}
 use Rattle.search.specs.Whole.{searched}
 use Rattle.search.specs.Heights.{natural, grained, frameOf, heightRules, heightSearched}
-use Rattle.search.specs.Turned.{flip, turned, turnedHead, Turns}
+use Rattle.turn.specs.Turn.{turnKind, turnHead, turnTree}
+use Rattle.search.specs.Turned.{Turns}
 use Rattle.search.proofs.Worths.{plain}
 use Rattle.search.proofs.Grains.{within}
 use Rattle.search.proofs.Turn.{turn, turnFrame, turnPlay, turnSeen, turned-root}
@@ -30,20 +31,19 @@ use Rattle.search.proofs.Demand.{shifted, heights-hold, heights-order}
 
 -- ---- G is the same
 
-one-flip : (k : Kind) → one (flip k) ≡ one k
-unfolding flip
-one-flip MAX = refl
-one-flip MIN = refl
-one-flip CHANCE = refl
+one-turn : (k : Kind) → one (turnKind k) ≡ one k
+one-turn MAX = refl
+one-turn MIN = refl
+one-turn CHANCE = refl
 
-turned-greatest : (p c : ℕ) (f : Forest ℤ) → greatest (flat p c (turned f)) ≡ greatest (flat p c f)
-unfolding greatest flat turned
+turned-greatest : (p c : ℕ) (f : Forest ℤ) → greatest (flat p c (turnTree f)) ≡ greatest (flat p c f)
+unfolding greatest flat turnTree
 turned-greatest p c end = refl
 turned-greatest p c (leaf n w v rest) = ap (max c) (turned-greatest p c rest)
 turned-greatest p c (inner n w k under rest) =
-    ap₂ (λ (j g : ℕ). max (c + j) g) (one-flip k) (
-    ap (λ (j : ℕ). greatest (flat n (c + j) (turned under) ++ flat p c (turned rest))) (one-flip k)
-    ∙ greatest-both (flat n (c + one k) (turned under)) (flat p c (turned rest))
+    ap₂ (λ (j g : ℕ). max (c + j) g) (one-turn k) (
+    ap (λ (j : ℕ). greatest (flat n (c + j) (turnTree under) ++ flat p c (turnTree rest))) (one-turn k)
+    ∙ greatest-both (flat n (c + one k) (turnTree under)) (flat p c (turnTree rest))
     ∙ ap₂ max (turned-greatest n (c + one k) under) (turned-greatest p c rest)
     ∙ sym (greatest-both (flat n (c + one k) under) (flat p c rest)))
 
@@ -60,7 +60,7 @@ turn-minus a b =
     (is-minus (negℤ a) (negℤ b) (minus a) (plus a) (minus b) (plus b) (is-neg a (plus a) (minus a) (parts a)) (is-neg b (plus b) (minus b) (parts b)))
     (is-eq (b -ℤ a) (plus b + minus a) (minus b + plus a) (minus a + plus b) (plus a + minus b) (is-minus b a (plus b) (minus b) (plus a) (minus a) (parts b) (parts a)) (omega arith))
 
-span-turn : (h : Head) → span (turnedHead h) ≡ span h
+span-turn : (h : Head) → span (turnHead h) ≡ span h
 span-turn h = ap toNat (turn-minus (h .lowest) (h .highest))
 
 -- the height of a leaf above the turned table's lowest end
@@ -83,14 +83,14 @@ sub-times : (a b G : ℕ) → (a - b) * G ≡ a * G - b * G
 sub-times a b G = omega (arith, mul-sub G a b)
 
 turned-heights : (h : Head) (T K G d c : ℕ) (u : Bool) (f : Forest ℤ) → Proper T K (Within h) d c u f
-    → grained G (mapForest (above (negℤ (h .highest))) (turned f)) ≡ turn (span h * G) (grained G (mapForest (above (h .lowest)) f))
-unfolding grained turned turn
+    → grained G (mapForest (above (negℤ (h .highest))) (turnTree f)) ≡ turn (span h * G) (grained G (mapForest (above (h .lowest)) f))
+unfolding grained turnTree turn
 turned-heights h T K G d c u end p = refl
 turned-heights h T K G d c u (leaf n w v rest) p =
     ap₂ (leaf n w) (ap (λ (x : ℕ). x * G) (above-turn h v (p .1)) ∙ sub-times (span h) (above (h .lowest) v) G)
     (turned-heights h T K G d c u rest (p .4))
 turned-heights h T K G d c u (inner n w k under rest) p =
-    ap₂ (inner n w (flip k)) (turned-heights h T K G (suc d) (c + one k) (isChance k) under (p .3)) (turned-heights h T K G d c u rest (p .4))
+    ap₂ (inner n w (turnKind k)) (turned-heights h T K G (suc d) (c + one k) (isChance k) under (p .3)) (turned-heights h T K G d c u rest (p .4))
 
 -- ---- back to the integers
 
