@@ -2,3 +2,4 @@ pub mod Sums
 pub mod Known
 pub mod Searching
 pub mod Answered
+pub mod Turning
