@@ -3,3 +3,4 @@ pub mod Known
 pub mod Searching
 pub mod Answered
 pub mod Turning
+pub mod Demands

@@ -17,7 +17,9 @@ use Rattle.table.proofs.Heights.{above, mapForest, height-back, heights-map}
 use Rattle.table.proofs.Accepted.{accepted-flat, accepted-ranged, accepted-proper, heights-proper, heights-balanced}
 use Rattle.worth.proofs.Signs.{Is, plus, minus, parts, is-unique, is-eq, is-neg, is-minus}
 use Rattle.worth.proofs.Shift.{is-times, lift}
-use Rattle.worth.proofs.Worth.{top}
+use Rattle.worth.specs.Worth.{worthOf}
+use Rattle.worth.specs.Heights.{heightWorth}
+use Rattle.worth.proofs.Worth.{top, shift as worth-shift}
 use Rattle.search.specs.Search.{Play, noPlay, child, Seen, searchRoot, nodeOf}
 use Rattle.search.specs.Whole.{searched}
 use Rattle.search.specs.Heights.{natural, grained, frameOf, heightRules, heightSearched}
@@ -27,7 +29,7 @@ use Rattle.search.proofs.Worths.{plain}
 use Rattle.search.proofs.Grains.{within}
 use Rattle.search.proofs.Turn.{turn, turnFrame, turnPlay, turnSeen, turned-root}
 use Rattle.search.proofs.Changed.{greatest-both}
-use Rattle.search.proofs.Demand.{shifted, heights-hold, heights-order}
+use Rattle.search.proofs.Demand.{heights-width, shifted, heights-hold, heights-order}
 
 -- ---- G is the same
 
@@ -182,3 +184,20 @@ module _ (a b : List ℕ) (t u : Table) (p : readText a ≡ fine t) (q : readTex
   -- "and its reading sequence is equal entry by entry"
   pub turned-read : searched u ε .read ≡ searched t ε .read
   turned-read = shifted b u q ε .3 ∙ ap (λ (r : Seen ℕ). r .read) seen-turn ∙ sym (shifted a t p ε .3)
+
+-- ---- the exact worth
+
+-- at margin 0 both bounds are the worth
+module _ (s : List ℕ) (t : Table) (r : readText s ≡ fine t) where
+  closed : (x : ℕ) → heightWorth t ≡ x → worthOf t ≡ t .head .lowest *ℤ pos (grain t) +ℤ pos x
+  closed x e = worth-shift s t r ∙ ap (λ (y : ℕ). t .head .lowest *ℤ pos (grain t) +ℤ pos y) e
+
+  closed-low : worthOf t ≡ searched t 0 .low
+  closed-low = closed (heightSearched t 0 .low) (omega (arith, heights-hold s t r 0, heights-width s t r 0)) ∙ sym (shifted s t r 0 .0)
+
+  closed-high : worthOf t ≡ searched t 0 .high
+  closed-high = closed (heightSearched t 0 .high) (omega (arith, heights-hold s t r 0, heights-width s t r 0)) ∙ sym (shifted s t r 0 .1)
+
+-- the turned table is worth minus what the table is worth
+pub turned-worth : (a b : List ℕ) (t u : Table) → readText a ≡ fine t → readText b ≡ fine u → Turns t u → worthOf u ≡ negℤ (worthOf t)
+turned-worth a b t u p q turns = closed-low b u q ∙ turned-low a b t u p q 0 turns ∙ ap negℤ (sym (closed-high a t p))

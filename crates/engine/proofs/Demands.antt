@@ -1,0 +1,203 @@
+-- Demand 3 at the public calls. Assumes nothing.
+use Prim.Native.Nat.{ℕ, zero, suc, _≤_}
+use mathlib.Core.Path.{_≡_, refl, sym, ap, ap₂, subst, _∙_}
+use mathlib.Core.Bool.{Bool, true, false, cond}
+use mathlib.Core.List.{List, [], _∷_, List·Memᴰ}
+use mathlib.Core.Option.{Option, none, some}
+use native.Mathlib.Omega.{arith}
+use borrow.Author.Tests.{ltb-false}
+use lib.Dec.{eqb, leb, ltb}
+use lib.ListN.{length}
+use lib.IntN.{ℤ, pos, negsuc, negℤ, _+ℤ_}
+use lib.Signed.{leZ, ltZ}
+use Rattle.line.specs.declared.Line.{Line}
+use Rattle.line.specs.declared.Head.{Head}
+use Rattle.line.specs.declared.Refusal.{Refusal}
+use Rattle.line.specs.declared.Refusal.the-variants.{NoRoom}
+use Rattle.line.specs.Refusal.{Verdict, refused, fine, unless}
+use Rattle.line.specs.Line.{toNat}
+use Rattle.line.proofs.Checks.{or-left}
+use Rattle.table.specs.Tree.{Forest, leaf, inner, kindOf, run, after, forest, grow, leaves}
+use Rattle.table.specs.Table.{Table, tree, readText, grain}
+use Rattle.worth.specs.Worth.{worthOf}
+use Rattle.judge.specs.declared.Play.{Play}
+use Rattle.judge.specs.declared.Play.the-variants.{Child, NoPlay}
+use Rattle.judge.specs.Inside.{playOf}
+use Rattle.turn.specs.Turn.{turnTable, turnedText}
+use Rattle.turn.proofs.Tree.{tree-turned}
+use Rattle.turn.proofs.Accepted.{turned-accepted}
+use Rattle.search.specs.Search.{Seen, nodeOf}
+use Rattle.search.specs.Whole.{searched, playWorth}
+use Rattle.search.specs.Unread.{Alike, alike-end, alike-leaf, alike-inner, ReadBy}
+use Rattle.search.specs.Turned.{Turns}
+use Rattle.search.proofs.Demand.{contains, width, play-near}
+use Rattle.search.proofs.Changed as changed
+use Rattle.search.proofs.Turned as mirror
+use Rattle.engine.specs.declared.Bounds.{Bounds}
+use Rattle.engine.specs.declared.Bounded.the-variants.{Found}
+use Rattle.engine.specs.declared.Exact.the-variants.{Grains}
+use Rattle.engine.specs.Calls.{exactCall, badMargin, boundsOf, searchCall, searchReads, turnOf}
+use Rattle.engine.specs.Demands.{childWorth, Promised, LongEnough, withUtility, SameLines, same-none, same-more, Differ, Mirrors, Sentence1, Sentence2, Sentence3}
+use Rattle.engine.proofs.Answered.{Answered, answered, answers, reads}
+
+-- ---- the bounds and the play
+
+-- a margin that is accepted is a count
+margin-is : (m : ℤ) → badMargin m ≡ false → pos (toNat m) ≡ m
+margin-is (pos n) b = refl
+margin-is (negsuc n) b = let z : true ≡ false = or-left (ltZ (negsuc n) (pos 0)) (ltZ (pos 40000000000000) (negsuc n)) b in absurd (no z)
+  where
+    no : true ≡ false → ⊥
+    no e = let x : _≡_ {A = ℕ} 1 0 = ap (λ (c : Bool). cond c 1 0) e in omega arith
+
+child-some : (p : Option ℕ) (n : ℕ) → playOf p ≡ Child n → p ≡ some n
+child-some none n e = let x : _≡_ {A = ℕ} 0 1 = cc in absurd (omega arith)
+child-some (some m) n e = cc
+
+-- of a table's search, at a margin that is accepted
+promised-of : (s : List ℕ) (t : Table) (m : ℤ) → readText s ≡ fine t → badMargin m ≡ false
+    → Promised s m (boundsOf (record { table = t; seen = searched t (toNat m) }))
+promised-of s t m p good =
+    let ε : ℕ = toNat m in
+    let e : pos ε ≡ m = margin-is m good in
+    let c = contains s t p ε in
+    record {
+      worth = worthOf t;
+      exact = ap exactCall p;
+      above = c .0;
+      below = c .1;
+      narrow = subst (λ (z : ℤ). leZ (searched t ε .high) (searched t ε .low +ℤ z) ≡ true) e (width s t p ε);
+      near = λ n q.
+          let (v, w, x, y) = play-near s t p ε n (child-some (nodeOf (searched t ε .play)) n q) in (
+            v,
+            ap (λ (a : Verdict Table). childWorth a n) p ∙ w,
+            subst (λ (z : ℤ). leZ v (worthOf t +ℤ z) ≡ true) e x,
+            subst (λ (z : ℤ). leZ (worthOf t) (v +ℤ z) ≡ true) e y,
+          );
+    }
+
+pub sentence1 : Sentence1
+sentence1 s m room b e =
+    let A = answered s m room b e in
+    subst (Promised s m) (sym (A .bounds)) (promised-of s (A .table) m (A .read) (A .margin))
+
+-- ---- other utilities
+
+module _ (read : List ℕ) where
+  both : {k l m n : List Line} (c : Bool) → SameLines read k l → SameLines read m n → SameLines read (cond c k m) (cond c l n)
+  both true s u = s
+  both false s u = u
+
+  run-same : (n : ℕ) {ls ms : List Line} → SameLines read ls ms → SameLines read (run n ls) (run n ms)
+  unfolding run
+  run-same n same-none = same-none
+  run-same n (same-more {l} q s) = both (leb n (l .parent)) (same-more q (run-same n s)) same-none
+
+  after-same : (n : ℕ) {ls ms : List Line} → SameLines read ls ms → SameLines read (after n ls) (after n ms)
+  unfolding after
+  after-same n same-none = same-none
+  after-same n (same-more {l} q s) = both (leb n (l .parent)) (after-same n s) (same-more q s)
+
+  abbrev value : Line → ℤ
+  value l = l .utility
+
+  abbrev Read : ℕ → Type 0
+  Read n = List·Memᴰ n read
+
+  grown : (l : Line) (z : ℤ) {u u2 r r2 : Forest ℤ} → (Read (l .node) → l .utility ≡ z) → Alike Read u u2 → Alike Read r r2
+      → Alike Read (grow (l .utility) l u r) (grow z (withUtility z l) u2 r2)
+  grown l z {u} {u2} {r} {r2} q a b = go (eqb (l .kind) 0)
+    where
+      go : (c : Bool) → Alike Read (cond c (leaf (l .node) (l .weight) (l .utility) r) (inner (l .node) (l .weight) (kindOf (l .kind)) u r)) (cond c (leaf (l .node) (l .weight) z r2) (inner (l .node) (l .weight) (kindOf (l .kind)) u2 r2))
+      go true = alike-leaf q b
+      go false = alike-inner a b
+
+  forest-alike : (k : ℕ) {ls ms : List Line} → SameLines read ls ms → Alike Read (forest value k ls) (forest value k ms)
+  unfolding forest
+  forest-alike zero s = alike-end
+  forest-alike (suc k) same-none = alike-end
+  forest-alike (suc k) (same-more {l} {z} q s) =
+      grown l z q (forest-alike k (run-same (l .node) s)) (forest-alike k (after-same (l .node) s))
+
+  same-long : {ls ms : List Line} → SameLines read ls ms → length ls ≡ length ms
+  same-long same-none = refl
+  same-long (same-more q s) = ap suc (same-long s)
+
+  tree-alike : (t u : Table) → SameLines read (t .lines) (u .lines) → Alike Read (tree t) (tree u)
+  tree-alike t u s = subst (λ (k : ℕ). Alike Read (tree t) (forest value k (u .lines))) (same-long s) (forest-alike (length (t .lines)) s)
+
+same-sought : (t u : Table) (ε : ℕ) → grain u ≡ grain t → searched u ε ≡ searched t ε → boundsOf (record { table = u; seen = searched u ε }) ≡ boundsOf (record { table = t; seen = searched t ε })
+same-sought t u ε g e =
+    ap₂ (λ (x : Seen ℤ) (y : ℕ). record { low = x .low; high = x .high; play = playOf (nodeOf (x .play)); leaves = length (x .read); grain = y }) e g
+
+fine-same : (t u : Table) → fine t ≡ fine u → t ≡ u
+fine-same t u e = cc
+
+pub sentence2 : Sentence2
+sentence2 s m room b e u D other long =
+    let A = answered s m room b e in
+    let ε : ℕ = toNat m in
+    let t : Table = D .old in
+    let v : Table = D .new in
+    let same : A .table ≡ t = fine-same (A .table) t (sym (A .read) ∙ D .is-old) in
+    let bounds : b ≡ boundsOf (record { table = t; seen = searched t ε }) = A .bounds ∙ ap (λ (x : Table). boundsOf (record { table = x; seen = searched x ε })) same in
+    let enough : leaves (tree t) ≤ room = subst (λ (x : Table). leaves (tree x) ≤ room) same (A .long) in
+    let listed : searchReads (readText s) m room ≡ searched t ε .read = reads s m room t (D .is-old) (A .margin) enough in
+    let alike : Alike (ReadBy (searched t ε)) (tree t) (tree v) = tree-alike (searched t ε .read) t v (subst (λ (l : List ℕ). SameLines l (t .lines) (v .lines)) listed (D .lines)) in
+    let found : searched v ε ≡ searched t ε = changed.same-answer s u t v (D .is-old) (D .is-new) ε (D .head) alike in
+    let again : boundsOf (record { table = v; seen = searched v ε }) ≡ b =
+    same-sought t v ε (changed.same-grain s u t v (D .is-old) (D .is-new) ε (D .head) alike) found ∙ sym bounds in (
+      answers u m other v (D .is-new) (A .margin) (long v (D .is-new)) ∙ ap Found again,
+      reads u m other v (D .is-new) (A .margin) (long v (D .is-new)) ∙ ap (λ (x : Seen ℤ). x .read) found ∙ sym listed,
+      subst (Promised u m) again (promised-of u v m (D .is-new) (A .margin)),
+    )
+
+-- ---- the turned table
+
+text-same : (s u : List ℕ) → _≡_ {A = Verdict (List ℕ)} (fine s) (fine u) → s ≡ u
+text-same s u e = cc
+
+no-text : {P : Type 0} (r : Refusal) (u : List ℕ) → _≡_ {A = Verdict (List ℕ)} (refused r) (fine u) → P
+no-text r u e = let z : _≡_ {A = ℕ} 0 1 = cc in absurd (omega arith)
+
+-- what turning writes is the turned table's text
+written : (t : Table) (size : ℕ) (u : List ℕ) → turnOf (fine t) size ≡ fine u → turnedText t ≡ u
+unfolding unless
+written t size u e = go (ltb size (length (turnedText t))) e
+  where
+    go : (c : Bool) → cond c (refused NoRoom) (fine (turnedText t)) ≡ fine u → turnedText t ≡ u
+    go true e = no-text NoRoom u e
+    go false e = text-same (turnedText t) u e
+
+same-grains : (y z : ℤ) (g h : ℕ) → Grains y g ≡ Grains z h → y ≡ z
+same-grains y z g h e = cc
+
+pub sentence3 : Sentence3
+sentence3 s m room b e size u w other long =
+    let A = answered s m room b e in
+    let ε : ℕ = toNat m in
+    let t : Table = A .table in
+    let v : Table = turnTable t in
+    let p = A .read in
+    let text : turnedText t ≡ u = written t size u (ap (λ (x : Verdict Table). turnOf x size) (sym p) ∙ w) in
+    let q : readText u ≡ fine v = subst (λ (x : List ℕ). readText x ≡ fine v) text (turned-accepted s t p) in
+    let turns : Turns t v = record { head = refl; nodes = tree-turned t } in
+    let grains : grain v ≡ grain t = mirror.same-grain s u t v p q ε turns in
+    let read : searched v ε .read ≡ searched t ε .read = mirror.turned-read s u t v p q ε turns in
+    let c : Bounds = boundsOf (record { table = v; seen = searched v ε }) in (
+      c,
+      answers u m other v q (A .margin) (long v q),
+      subst (λ (x : Bounds). Mirrors x c) (sym (A .bounds)) (record {
+        low = mirror.turned-low s u t v p q ε turns;
+        high = mirror.turned-high s u t v p q ε turns;
+        play = ap playOf (mirror.turned-play s u t v p q ε turns);
+        leaves = ap length read;
+        grain = grains;
+      }),
+      reads u m other v q (A .margin) (long v q) ∙ read ∙ sym (reads s m room t p (A .margin) (A .long)),
+      (λ z x.
+      let is : z ≡ worthOf t = same-grains z (worthOf t) (b .grain) (grain t) (sym x ∙ ap exactCall p) in
+      ap exactCall q
+      ∙ ap₂ Grains (mirror.turned-worth s u t v p q turns ∙ ap negℤ (sym is)) (grains ∙ sym (ap (λ (y : Bounds). y .grain) (A .bounds)))),
+      promised-of u v m q (A .margin),
+    )

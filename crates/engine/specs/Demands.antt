@@ -1,0 +1,100 @@
+-- Demand 3 at the public calls, stated over texts. Document 01, 'The search', third paragraph; proofs/Demands.antt has the theorems.
+-- Assumes nothing: these are definitions.
+use Prim.Native.Nat.{ℕ, _≤_}
+use mathlib.Core.Path.{_≡_}
+use mathlib.Core.Bool.{true}
+use mathlib.Core.List.{List, [], _∷_, List·Memᴰ}
+use mathlib.Core.Option.{Option, none, some}
+use lib.IntN.{ℤ, negℤ, _+ℤ_}
+use lib.Signed.{leZ}
+use Rattle.line.specs.declared.Line.{Line}
+use Rattle.line.specs.Refusal.{Verdict, refused, fine}
+use Rattle.table.specs.Tree.{leaves}
+use Rattle.table.specs.Table.{Table, tree, readText}
+use Rattle.judge.specs.declared.Play.{Play}
+use Rattle.judge.specs.declared.Play.the-variants.{Child}
+use Rattle.search.specs.Whole.{playWorth}
+use Rattle.engine.specs.declared.Bounds.{Bounds}
+use Rattle.engine.specs.declared.Bounded.the-variants.{Found}
+use Rattle.engine.specs.declared.Exact.the-variants.{Grains}
+use Rattle.engine.specs.Calls.{exactCall, searchCall, searchReads, turnOf}
+
+-- ---- the bounds and the play
+
+-- "a play is worth the exact worth of the root child that it names": of node n as a root child in the text
+abbrev pub childWorth : Verdict Table → ℕ → Option ℤ
+childWorth (refused r) n = none
+childWorth (fine t) n = playWorth t n
+
+-- What is promised of the answer b for the text s at the margin m: the exact worth lies within the two bounds, they differ by at most the margin,
+-- and the play, if one is named, is worth within the margin of the exact worth. Both worths are the text's own.
+pub record Promised (s : List ℕ) (m : ℤ) (b : Bounds) : Type 0 where
+  pub worth : ℤ
+  pub exact : exactCall (readText s) ≡ Grains worth (b .grain)
+  pub above : leZ (b .low) worth ≡ true
+  pub below : leZ worth (b .high) ≡ true
+  pub narrow : leZ (b .high) (b .low +ℤ m) ≡ true
+  pub near : (n : ℕ) → b .play ≡ Child n → (v : ℤ) × (childWorth (readText s) n ≡ some v) × (leZ v (worth +ℤ m) ≡ true) × (leZ worth (v +ℤ m) ≡ true)
+
+-- "any leaf list that is long enough": as long as the text's table has leaves
+abbrev pub LongEnough : List ℕ → ℕ → Type 0
+LongEnough s room = (t : Table) → readText s ≡ fine t → leaves (tree t) ≤ room
+
+-- ---- other utilities
+
+-- a line with another utility
+abbrev pub withUtility : ℤ → Line → Line
+withUtility z l = record { node = l .node; kind = l .kind; parent = l .parent; weight = l .weight; utility = z; chances = l .chances }
+
+-- lines that differ in utilities alone, and not where the node's number is in the list: "a leaf is unread when its number is not among them"
+pub data SameLines (read : List ℕ) : List Line → List Line → Type 0 where
+  same-none : SameLines read [] []
+  same-more : {l : Line} {z : ℤ} {ls ms : List Line} → (List·Memᴰ (l .node) read → l .utility ≡ z) → SameLines read ls ms → SameLines read (l ∷ ls) (withUtility z l ∷ ms)
+
+-- two accepted texts that differ in utilities of unread leaves alone
+pub record Differ (read : List ℕ) (s u : List ℕ) : Type 0 where
+  pub old : Table
+  pub new : Table
+  pub is-old : readText s ≡ fine old
+  pub is-new : readText u ≡ fine new
+  pub head : new .head ≡ old .head
+  pub lines : SameLines read (old .lines) (new .lines)
+
+-- ---- the turned table
+
+-- "its low is minus the old high, its high is minus the old low, its play is the same child or again none"
+pub record Mirrors (b c : Bounds) : Type 0 where
+  pub low : c .low ≡ negℤ (b .high)
+  pub high : c .high ≡ negℤ (b .low)
+  pub play : c .play ≡ b .play
+  pub leaves : c .leaves ≡ b .leaves
+  pub grain : c .grain ≡ b .grain
+
+-- ---- the three sentences, of every text s, margin m and list of `room` entries that the search accepts
+
+abbrev pub Sentence1 : Type 0
+Sentence1 = (s : List ℕ) (m : ℤ) (room : ℕ) (b : Bounds) → searchCall (readText s) m room ≡ Found b → Promised s m b
+
+-- "unread leaves may be given any other utilities within the ends and nothing changes, and all of this still holds of the new worths"
+abbrev pub Sentence2 : Type 0
+Sentence2 =
+    (s : List ℕ) (m : ℤ) (room : ℕ) (b : Bounds) → searchCall (readText s) m room ≡ Found b
+    → (u : List ℕ) → Differ (searchReads (readText s) m room) s u
+    → (other : ℕ) → LongEnough u other
+    → (searchCall (readText u) m other ≡ Found b)
+    × (searchReads (readText u) m other ≡ searchReads (readText s) m room)
+    × Promised u m b
+
+-- "the turned table reads the same leaves in the same sequence, names the same play or none, and its bounds come back negated and exchanged": u is
+-- the text that turning writes, for some buffer
+abbrev pub Sentence3 : Type 0
+Sentence3 =
+    (s : List ℕ) (m : ℤ) (room : ℕ) (b : Bounds) → searchCall (readText s) m room ≡ Found b
+    → (size : ℕ) (u : List ℕ) → turnOf (readText s) size ≡ fine u
+    → (other : ℕ) → LongEnough u other
+    → (c : Bounds)
+    × (searchCall (readText u) m other ≡ Found c)
+    × Mirrors b c
+    × (searchReads (readText u) m other ≡ searchReads (readText s) m room)
+    × ((z : ℤ) → exactCall (readText s) ≡ Grains z (b .grain) → exactCall (readText u) ≡ Grains (negℤ z) (b .grain))
+    × Promised u m c
