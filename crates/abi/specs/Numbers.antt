@@ -16,7 +16,8 @@ use Rattle.engine.specs.declared.Opinion.{Opinion}
 use Rattle.engine.specs.declared.Bounds.{Bounds}
 use Rattle.engine.specs.declared.Bounded
 use Rattle.engine.specs.declared.Bounded.{Bounded}
-use Rattle.engine.specs.Calls.{judgeNumber, judgeLine, searchNumber, searchLine}
+use Rattle.engine.specs.Calls.{judgeNumber, judgeLine, searchNumber, searchLine, turnNumber, turnLine}
+use Rattle.engine.specs.declared.Turned.{Turned}
 use Rattle.engine.specs.declared.Exact
 use Rattle.engine.specs.declared.Exact.{Exact}
 
@@ -73,6 +74,10 @@ pub record SmallBounds (b : Bounds) : Type 0 where
   pub play : nodeNumber (b .play) < 2 ^ 63
   pub leaves : b .leaves < 2 ^ 63
   pub grain : b .grain < 2 ^ 63
+
+-- the same of turning
+abbrev pub turnCode : Turned → ℕ
+turnCode t = 100 * turnLine t + turnNumber t
 
 module _ {A : Type 0} where
   -- the list l with xs written from its entry i on, as far as it goes

@@ -24,7 +24,7 @@ use Rattle.judge.specs.declared.Play.{Play}
 use Rattle.judge.specs.declared.Play.the-variants.{Child, NoPlay}
 use Rattle.judge.specs.Inside.{playOf}
 use Rattle.turn.specs.Turn.{turnTable, turnedText}
-use Rattle.turn.proofs.Tree.{tree-turned}
+use Rattle.turn.proofs.Tree.{tree-turned, turn-twice}
 use Rattle.turn.proofs.Accepted.{turned-accepted}
 use Rattle.search.specs.Search.{Seen, nodeOf}
 use Rattle.search.specs.Whole.{searched, playWorth}
@@ -37,8 +37,9 @@ use Rattle.engine.specs.declared.Bounds.{Bounds}
 use Rattle.engine.specs.declared.Bounded.the-variants.{Found}
 use Rattle.engine.specs.declared.Exact.the-variants.{Grains}
 use Rattle.engine.specs.Calls.{exactCall, badMargin, boundsOf, searchCall, searchReads, turnOf}
-use Rattle.engine.specs.Demands.{childWorth, Promised, LongEnough, withUtility, SameLines, same-none, same-more, Differ, Mirrors, Sentence1, Sentence2, Sentence3}
-use Rattle.engine.proofs.Answered.{Answered, answered, answers, reads}
+use Rattle.engine.specs.Demands.{childWorth, Promised, LongEnough, withUtility, SameLines, same-none, same-more, Differ, Mirrors, Answers, Sentence1, Sentence2, Sentence3, TurningTwice}
+use Rattle.engine.proofs.Answered.{answered, answers, reads}
+use Rattle.engine.proofs.Turning.{turn-fine}
 
 -- ---- the bounds and the play
 
@@ -75,6 +76,10 @@ promised-of s t m p good =
             subst (λ (z : ℤ). leZ (worthOf t) (v +ℤ z) ≡ true) e y,
           );
     }
+
+pub always-answers : Answers
+always-answers s t m room p good long =
+    (boundsOf (record { table = t; seen = searched t (toNat m) }), answers s m room t p good (long t p))
 
 pub sentence1 : Sentence1
 sentence1 s m room b e =
@@ -201,3 +206,13 @@ sentence3 s m room b e size u w other long =
       ∙ ap₂ Grains (mirror.turned-worth s u t v p q turns ∙ ap negℤ (sym is)) (grains ∙ sym (ap (λ (y : Bounds). y .grain) (A .bounds)))),
       promised-of u v m q (A .margin),
     )
+
+turned-of : (s : List ℕ) (size : ℕ) (u : List ℕ) (x : Verdict Table) → readText s ≡ x → turnOf x size ≡ fine u → (t : Table) × (readText s ≡ fine t) × (turnedText t ≡ u)
+turned-of s size u (refused r) p w = no-text r u w
+turned-of s size u (fine t) p w = (t, p, written t size u w)
+
+pub turning-twice : TurningTwice
+turning-twice s size u w other long =
+    let (t, p, text) = turned-of s size u (readText s) refl w in
+    let q : readText u ≡ fine (turnTable t) = subst (λ (x : List ℕ). readText x ≡ fine (turnTable t)) text (turned-accepted s t p) in
+    turn-fine u (turnTable t) other q long ∙ ap fine (turn-twice s t p)

@@ -1,24 +1,29 @@
 -- What turning an accepted text gives. Assumes nothing.
 use Prim.Native.Nat.{ℕ, _≤_, _<_}
 use mathlib.Core.Path.{_≡_, refl, sym, ap, subst, _∙_}
+use mathlib.Core.Bool.{Bool, true, false, cond}
 use mathlib.Core.List.{List}
 use native.Mathlib.Omega.{arith}
 use borrow.Author.Tests.{lt-ltb, le-ltb}
+use lib.Dec.{ltb}
 use lib.ListN.{length}
 use lib.IntN.{ℤ}
+use Rattle.line.specs.declared.Refusal.{Refusal}
 use Rattle.line.specs.declared.Refusal.the-variants.{NoRoom}
-use Rattle.line.specs.Refusal.{Verdict, refused, fine, unless}
+use Rattle.line.specs.Refusal.{Verdict, refused, fine, unless, lineOf}
 use Rattle.table.specs.declared.Summary.{Summary}
 use Rattle.table.specs.declared.Reading.the-variants.{Accepted}
 use Rattle.table.specs.Table.{Table, readText, summary, answer}
 use Rattle.table.specs.Slices.{kindsOf, heightsOf, fitted, laid, decoded}
 use Rattle.table.proofs.Accepted.{answer-accepted, accepted-size}
+use Rattle.table.proofs.Places.{refused-line}
 use Rattle.turn.specs.Turn.{turnedText}
 use Rattle.turn.specs.Inside.{Ready, Turned}
 use Rattle.turn.proofs.Canonical.{canonical}
 use Rattle.turn.proofs.Accepted.{turned-length}
 use Rattle.turn.proofs.Ready.{accepted-turns, accepted-turned}
-use Rattle.engine.specs.Calls.{turnOf, turnWritten}
+use Rattle.engine.specs.declared.Turned.the-variants.{Written, Refused}
+use Rattle.engine.specs.Calls.{turnOf, turnAnswer, turnCall}
 
 pub turn-short : (s : List ℕ) (t : Table) (room : ℕ) → readText s ≡ fine t → room < length s → turnOf (readText s) room ≡ refused NoRoom
 unfolding unless
@@ -63,3 +68,23 @@ module _ (s : List ℕ) (t : Summary) (e : answer (readText s) ≡ Accepted t) (
       turned-at =
           let (T, p, q) = answer-accepted (readText s) t e in
           (turnedText T, turn-fine s T (length d) p long, turned-length s T p, written-of T p q)
+
+-- ---- a refusal
+
+same-refusal : (r x : Refusal) → Refused r ≡ Refused x → r ≡ x
+same-refusal r x e = cc
+
+no-refusal : {P : Type 0} (r : Refusal) (n : ℕ) → Written n ≡ Refused r → P
+no-refusal r n e = let z : _≡_ {A = ℕ} 0 1 = cc in absurd (omega arith)
+
+pub turn-line : (s : List ℕ) (room : ℕ) (r : Refusal) → turnCall (readText s) room ≡ Refused r → lineOf r ≤ 1024
+unfolding unless
+turn-line s room r e = line-at (readText s) refl e
+  where
+    line-fine : (t : Table) (c : Bool) → turnAnswer (cond c (refused NoRoom) (fine (turnedText t))) ≡ Refused r → lineOf r ≤ 1024
+    line-fine t true e = subst (λ (x : Refusal). lineOf x ≤ 1024) (same-refusal NoRoom r e) (omega arith)
+    line-fine t false e = no-refusal r (length (turnedText t)) e
+
+    line-at : (v : Verdict Table) → readText s ≡ v → turnCall v room ≡ Refused r → lineOf r ≤ 1024
+    line-at (refused x) p e = refused-line s r (p ∙ ap refused (same-refusal x r e))
+    line-at (fine t) p e = line-fine t (ltb room (length (turnedText t))) e

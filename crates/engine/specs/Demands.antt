@@ -2,9 +2,10 @@
 -- Assumes nothing: these are definitions.
 use Prim.Native.Nat.{ℕ, _≤_}
 use mathlib.Core.Path.{_≡_}
-use mathlib.Core.Bool.{true}
+use mathlib.Core.Bool.{true, false}
 use mathlib.Core.List.{List, [], _∷_, List·Memᴰ}
 use mathlib.Core.Option.{Option, none, some}
+use lib.ListN.{length}
 use lib.IntN.{ℤ, negℤ, _+ℤ_}
 use lib.Signed.{leZ}
 use Rattle.line.specs.declared.Line.{Line}
@@ -17,7 +18,7 @@ use Rattle.search.specs.Whole.{playWorth}
 use Rattle.engine.specs.declared.Bounds.{Bounds}
 use Rattle.engine.specs.declared.Bounded.the-variants.{Found}
 use Rattle.engine.specs.declared.Exact.the-variants.{Grains}
-use Rattle.engine.specs.Calls.{exactCall, searchCall, searchReads, turnOf}
+use Rattle.engine.specs.Calls.{exactCall, badMargin, searchCall, searchReads, turnOf}
 
 -- ---- the bounds and the play
 
@@ -70,7 +71,13 @@ pub record Mirrors (b c : Bounds) : Type 0 where
   pub leaves : c .leaves ≡ b .leaves
   pub grain : c .grain ≡ b .grain
 
--- ---- the three sentences, of every text s, margin m and list of `room` entries that the search accepts
+-- ---- the sentences, of every text s, margin m and list of `room` entries that the search accepts
+
+-- these are all that have an accepted table, a margin of 12's range and room for the table's leaves: none is refused
+abbrev pub Answers : Type 0
+Answers =
+    (s : List ℕ) (t : Table) (m : ℤ) (room : ℕ) → readText s ≡ fine t → badMargin m ≡ false → LongEnough s room
+    → (b : Bounds) × (searchCall (readText s) m room ≡ Found b)
 
 abbrev pub Sentence1 : Type 0
 Sentence1 = (s : List ℕ) (m : ℤ) (room : ℕ) (b : Bounds) → searchCall (readText s) m room ≡ Found b → Promised s m b
@@ -98,3 +105,9 @@ Sentence3 =
     × (searchReads (readText u) m other ≡ searchReads (readText s) m room)
     × ((z : ℤ) → exactCall (readText s) ≡ Grains z (b .grain) → exactCall (readText u) ≡ Grains (negℤ z) (b .grain))
     × Promised u m c
+
+-- "Turning twice restores the text.": u is what turning s writes, and turning u into a buffer with room for it writes s
+abbrev pub TurningTwice : Type 0
+TurningTwice =
+    (s : List ℕ) (size : ℕ) (u : List ℕ) → turnOf (readText s) size ≡ fine u
+    → (other : ℕ) → length u ≤ other → turnOf (readText u) other ≡ fine s

@@ -1,0 +1,71 @@
+-- `abi::margin_turn` meets its contract. Assumes nothing.
+use Prim.Native.Nat.{ℕ}
+use mathlib.Core.Path.{_≡_, sym, ap, _∙_}
+use mathlib.Core.List.{List}
+use borrow.Author.Needs.{needs}
+use denote.Ref.{now}
+use lib.ListN.{length}
+use Rattle.table.specs.Table.{readText}
+use Rattle.engine.specs.declared.Turned.{Turned}
+use Rattle.engine.specs.declared.Turned.the-variants.{Written, Refused}
+use Rattle.engine.specs.Calls.{turnCall}
+use Rattle.engine.proofs.Turning.{turn-line}
+use Rattle.abi.specs.Numbers.{turnCode}
+use Rattle.abi.proofs.margin_turn.Statement.{statement}
+use Rattle.abi.proofs.margin_turn.Tie as tie
+
+abbrev text-of : tie.After-turn-table → List ℕ
+text-of E = now (E .before .before .before .before .args .text)
+
+abbrev buffer-of : tie.After-turn-table → List ℕ
+buffer-of E = now (E .before .before .before .before .args .buffer)
+
+-- what the call below gave
+said : (E : tie.After-turn-table) (x : Turned) → E .turn-table .result ≡ x → turnCall (readText (text-of E)) (length (buffer-of E)) ≡ x
+said E x e = sym (E .turn-table .ensures .0) ∙ e
+
+turn-table-requires : tie.Need-turn-table-requires
+turn-table-requires c κs = search needs
+
+enum-known-r : tie.Need-enum-known-r
+enum-known-r c = search needs
+
+refusal-code-requires : tie.Need-refusal-code-requires
+refusal-code-requires c κs =
+    let E = c .before .before .before .before .before in
+    let r = c .before .r .given in
+    turn-line (text-of E) (length (buffer-of E)) (r .0 .0) (said E (Refused (r .0 .0)) (r .1))
+
+enum-told : tie.Need-enum-told
+enum-told c = search needs
+
+same-length : tie.Need-same-length
+same-length c = search needs
+
+returns : tie.Need-returns
+returns c =
+    let E = c .before .before .before .before .before .before in
+    let r = c .before .before .r .given in
+    (c .refusal-code .ensures ∙ sym (ap turnCode (said E (Refused (r .0 .0)) (r .1))), E .turn-table .ensures .1)
+
+same-length-2 : tie.Need-same-length-2
+same-length-2 c = search needs
+
+returns-2 : tie.Need-returns-2
+returns-2 c =
+    let E = c .before .before .before .before in
+    let w = c .enum-told .given in
+    (sym (ap turnCode (said E (Written (w .0 .0)) (w .1))), E .turn-table .ensures .1)
+
+pub margin-turn-spec : {M : Type 1} → statement M
+margin-turn-spec =
+    tie.close
+    (tie.spec
+    turn-table-requires
+    enum-known-r
+    refusal-code-requires
+    enum-told
+    same-length
+    returns
+    same-length-2
+    returns-2)
