@@ -1,4 +1,5 @@
 pub mod Bits
+pub mod Columns
 pub mod Reading
 pub mod RoundTrip
 pub mod Small

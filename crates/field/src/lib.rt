@@ -1,12 +1,13 @@
 // A number in columns of a text: read from a part of it, and written right-justified into it.
 // What a well-written number is stands in specs/Field.antt alone.
 ghost use mathlib.Core.Path.{_≡_};
-ghost use mathlib.Core.Bool.{cond, false};
-ghost use Prim.Native.Nat.{_+_, _-_, _≤_, _<_, _^_};
+ghost use mathlib.Core.Bool.{cond, true, false};
+ghost use Prim.Native.Nat.{_+_, _-_, _*_, _≤_, _<_, _^_};
 ghost use lib.Dec.{eqb};
-ghost use lib.ListN.{length, drop};
+ghost use lib.ListN.{length, take, drop};
 ghost use lib.IntN.{negℤ, pos, natAbs};
 ghost use Rattle.field.specs.Field.{strip, digits, whole, plain, minus, signed, fieldOf, digit, textOf, written};
+ghost use Rattle.field.specs.Columns.{withSign, knownOf};
 
 // The number that a run of digits means, or none.
 pub enum Whole {
@@ -139,6 +140,52 @@ pub fn read(s: &[u8], from: usize, width: usize) -> Field
     let t = &s[from..from + width];
     let at = blanks(t);
     read_signed(&t[at..])
+}
+
+// What a column counts: blanks and the minus count 0.
+fn counted(b: u8) -> u64
+    ensures { λ r. ⌜ (r ≡ b - 48) × (r ≤ 207) ⌝ }
+{
+    if b < b'0' { 0 } else { (b - b'0') as u64 }
+}
+
+// Whether a minus stands in a column, or in one before it.
+fn minus_by(negative: bool, b: u8) -> bool
+    ensures { λ r. ⌜ r ≡ cond (eqb b 45) true negative ⌝ }
+{
+    if b == b'-' { true } else { negative }
+}
+
+fn with_sign(negative: bool, n: u64) -> i64
+    requires { ⌜ n < 10 ^ 18 ⌝ }
+    ensures { λ r. ⌜ r ≡ withSign negative n ⌝ }
+{
+    if negative { -(n as i64) } else { n as i64 }
+}
+
+// All columns in one pass, none of which is tested.
+fn gather(t: &[u8]) -> i64
+    requires { ⌜ length (now t) ≤ 15 ⌝ }
+    ensures { λ r. ⌜ (r ≡ knownOf (now (t .entry))) × (natAbs r ≤ 23 * 10 ^ length (now (t .entry))) ⌝ }
+{
+    let mut n: u64 = 0;
+    let mut negative = false;
+    let mut i = 0;
+    while i < t.len() {
+        let b = t[i];
+        n = n * 10 + counted(b);
+        negative = minus_by(negative, b);
+        i += 1;
+    }
+    with_sign(negative, n)
+}
+
+// The number in a field that is known to be well-written, 0 where it is blank: as `read` has it, without its tests.
+pub fn known(s: &[u8], from: usize, width: usize) -> i64
+    requires { ⌜ (from + width ≤ length (now s)) × (width ≤ 15) ⌝ }
+    ensures { λ r. ⌜ (r ≡ knownOf (take width (drop from (now (s .entry))))) × (natAbs r ≤ 23 * 10 ^ width) ⌝ }
+{
+    gather(&s[from..from + width])
 }
 
 // The last digit of n.
