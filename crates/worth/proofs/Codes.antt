@@ -2,18 +2,12 @@
 use Prim.Native.Nat.{ℕ, _+_, _*_, _^_, _≤_}
 use mathlib.Core.Path.{_≡_, refl, ap}
 use mathlib.Core.Bool.{Bool, true, false, cond}
-use mathlib.Core.List.{List}
 use native.Mathlib.Nat.{mul-le-mul-left, mul-le-mul-right}
 use native.Mathlib.Omega.{arith}
 use borrow.Author.Tests.{ne-eqb}
 use lib.Dec.{eqb}
 use lib.IntN.{ℤ, pos, negsuc, natAbs, _-ℤ_}
 use lib.Signed.{mag}
-use Rattle.field.specs.Field.{fieldOf}
-use Rattle.field.specs.declared.Field.{Field}
-use Rattle.field.specs.declared.Field.the-variants.{Blank, Ill, Number}
-use Rattle.field.proofs.Small.{small}
-use Rattle.line.specs.Line.{valueOf}
 use Rattle.line.proofs.Signs.{mag-abs}
 use Rattle.table.specs.Tree.{Kind, MAX, MIN, CHANCE, codeOf, kindOf}
 use Rattle.worth.specs.Inside.{begin}
@@ -63,15 +57,9 @@ mag-minus (pos m) (negsuc n) = omega (arith, mag-is (pos m -ℤ negsuc n) (m + (
 mag-minus (negsuc m) (pos n) = omega (arith, mag-is (negsuc m -ℤ pos n) (0 + 0) ((m + 1) + n) (is-minus (negsuc m) (pos n) 0 (m + 1) n 0 (omega arith) (omega arith)))
 mag-minus (negsuc m) (negsuc n) = omega (arith, mag-is (negsuc m -ℤ negsuc n) (0 + (n + 1)) ((m + 1) + 0) (is-minus (negsuc m) (negsuc n) 0 (m + 1) 0 (n + 1) (omega arith) (omega arith)))
 
-value-mag : (s : List ℕ) (from width : ℕ) (f : Field) → fieldOf s from width ≡ f → mag (valueOf f) ≤ 10 ^ width
-value-mag s from width Blank e = omega arith
-value-mag s from width Ill e = omega arith
-value-mag s from width (Number z) e = omega (arith, small s from width z e, mag-abs z)
+-- a number of eight columns, and the difference that a leaf's height is made of
+pub value-small : (z : ℤ) → natAbs z ≤ 23 * 10 ^ 8 → mag z ≤ 2300000000
+value-small z h = omega (arith, mag-abs z)
 
--- the number in `width` columns
-pub value-small : (s : List ℕ) (from width : ℕ) → mag (valueOf (fieldOf s from width)) ≤ 10 ^ width
-value-small s from width = value-mag s from width (fieldOf s from width) refl
-
--- the difference that a leaf's height is made of
-pub rise-small : (s : List ℕ) (lowest : ℤ) → mag lowest ≤ 1000000 → mag (valueOf (fieldOf s 16 8) -ℤ lowest) ≤ 101000002
-rise-small s lowest h = omega (arith, mag-minus (valueOf (fieldOf s 16 8)) lowest, value-small s 16 8)
+pub rise-small : (z lowest : ℤ) → natAbs z ≤ 23 * 10 ^ 8 → mag lowest ≤ 1000000 → mag (z -ℤ lowest) ≤ 2301000002
+rise-small z lowest far h = omega (arith, mag-minus z lowest, value-small z far)

@@ -1,19 +1,26 @@
 -- The text of an accepted table holds its tree: its lines are laid out as its nodes. Assumes nothing.
 use Prim.Native.Nat.{ℕ, zero, suc, _+_, _-_, _*_, _≤_, _<_}
 use mathlib.Core.Path.{_≡_, refl, sym, ap, subst, _∙_}
-use mathlib.Core.Bool.{Bool, true, false, cond}
+use mathlib.Core.Bool.{Bool, true, false, not, cond}
 use mathlib.Core.List.{List, [], _∷_, _++_, map}
 use native.Mathlib.Omega.{arith}
 use lib.ListN.{length, getD, take, drop}
 use lib.Seq.{take-nil, take-all, take-take, drop-drop}
+use lib.Dec.{eqb}
 use lib.IntN.{ℤ}
+use Rattle.field.specs.Field.{fieldOf}
+use Rattle.field.specs.Columns.{knownOf}
+use Rattle.field.specs.declared.Field.{Field}
+use Rattle.field.specs.declared.Field.the-variants.{Blank, Ill, Number}
+use Rattle.field.proofs.Columns.{Means, known-means}
 use Rattle.line.specs.declared.Head.{Head}
 use Rattle.line.specs.declared.Line.{Line}
 use Rattle.line.specs.declared.Refusal.{Refusal}
 use Rattle.line.specs.declared.Refusal.the-variants.{Length, Childless, WrongSum}
 use Rattle.line.specs.Refusal.{Verdict, refused, fine, unlessAt, next}
-use Rattle.line.specs.Line.{Step, Above, ancestors, stepsOf, stepped, letterCode, entryOf, lineChecks, placed, Placed, nodeLine, header}
-use Rattle.line.proofs.Fine.{unless-fine, unlessAt-fine}
+use Rattle.line.specs.Line.{isIll, isBlank, valueOf, toNat, Step, Above, ancestors, stepsOf, stepped, letterCode, entryOf, illEntry, lineChecks, placed, Placed, nodeLine, header}
+use Rattle.line.proofs.Signs.{true-ne-false}
+use Rattle.line.proofs.Fine.{unless-fine, unlessAt-fine, nor9}
 use Rattle.table.specs.Tree.{Forest, end, leaf, inner, childless, unbalanced}
 use Rattle.table.specs.Table.{Table, badLength, prefix, nodeLines, tree, complete, count, readText}
 use Rattle.table.specs.Slices.{heightOf, ends, stopsOf, fitted, Slices, Spans, heightTree, slicesOf}
@@ -117,6 +124,20 @@ prefix-fine : (done : List Line) (v : Verdict (List Line)) (ls : List Line) → 
 prefix-fine done (refused r) ls e = fine-refused r ls e
 prefix-fine done (fine rest) ls e = (rest, refl, cc)
 
+-- a field that is not ill-written is read the same without a test of its columns
+means-value : (z : ℤ) (f : Field) → isIll f ≡ false → Means z f → z ≡ valueOf f
+means-value z Blank i m = m
+means-value z Ill i m = absurd (true-ne-false i)
+means-value z (Number y) i m = m
+
+-- weight and utility of a line to which refusal 2 did not apply
+written-well : (s : List ℕ) → illEntry (getD s 4 0) (getD s 24 0) (entryOf s) ≡ false
+    → (knownOf (take 5 (drop 11 s)) ≡ valueOf (fieldOf s 11 5)) × (knownOf (take 8 (drop 16 s)) ≡ valueOf (fieldOf s 16 8))
+written-well s e =
+    let g = entryOf s in
+    let n = nor9 false (not (eqb (getD s 24 0) 10)) (isIll (g .number)) (isIll (g .parent)) (isIll (g .weight)) (isIll (g .utility)) (not (eqb (getD s 4 0) 32)) (isBlank (g .number)) (eqb (g .letter) 32) e in
+    (means-value _ (g .weight) (n .4) (known-means s 11 5), means-value _ (g .utility) (n .5) (known-means s 16 8))
+
 module _ (h : Head) (lo : ℤ) where
   -- a leaf's height is the one that its line says
   leaf-height : (l : Line) (z : ℤ) → l .utility ≡ z → l .kind ≡ 0 → heightOf lo (record { node = 0; kind = 0; parent = 0; weight = 0; utility = z; chances = 0 }) ≡ heightOf lo l
@@ -127,11 +148,12 @@ module _ (h : Head) (lo : ℤ) where
   placed-says i P s p e =
       let k : ℕ = letterCode (entryOf s .letter) in
       let a : Above = ancestors (entryOf s .parent) P in
-      let q = unless-fine (lineChecks h i (entryOf s) (getD s 4 0) (getD s 24 0) a) (placed i k (entryOf s) (stepped i k (stepsOf a))) p e .1 in
+      let r = unless-fine (lineChecks h i (entryOf s) (getD s 4 0) (getD s 24 0) a) (placed i k (entryOf s) (stepped i k (stepsOf a))) p e in
+      let w = written-well s (r .0 .0) in
       record {
-        kind = ap (λ (x : Placed). x .line .kind) q;
-        weight = ap (λ (x : Placed). x .line .weight) q;
-        height = leaf-height (p .line) _ (sym (ap (λ (x : Placed). x .line .utility) q));
+        kind = ap (λ (x : Placed). x .line .kind) (r .1);
+        weight = ap toNat (w .0) ∙ ap (λ (x : Placed). x .line .weight) (r .1);
+        height = leaf-height (p .line) _ (sym (w .1 ∙ ap (λ (x : Placed). x .line .utility) (r .1)));
       }
 
   abbrev SaysOf : List Line → ℕ → List ℕ → Type 0

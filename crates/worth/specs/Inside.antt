@@ -6,23 +6,23 @@ use mathlib.Core.List.{List, [], _∷_}
 use lib.ListN.{length, getD, take, drop}
 use lib.IntN.{ℤ, _-ℤ_}
 use lib.Signed.{mag}
-use Rattle.field.specs.Field.{fieldOf}
-use Rattle.line.specs.Line.{letterCode, countOf, valueOf, toNat}
+use Rattle.field.specs.Columns.{knownOf}
+use Rattle.line.specs.Line.{letterCode, toNat}
 use Rattle.table.specs.Tree.{Kind, MAX, MIN, CHANCE, Forest, end, leaf, inner, codeOf, isChance, isEnd}
 use Rattle.table.specs.Accepted.{Filled}
 use Rattle.worth.specs.declared.Scale.{Scale}
 use Rattle.worth.specs.Worth.{Share}
 use Rattle.worth.specs.Heights.{heightValue, heightShares, summed, Small}
 
--- what a node line says
+-- what a node line says, read as one that was accepted
 abbrev pub kindIn : List ℕ → ℕ
 kindIn s = letterCode (getD s 5 0)
 
 abbrev pub weightIn : List ℕ → ℕ
-weightIn s = countOf (fieldOf s 11 5)
+weightIn s = toNat (knownOf (take 5 (drop 11 s)))
 
 abbrev pub heightIn : ℤ → List ℕ → ℕ
-heightIn lowest s = toNat (valueOf (fieldOf s 16 8) -ℤ lowest)
+heightIn lowest s = toNat (knownOf (take 8 (drop 16 s)) -ℤ lowest)
 
 -- The lines s of the nodes from c up to e are these nodes with one parent; S has one past the run of each node.
 unfoldable pub Lays : List ℕ → ℤ → ℕ → ℕ → List ℕ → Forest ℕ → Type 0

@@ -25,7 +25,7 @@ fn weight_in(line: &[u8]) -> u64
     requires { ⌜ length (now line) ≡ 25 ⌝ }
     ensures { λ r. ⌜ r ≡ weightIn (now (line .entry)) ⌝ }
 {
-    line::natural(line::value(field::read(line, 11, 5)))
+    line::natural(field::known(line, 11, 5))
 }
 
 // A leaf's grains above the lowest end.
@@ -33,7 +33,7 @@ fn leaf_worth(line: &[u8], lowest: i64, grain: u64) -> u64
     requires { ⌜ (length (now line) ≡ 25) × (mag lowest ≤ 1000000) × (grain ≤ 16777216) ⌝ }
     ensures { λ r. ⌜ r ≡ heightIn lowest (now (line .entry)) * grain ⌝ }
 {
-    line::natural(line::value(field::read(line, 16, 8)) - lowest) * grain
+    line::natural(field::known(line, 16, 8) - lowest) * grain
 }
 
 fn index_at(s: &[u16], i: usize) -> usize
