@@ -5,7 +5,7 @@ use mathlib.Core.Bool.{Bool, true, false, not, cond}
 use mathlib.Core.List.{List, [], _∷_, _++_, map}
 use native.Mathlib.Omega.{arith}
 use lib.ListN.{length, getD, take, drop}
-use lib.Seq.{take-nil, take-all, take-take, drop-drop}
+use lib.Seq.{take-all, drop-drop}
 use lib.Dec.{eqb}
 use lib.IntN.{ℤ}
 use Rattle.field.specs.Field.{fieldOf}
@@ -27,20 +27,7 @@ use Rattle.table.specs.Slices.{heightOf, ends, stopsOf, fitted, Slices, Spans, 
 use Rattle.table.proofs.Accepted.{accepted-spans}
 use Rattle.table.proofs.Grown.{fine-refused, next-fine}
 use Rattle.worth.specs.Inside.{kindIn, weightIn, heightIn, Lays}
-use Rattle.worth.proofs.Run.{lays-le}
-
--- ---- lines of a part of the text
-
-drop-take : (a n : ℕ) (l : List ℕ) → drop a (take n l) ≡ take (n - a) (drop a l)
-drop-take zero n l = let z : n ≡ n - 0 = omega arith in ap (λ (m : ℕ). take m l) z
-drop-take (suc a) zero l = let z : 0 ≡ 0 - suc a = omega arith in ap (λ (m : ℕ). take m (drop (suc a) l)) z
-drop-take (suc a) (suc n) [] = sym (take-nil (suc n - suc a))
-drop-take (suc a) (suc n) (x ∷ l) =
-    let z : n - a ≡ suc n - suc a = omega arith in
-    drop-take a n l ∙ ap (λ (m : ℕ). take m (drop a l)) z
-
-line-within : (m n : ℕ) (t : List ℕ) → 25 * m + 25 ≤ n → take 25 (drop (25 * m) (take n t)) ≡ take 25 (drop (25 * m) t)
-line-within m n t h = ap (take 25) (drop-take (25 * m) n t) ∙ take-take 25 (n - 25 * m) (drop (25 * m) t) (omega arith)
+use Rattle.worth.proofs.Run.{line-within, lays-le}
 
 -- ---- what the lines say
 

@@ -8,7 +8,7 @@ use lib.IntN.{ℤ, _-ℤ_}
 use lib.Signed.{mag}
 use Rattle.field.specs.Columns.{knownOf}
 use Rattle.line.specs.Line.{letterCode, toNat}
-use Rattle.table.specs.Tree.{Kind, MAX, MIN, CHANCE, Forest, end, leaf, inner, codeOf, isChance, isEnd}
+use Rattle.table.specs.Tree.{Kind, MAX, MIN, CHANCE, Forest, end, leaf, inner, codeOf, kindOf, isChance, isEnd}
 use Rattle.table.specs.Accepted.{Filled}
 use Rattle.worth.specs.declared.Scale.{Scale}
 use Rattle.worth.specs.Worth.{Share}
@@ -58,6 +58,18 @@ sealed T CHANCE a = a / T
 unfoldable pub takeAll : Kind → ℕ → List (Share ℕ) → ℕ
 takeAll k a [] = a
 takeAll k a (x ∷ xs) = takeAll k (taken k a (x .weight) (x .worth)) xs
+
+-- a node of the kind of the number k is worth what its first child is, of the kind of the number q: it is no C, its run ends where the
+-- child's does, and the child is no leaf
+abbrev pub Leads : ℕ → ℕ → ℕ → ℕ → Type 0
+Leads k q s e = (isChance (kindOf k) ≡ false) × (q ≡ 0 → ⊥) × (s ≡ e)
+
+-- so is each node from i up to j of the lines s, nodes c on
+abbrev pub kindAt : List ℕ → ℕ → ℕ → ℕ
+kindAt s c k = kindIn (take 25 (drop (25 * (k - c)) s))
+
+abbrev pub Chain : List ℕ → List ℕ → ℕ → ℕ → ℕ → ℕ → Type 0
+Chain S s c e i j = (k : ℕ) → i ≤ k → k < j → Leads (kindAt s c k) (kindAt s c (k + 1)) (getD S (k + 1) 0) e
 
 -- the numbers of an accepted table
 pub record OkScale (g : Scale) : Type 0 where
