@@ -2,13 +2,13 @@
 use Prim.Native.Nat.{ℕ, zero, suc, _+_, _-_, _*_, _^_, _≤_, _<_}
 use mathlib.Core.Path.{_≡_, refl, sym, ap, ap₂, _∙_}
 use mathlib.Core.Bool.{Bool, true, false, not, cond}
-use mathlib.Core.List.{List, [], _∷_}
+use mathlib.Core.List.{List, [], _∷_, _++_}
 use native.Mathlib.Numerals.{add-one}
 use native.Mathlib.Nat.{pow-suc, pow-le-pow-right}
 use native.Mathlib.Omega.{arith}
 use borrow.Author.Tests.{ne-eqb}
 use lib.Dec.{T as Holds, eqb, ltb, lit<, eqb→eq, nltb→le}
-use lib.ListN.{length, getD, take, drop, drop-of-length-le}
+use lib.ListN.{length, getD, take, drop, drop-of-length-le, take-append-drop, length-take, length-drop}
 use lib.Seq.{drop-cons}
 use lib.IntN.{ℤ, pos, natAbs}
 use Rattle.field.specs.Field.{strip, digits, whole, plain, minus, signed, fieldOf}
@@ -50,14 +50,24 @@ pub sign-abs : (m : Bool) (n : ℕ) → natAbs (withSign m n) ≡ n
 sign-abs true n = abs-neg (pos n)
 sign-abs false n = refl
 
+-- all columns but the first, as the code cuts them, count no more than all of them can
+pub cut-most : (t : List ℕ) (width n : ℕ) → length t ≡ width → n ≤ 23 * 10 ^ length (take (length t - 1) (drop 1 t)) → n ≤ 23 * 10 ^ width
+cut-most t width n e h =
+    let few : length (take (length t - 1) (drop 1 t)) ≤ width = omega (arith, length-take (length t - 1) (drop 1 t)) in
+    omega (arith, pow-le-pow-right {n = 10} (lit< tt) few)
+
 -- ---- what a field means
 
+-- the number in the columns s, whichever hold its digits
+abbrev pub allOf : List ℕ → ℤ
+allOf s = withSign (hasMinus false s) (gathered 0 s)
+
 -- blanks first count 0
-strip-known : (t : List ℕ) → knownOf t ≡ knownOf (strip t)
+strip-known : (t : List ℕ) → allOf t ≡ allOf (strip t)
 unfolding strip gathered hasMinus
 strip-known [] = refl
 strip-known (b ∷ s) =
-    choose (λ (l : List ℕ). knownOf (b ∷ s) ≡ knownOf l) (eqb b 32)
+    choose (λ (l : List ℕ). allOf (b ∷ s) ≡ allOf l) (eqb b 32)
     (λ h. let e : b ≡ 32 = eqb→eq b 32 h in rw e (strip-known s))
     (λ _. refl)
 
@@ -90,24 +100,62 @@ Means z Blank = z ≡ pos 0
 Means z Ill = Unit
 Means z (Number y) = z ≡ y
 
-plain-known : (s : List ℕ) (w : Whole) → Counts s 0 w → Means (knownOf s) (plain w)
+plain-known : (s : List ℕ) (w : Whole) → Counts s 0 w → Means (allOf s) (plain w)
 plain-known s (Digits m) h = ap₂ withSign (h .1 false) (h .0)
 plain-known s Wrong h = tt
 
-minus-known : (s : List ℕ) (w : Whole) → Counts s 0 w → Means (knownOf (45 ∷ s)) (minus w)
+minus-known : (s : List ℕ) (w : Whole) → Counts s 0 w → Means (allOf (45 ∷ s)) (minus w)
 unfolding gathered hasMinus
-minus-known s (Digits m) h = choose (Means (knownOf (45 ∷ s))) (eqb m 0) (λ _. tt) (λ _. ap₂ withSign (h .1 true) (h .0))
+minus-known s (Digits m) h = choose (Means (allOf (45 ∷ s))) (eqb m 0) (λ _. tt) (λ _. ap₂ withSign (h .1 true) (h .0))
 minus-known s Wrong h = tt
 
-signed-known : (s : List ℕ) → Means (knownOf s) (signed s)
+signed-known : (s : List ℕ) → Means (allOf s) (signed s)
 unfolding signed gathered hasMinus
 signed-known [] = refl
 signed-known (b ∷ s) =
-    choose (Means (knownOf (b ∷ s))) (eqb b 45)
+    choose (Means (allOf (b ∷ s))) (eqb b 45)
     (λ h. let e : b ≡ 45 = eqb→eq b 45 h in rw e (minus-known s (whole s) (whole-known s)))
     (λ _. plain-known (b ∷ s) (whole (b ∷ s)) (whole-known (b ∷ s)))
 
-pub known-means : (s : List ℕ) (from width : ℕ) → Means (knownOf (take width (drop from s))) (fieldOf s from width)
-known-means s from width =
+pub all-means : (s : List ℕ) (from width : ℕ) → Means (allOf (take width (drop from s))) (fieldOf s from width)
+all-means s from width =
     let t : List ℕ = take width (drop from s) in
     rw (strip-known t) (signed-known (strip t))
+
+-- ---- the last columns
+
+gathered-after : (s : List ℕ) (n : ℕ) → gathered n s ≡ n * 10 ^ length s + gathered 0 s
+unfolding gathered
+gathered-after [] n = omega arith
+gathered-after (b ∷ s) n =
+    rw pow-suc
+    (spread n (b - 48) (10 ^ length s) (gathered (n * 10 + (b - 48)) s) (gathered (0 * 10 + (b - 48)) s) (gathered 0 s)
+    (gathered-after s (n * 10 + (b - 48))) (gathered-after s (0 * 10 + (b - 48))))
+  where
+    spread : (n d p x y g : ℕ) → x ≡ (n * 10 + d) * p + g → y ≡ (0 * 10 + d) * p + g → x ≡ n * (p * 10) + y
+    spread n d p x y g h k = omega arith
+
+gathered-both : (a b : List ℕ) (n : ℕ) → gathered n (a ++ b) ≡ gathered (gathered n a) b
+unfolding gathered
+gathered-both [] b n = refl
+gathered-both (x ∷ a) b n = gathered-both a b (n * 10 + (x - 48))
+
+last-by : (n m p : ℕ) → n * p + m < p → m ≡ n * p + m
+last-by zero m p h = omega arith
+last-by (suc n) m p h = absurd (omega arith)
+
+-- a number that is below 10 ^ k stands in the last k columns
+last-columns : (u : List ℕ) (k : ℕ) → gathered 0 u < 10 ^ (length u - k) → gathered 0 (drop k u) ≡ gathered 0 u
+last-columns u k h =
+    let a : ℕ = gathered 0 (take k u) in
+    let split : gathered 0 u ≡ a * 10 ^ length (drop k u) + gathered 0 (drop k u) =
+    ap (gathered 0) (sym (take-append-drop k u)) ∙ gathered-both (take k u) (drop k u) 0 ∙ gathered-after (drop k u) a in
+    last-by a (gathered 0 (drop k u)) (10 ^ length (drop k u)) (rw (← split, length-drop k u) h) ∙ sym split
+
+pub count-last : (u : List ℕ) (k : ℕ) → natAbs (allOf u) < 10 ^ (length u - k) → gathered 0 (drop k u) ≡ natAbs (allOf u)
+count-last u k h =
+    let e : natAbs (allOf u) ≡ gathered 0 u = sign-abs (hasMinus false u) (gathered 0 u) in
+    last-columns u k (rw e at h) ∙ sym e
+
+pub known-last : (u : List ℕ) → natAbs (allOf u) < 10 ^ (length u - 1) → knownOf u ≡ allOf u
+known-last u h = ap (withSign (hasMinus false u)) (count-last u 1 h ∙ sign-abs (hasMinus false u) (gathered 0 u))

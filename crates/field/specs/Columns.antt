@@ -3,6 +3,7 @@ use Prim.Native.Nat.{ℕ, _+_, _-_, _*_}
 use mathlib.Core.Bool.{Bool, true, false, cond}
 use mathlib.Core.List.{List, [], _∷_}
 use lib.Dec.{eqb}
+use lib.ListN.{drop}
 use lib.IntN.{ℤ, pos, negℤ}
 
 -- n with the columns s written after it: as digits, but that every byte below them counts 0
@@ -19,6 +20,6 @@ abbrev pub withSign : Bool → ℕ → ℤ
 withSign true n = negℤ (pos n)
 withSign false n = pos n
 
--- the number in the columns s
+-- the number in the columns s, of which the first holds no digit
 abbrev pub knownOf : List ℕ → ℤ
-knownOf s = withSign (hasMinus false s) (gathered 0 s)
+knownOf s = withSign (hasMinus false s) (gathered 0 (drop 1 s))

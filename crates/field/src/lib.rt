@@ -7,7 +7,7 @@ ghost use lib.Dec.{eqb};
 ghost use lib.ListN.{length, take, drop};
 ghost use lib.IntN.{negℤ, pos, natAbs};
 ghost use Rattle.field.specs.Field.{strip, digits, whole, plain, minus, signed, fieldOf, digit, textOf, written};
-ghost use Rattle.field.specs.Columns.{withSign, knownOf};
+ghost use Rattle.field.specs.Columns.{gathered, hasMinus, withSign, knownOf};
 
 // The number that a run of digits means, or none.
 pub enum Whole {
@@ -163,29 +163,39 @@ fn with_sign(negative: bool, n: u64) -> i64
     if negative { -(n as i64) } else { n as i64 }
 }
 
-// All columns in one pass, none of which is tested.
-fn gather(t: &[u8]) -> i64
+// The number that columns count, in one pass without a test of any.
+pub fn count(t: &[u8]) -> u64
     requires { ⌜ length (now t) ≤ 15 ⌝ }
-    ensures { λ r. ⌜ (r ≡ knownOf (now (t .entry))) × (natAbs r ≤ 23 * 10 ^ length (now (t .entry))) ⌝ }
+    ensures { λ r. ⌜ (r ≡ gathered 0 (now (t .entry))) × (r ≤ 23 * 10 ^ length (now (t .entry))) ⌝ }
 {
     let mut n: u64 = 0;
+    let mut i = 0;
+    while i < t.len() {
+        n = n * 10 + counted(t[i]);
+        i += 1;
+    }
+    n
+}
+
+fn has_minus(t: &[u8]) -> bool
+    ensures { λ r. ⌜ r ≡ hasMinus false (now (t .entry)) ⌝ }
+{
     let mut negative = false;
     let mut i = 0;
     while i < t.len() {
-        let b = t[i];
-        n = n * 10 + counted(b);
-        negative = minus_by(negative, b);
+        negative = minus_by(negative, t[i]);
         i += 1;
     }
-    with_sign(negative, n)
+    negative
 }
 
-// The number in a field that is known to be well-written, 0 where it is blank: as `read` has it, without its tests.
+// The number in a field that is known to be well-written and to have no digit in its first column; 0 where it is blank.
 pub fn known(s: &[u8], from: usize, width: usize) -> i64
-    requires { ⌜ (from + width ≤ length (now s)) × (width ≤ 15) ⌝ }
+    requires { ⌜ (from + width ≤ length (now s)) × (0 < width) × (width ≤ 15) ⌝ }
     ensures { λ r. ⌜ (r ≡ knownOf (take width (drop from (now (s .entry))))) × (natAbs r ≤ 23 * 10 ^ width) ⌝ }
 {
-    gather(&s[from..from + width])
+    let t = &s[from..from + width];
+    with_sign(has_minus(t), count(&t[1..]))
 }
 
 // The last digit of n.

@@ -6,7 +6,7 @@ use mathlib.Core.List.{List, [], _∷_}
 use lib.ListN.{length, getD, take, drop}
 use lib.IntN.{ℤ, _-ℤ_}
 use lib.Signed.{mag}
-use Rattle.field.specs.Columns.{knownOf}
+use Rattle.field.specs.Columns.{gathered, knownOf}
 use Rattle.line.specs.Line.{letterCode, toNat}
 use Rattle.table.specs.Tree.{Kind, MAX, MIN, CHANCE, Forest, end, leaf, inner, codeOf, kindOf, isChance, isEnd}
 use Rattle.table.specs.Accepted.{Filled}
@@ -14,12 +14,13 @@ use Rattle.worth.specs.declared.Scale.{Scale}
 use Rattle.worth.specs.Worth.{Share}
 use Rattle.worth.specs.Heights.{heightValue, heightShares, summed, Small}
 
--- what a node line says, read as one that was accepted
+-- What a node line says, where it was accepted: a weight is at most 64 and stands in the last two of its columns, and a utility, at most
+-- 1,000,000 either way, has no digit in the first of its columns.
 abbrev pub kindIn : List ℕ → ℕ
 kindIn s = letterCode (getD s 5 0)
 
 abbrev pub weightIn : List ℕ → ℕ
-weightIn s = toNat (knownOf (take 5 (drop 11 s)))
+weightIn s = gathered 0 (take 2 (drop 14 s))
 
 abbrev pub heightIn : ℤ → List ℕ → ℕ
 heightIn lowest s = toNat (knownOf (take 8 (drop 16 s)) -ℤ lowest)

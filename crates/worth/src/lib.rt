@@ -43,7 +43,7 @@ fn weight_in(line: &[u8]) -> u64
     requires { ⌜ length (now line) ≡ 25 ⌝ }
     ensures { λ r. ⌜ r ≡ weightIn (now (line .entry)) ⌝ }
 {
-    line::natural(field::known(line, 11, 5))
+    field::count(&line[14..16])
 }
 
 // A leaf's grains above the lowest end.
