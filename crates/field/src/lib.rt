@@ -146,7 +146,8 @@ pub fn read(s: &[u8], from: usize, width: usize) -> Field
 fn counted(b: u8) -> u64
     ensures { λ r. ⌜ (r ≡ b - 48) × (r ≤ 207) ⌝ }
 {
-    if b < b'0' { 0 } else { (b - b'0') as u64 }
+    let d = b as u64;
+    if d < 48 { 0 } else { d - 48 }
 }
 
 // Whether a minus stands in a column, or in one before it.
