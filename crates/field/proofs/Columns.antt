@@ -1,13 +1,13 @@
 -- A field that is well-written is read the same without a test of its columns. Assumes nothing.
 use Prim.Native.Nat.{ℕ, zero, suc, _+_, _-_, _*_, _^_, _≤_, _<_}
 use mathlib.Core.Path.{_≡_, refl, sym, ap, ap₂, _∙_}
-use mathlib.Core.Bool.{Bool, true, false, not, cond}
+use mathlib.Core.Bool.{Bool, true, false, cond}
 use mathlib.Core.List.{List, [], _∷_, _++_}
 use native.Mathlib.Numerals.{add-one}
 use native.Mathlib.Nat.{pow-suc, pow-le-pow-right}
 use native.Mathlib.Omega.{arith}
 use borrow.Author.Tests.{ne-eqb}
-use lib.Dec.{T as Holds, eqb, ltb, lit<, eqb→eq, nltb→le}
+use lib.Dec.{eqb, ltb, lit<, eqb→eq, nltb→le}
 use lib.ListN.{length, getD, take, drop, drop-of-length-le, take-append-drop, length-take, length-drop}
 use lib.Seq.{drop-cons}
 use lib.IntN.{ℤ, pos, natAbs}
@@ -144,7 +144,7 @@ last-by : (n m p : ℕ) → n * p + m < p → m ≡ n * p + m
 last-by zero m p h = omega arith
 last-by (suc n) m p h = absurd (omega arith)
 
--- a number that is below 10 ^ k stands in the last k columns
+-- what counts less than 10 ^ k stands in the last k columns
 last-columns : (u : List ℕ) (k : ℕ) → gathered 0 u < 10 ^ (length u - k) → gathered 0 (drop k u) ≡ gathered 0 u
 last-columns u k h =
     let a : ℕ = gathered 0 (take k u) in
@@ -152,6 +152,7 @@ last-columns u k h =
     ap (gathered 0) (sym (take-append-drop k u)) ∙ gathered-both (take k u) (drop k u) 0 ∙ gathered-after (drop k u) a in
     last-by a (gathered 0 (drop k u)) (10 ^ length (drop k u)) (rw (← split, length-drop k u) h) ∙ sym split
 
+-- a small number is counted, or known, from fewer columns
 pub count-last : (u : List ℕ) (k : ℕ) → natAbs (allOf u) < 10 ^ (length u - k) → gathered 0 (drop k u) ≡ natAbs (allOf u)
 count-last u k h =
     let e : natAbs (allOf u) ≡ gathered 0 u = sign-abs (hasMinus false u) (gathered 0 u) in

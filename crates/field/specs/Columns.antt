@@ -1,4 +1,4 @@
--- A field that is known to be well-written, read without a test of its columns. What it is then worth is said in proofs/Columns.antt.
+-- A field that is known to be well-written, read without a test of its columns; proofs/Columns.antt says when that is the field's number.
 use Prim.Native.Nat.{ℕ, _+_, _-_, _*_}
 use mathlib.Core.Bool.{Bool, true, false, cond}
 use mathlib.Core.List.{List, [], _∷_}
@@ -6,7 +6,7 @@ use lib.Dec.{eqb}
 use lib.ListN.{drop}
 use lib.IntN.{ℤ, pos, negℤ}
 
--- n with the columns s written after it: as digits, but that every byte below them counts 0
+-- n with the columns s written after it, as `digits` has it, but that every byte below the digits counts 0
 unfoldable pub gathered : ℕ → List ℕ → ℕ
 gathered n [] = n
 gathered n (b ∷ s) = gathered (n * 10 + (b - 48)) s

@@ -142,7 +142,7 @@ pub fn read(s: &[u8], from: usize, width: usize) -> Field
     read_signed(&t[at..])
 }
 
-// What a column counts: blanks and the minus count 0.
+// What a column counts: blanks and the minus count 0. To widen the byte first takes fewer instructions.
 fn counted(b: u8) -> u64
     ensures { λ r. ⌜ (r ≡ b - 48) × (r ≤ 207) ⌝ }
 {
@@ -164,7 +164,7 @@ fn with_sign(negative: bool, n: u64) -> i64
     if negative { -(n as i64) } else { n as i64 }
 }
 
-// The number that columns count, in one pass without a test of any.
+// The number that columns count, with no branch on what stands in them.
 pub fn count(t: &[u8]) -> u64
     requires { ⌜ length (now t) ≤ 15 ⌝ }
     ensures { λ r. ⌜ (r ≡ gathered 0 (now (t .entry))) × (r ≤ 23 * 10 ^ length (now (t .entry))) ⌝ }

@@ -96,14 +96,14 @@ fn seal(k: u8, total: u64, a: u64) -> u64
     a / total
 }
 
-// Whether an M or N, its letter before that of its first child, has no other, as that one's run ends at s and its own at e, and none that is a leaf.
+// Whether a node is worth what its first child is, and that is no leaf: it is an M or N, and its run ends at e as the child's does at s.
 fn leads(letter: u8, next: u8, s: usize, e: usize) -> bool
     ensures { λ r. ⌜ (r ≡ true → Leads (letterCode letter) (letterCode next) s e) ⌝ }
 {
     ((letter == b'M') | (letter == b'N')) & (next != b'L') & (s == e)
 }
 
-// From node i, which is no leaf and whose run ends at e, down to the first node that is more than its only child.
+// From node i, whose run ends at e, down past the nodes that are worth what their only child is.
 fn chain_end(run: &[u8], stop: &[u16], c: usize, i: usize, e: usize) -> usize
     requires { ⌜ (c ≤ i) × (i < e) × (e ≤ 1024) × (e ≤ length (now stop)) × (25 * (e - c) ≤ length (now run)) ⌝ }
     ensures { λ r. ⌜ (i ≤ r) × (r < e) × Chain (now (stop .entry)) (now (run .entry)) c e i r ⌝ }
@@ -122,7 +122,8 @@ fn chain_end(run: &[u8], stop: &[u16], c: usize, i: usize, e: usize) -> usize
     j
 }
 
-// A node of kind k whose children's runs are the lines `run`, nodes c up to e: each child's run is a part of it.
+// A node of kind k whose children's runs are the lines `run`, nodes c up to e: each child's run is a part of it. A chain of only children
+// is gone down by a loop, as a call for each of up to 64 nodes takes longer.
 fn worth_under(k: u8, run: &[u8], stop: &[u16], c: usize, e: usize, g: Scale) -> u64
     requires { ⌜ Ready (now stop) g (kindOf k) c e (now run) ⌝ }
     ensures { λ r. ⌜ Worthy (now (stop .entry)) g (kindOf k) c e (now (run .entry)) r ⌝ }
