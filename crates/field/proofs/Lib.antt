@@ -1,5 +1,6 @@
 pub mod Bits
 pub mod Inverse
+pub mod Columns
 pub mod Reading
 pub mod RoundTrip
 pub mod Small

@@ -17,7 +17,7 @@ use Rattle.field.specs.declared.Field.{Field}
 use Rattle.field.specs.declared.Field.the-variants.{Blank, Ill, Number}
 
 -- by cases on a test
-choose : {A : Type 0} {x y : A} (P : A → Type 0) (b : Bool) → (Holds b → P x) → (Holds (not b) → P y) → P (cond b x y)
+pub choose : {A : Type 0} {x y : A} (P : A → Type 0) (b : Bool) → (Holds b → P x) → (Holds (not b) → P y) → P (cond b x y)
 choose P true f g = f tt
 choose P false f g = g tt
 

@@ -1,22 +1,17 @@
--- The kind that a number stands for, what is taken by it, and how large a height in a line can be. Assumes nothing.
+-- The kind that a number or a letter stands for, what is taken by it, and how large a height in a line can be. Assumes nothing.
 use Prim.Native.Nat.{ℕ, _+_, _*_, _^_, _≤_}
-use mathlib.Core.Path.{_≡_, refl, ap}
-use mathlib.Core.Bool.{Bool, true, false, cond}
-use mathlib.Core.List.{List}
+use mathlib.Core.Path.{_≡_, refl, sym, ap, _∙_}
+use mathlib.Core.Bool.{Bool, true, false, not, _&&_, _||_, cond}
 use native.Mathlib.Nat.{mul-le-mul-left, mul-le-mul-right}
 use native.Mathlib.Omega.{arith}
-use borrow.Author.Tests.{ne-eqb}
+use borrow.Author.Tests.{eq-eqb, ne-eqb, eqb-true}
 use lib.Dec.{eqb}
 use lib.IntN.{ℤ, pos, negsuc, natAbs, _-ℤ_}
 use lib.Signed.{mag}
-use Rattle.field.specs.Field.{fieldOf}
-use Rattle.field.specs.declared.Field.{Field}
-use Rattle.field.specs.declared.Field.the-variants.{Blank, Ill, Number}
-use Rattle.field.proofs.Small.{small}
-use Rattle.line.specs.Line.{valueOf}
-use Rattle.line.proofs.Signs.{mag-abs}
-use Rattle.table.specs.Tree.{Kind, MAX, MIN, CHANCE, codeOf, kindOf}
-use Rattle.worth.specs.Inside.{begin}
+use Rattle.line.specs.Line.{letterCode}
+use Rattle.line.proofs.Signs.{true-ne-false, mag-abs}
+use Rattle.table.specs.Tree.{Kind, MAX, MIN, CHANCE, codeOf, kindOf, isChance}
+use Rattle.worth.specs.Inside.{begin, Leads}
 use Rattle.worth.proofs.Signs.{Is, is-minus}
 
 -- ---- kinds
@@ -48,6 +43,37 @@ begin-else top k q = rw (ne-eqb k 2 q) (go (eqb k 1))
     go true = refl
     go false = refl
 
+-- ---- letters
+
+pub leaf-letter : (b : ℕ) → eqb b 76 ≡ eqb (letterCode b) 0
+leaf-letter b = go (eqb b 76) (eqb b 77) (eqb b 78) (eqb b 67)
+  where
+    go : (x y z w : Bool) → x ≡ eqb (cond x 0 (cond y 1 (cond z 2 (cond w 3 4)))) 0
+    go true y z w = refl
+    go false true z w = refl
+    go false false true w = refl
+    go false false false true = refl
+    go false false false false = refl
+
+-- an M or an N
+plain-letter : (b : ℕ) (x y : Bool) → eqb b 77 ≡ x → eqb b 78 ≡ y → (x || y) ≡ true → isChance (kindOf (letterCode b)) ≡ false
+plain-letter b true y p q h = let e : b ≡ 77 = eqb-true b 77 p in rw e refl
+plain-letter b false true p q h = let e : b ≡ 78 = eqb-true b 78 q in rw e refl
+plain-letter b false false p q h = absurd (true-ne-false (sym h))
+
+and-true : (a b : Bool) → (a && b) ≡ true → (a ≡ true) × (b ≡ true)
+and-true true b h = (refl, h)
+and-true false b h = absurd (true-ne-false (sym h))
+
+pub lead-letters : (b q s e : ℕ) → ((eqb b 77 || eqb b 78) && not (eqb q 76) && eqb s e) ≡ true → Leads (letterCode b) (letterCode q) s e
+lead-letters b q s e h =
+    let x = and-true ((eqb b 77 || eqb b 78) && not (eqb q 76)) (eqb s e) h in
+    let y = and-true (eqb b 77 || eqb b 78) (not (eqb q 76)) (x .0) in (
+      plain-letter b (eqb b 77) (eqb b 78) refl refl (y .0),
+      λ z. true-ne-false (sym (y .1) ∙ ap not (leaf-letter q ∙ eq-eqb (letterCode q) 0 z)),
+      eqb-true s e (x .1),
+    )
+
 -- ---- sizes
 
 pub mul-most : (a b A B : ℕ) → a ≤ A → b ≤ B → a * b ≤ A * B
@@ -63,15 +89,9 @@ mag-minus (pos m) (negsuc n) = omega (arith, mag-is (pos m -ℤ negsuc n) (m + (
 mag-minus (negsuc m) (pos n) = omega (arith, mag-is (negsuc m -ℤ pos n) (0 + 0) ((m + 1) + n) (is-minus (negsuc m) (pos n) 0 (m + 1) n 0 (omega arith) (omega arith)))
 mag-minus (negsuc m) (negsuc n) = omega (arith, mag-is (negsuc m -ℤ negsuc n) (0 + (n + 1)) ((m + 1) + 0) (is-minus (negsuc m) (negsuc n) 0 (m + 1) 0 (n + 1) (omega arith) (omega arith)))
 
-value-mag : (s : List ℕ) (from width : ℕ) (f : Field) → fieldOf s from width ≡ f → mag (valueOf f) ≤ 10 ^ width
-value-mag s from width Blank e = omega arith
-value-mag s from width Ill e = omega arith
-value-mag s from width (Number z) e = omega (arith, small s from width z e, mag-abs z)
+-- a number of eight columns, and the difference that a leaf's height is made of
+pub value-small : (z : ℤ) → natAbs z ≤ 23 * 10 ^ 8 → mag z ≤ 2300000000
+value-small z h = omega (arith, mag-abs z)
 
--- the number in `width` columns
-pub value-small : (s : List ℕ) (from width : ℕ) → mag (valueOf (fieldOf s from width)) ≤ 10 ^ width
-value-small s from width = value-mag s from width (fieldOf s from width) refl
-
--- the difference that a leaf's height is made of
-pub rise-small : (s : List ℕ) (lowest : ℤ) → mag lowest ≤ 1000000 → mag (valueOf (fieldOf s 16 8) -ℤ lowest) ≤ 101000002
-rise-small s lowest h = omega (arith, mag-minus (valueOf (fieldOf s 16 8)) lowest, value-small s 16 8)
+pub rise-small : (z lowest : ℤ) → natAbs z ≤ 23 * 10 ^ 8 → mag lowest ≤ 1000000 → mag (z -ℤ lowest) ≤ 2301000002
+rise-small z lowest far h = omega (arith, mag-minus z lowest, value-small z far)

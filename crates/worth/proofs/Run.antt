@@ -1,12 +1,12 @@
 -- A run of lines that can be judged, one child after another: what the code of `worth_under` keeps. Assumes nothing.
-use Prim.Native.Nat.{ℕ, _+_, _-_, _*_, _/_, _≤_, _<_, min, max}
+use Prim.Native.Nat.{ℕ, zero, suc, _+_, _-_, _*_, _/_, _≤_, _<_, min, max}
 use mathlib.Core.Path.{_≡_, refl, sym, ap, subst, _∙_}
 use mathlib.Core.Bool.{Bool, true, false}
 use mathlib.Core.List.{List, [], _∷_}
 use native.Mathlib.Nat.{mul-le-mul-left, mul-le-mul-right}
 use native.Mathlib.Omega.{arith}
 use lib.ListN.{length, getD, take, drop, length-drop}
-use lib.Seq.{length-take-le, drop-drop}
+use lib.Seq.{length-take-le, take-nil, take-take, drop-drop}
 use lib.IntN.{ℤ}
 use Rattle.table.specs.Tree.{Kind, MAX, MIN, CHANCE, Forest, end, leaf, inner, kindOf, isChance, isEnd}
 use Rattle.table.specs.Accepted.{Filled}
@@ -70,6 +70,19 @@ value-taken T G M k (leaf n w h rest) i s = taken-value T M k (record { weight =
 value-taken T G M k (inner n w j under rest) i s =
     taken-value T M k (record { weight = w; worth = heightValue T j (heightShares T G under) }) (heightShares T G rest) (small-each T G M (inner n w j under rest) s)
 
+-- ---- lines of a part of the text
+
+pub drop-take : (a n : ℕ) (l : List ℕ) → drop a (take n l) ≡ take (n - a) (drop a l)
+drop-take zero n l = let z : n ≡ n - 0 = omega arith in ap (λ (m : ℕ). take m l) z
+drop-take (suc a) zero l = let z : 0 ≡ 0 - suc a = omega arith in ap (λ (m : ℕ). take m (drop (suc a) l)) z
+drop-take (suc a) (suc n) [] = sym (take-nil (suc n - suc a))
+drop-take (suc a) (suc n) (x ∷ l) =
+    let z : n - a ≡ suc n - suc a = omega arith in
+    drop-take a n l ∙ ap (λ (m : ℕ). take m (drop a l)) z
+
+pub line-within : (m n : ℕ) (t : List ℕ) → 25 * m + 25 ≤ n → take 25 (drop (25 * m) (take n t)) ≡ take 25 (drop (25 * m) t)
+line-within m n t h = ap (take 25) (drop-take (25 * m) n t) ∙ take-take 25 (n - 25 * m) (drop (25 * m) t) (omega arith)
+
 -- ---- the first node of a run
 
 pub lays-le : (S : List ℕ) (lo : ℤ) (c e : ℕ) (s : List ℕ) (f : Forest ℕ) → Lays S lo c e s f → c ≤ e
@@ -81,7 +94,7 @@ lays-le S lo c e s (inner n w k under rest) l =
     omega (arith, lays-le S lo (c + 1) j (take (25 * (j - (c + 1))) (drop 25 s)) under (l .2), lays-le S lo j e (drop (25 * (j - c)) s) rest (l .3))
 
 -- no lines are left, and so no nodes
-lays-none : (S : List ℕ) (lo : ℤ) (T G c e : ℕ) (s : List ℕ) (f : Forest ℕ) → Lays S lo c e s f → e ≤ c → heightShares T G f ≡ []
+pub lays-none : (S : List ℕ) (lo : ℤ) (T G c e : ℕ) (s : List ℕ) (f : Forest ℕ) → Lays S lo c e s f → e ≤ c → heightShares T G f ≡ []
 unfolding Lays heightShares
 lays-none S lo T G c e s end l h = refl
 lays-none S lo T G c e s (leaf n w v rest) l h =
@@ -307,10 +320,10 @@ module _ (S : List ℕ) (g : Scale) (k : Kind) (c e : ℕ) (s : List ℕ) (a i :
 
   pub leaf-of : (q : ℕ) → q ≡ kindIn (take (25 * (i - c) + 25 - 25 * (i - c)) (drop (25 * (i - c)) s)) → q ≡ 0
       → heightIn (g .lowest) (take (25 * (i - c) + 25 - 25 * (i - c)) (drop (25 * (i - c)) s)) * g .grain ≡ N .1 .share .worth
-  leaf-of q kind zero =
+  leaf-of q kind none =
       let at : ℕ = 25 * (i - c) in
       ap (λ (l : List ℕ). heightIn (g .lowest) l * g .grain) (line-same at s)
-      ∙ sym (N .1 .leafy (sym (ap kindIn (line-same at s)) ∙ sym kind ∙ zero))
+      ∙ sym (N .1 .leafy (sym (ap kindIn (line-same at s)) ∙ sym kind ∙ none))
 
   weight-of : weightIn (take (25 * (i - c) + 25 - 25 * (i - c)) (drop (25 * (i - c)) s)) ≡ N .1 .share .weight
   weight-of = ap weightIn (line-same (25 * (i - c)) s) ∙ N .1 .weighs

@@ -1,39 +1,36 @@
 -- The text of an accepted table holds its tree: its lines are laid out as its nodes. Assumes nothing.
-use Prim.Native.Nat.{ℕ, zero, suc, _+_, _-_, _*_, _≤_, _<_}
+use Prim.Native.Nat.{ℕ, zero, suc, _+_, _-_, _*_, _^_, _≤_, _<_}
 use mathlib.Core.Path.{_≡_, refl, sym, ap, subst, _∙_}
-use mathlib.Core.Bool.{Bool, true, false, cond}
+use mathlib.Core.Bool.{Bool, true, false, not, cond}
 use mathlib.Core.List.{List, [], _∷_, _++_, map}
 use native.Mathlib.Omega.{arith}
-use lib.ListN.{length, getD, take, drop}
-use lib.Seq.{take-nil, take-all, take-take, drop-drop}
-use lib.IntN.{ℤ}
+use borrow.Author.Tests.{eqb-true, ltb-false, not-false}
+use lib.ListN.{length, getD, take, drop, length-drop}
+use lib.Seq.{take-all, length-take-le, drop-drop}
+use lib.Dec.{eqb}
+use lib.IntN.{ℤ, pos, negsuc, natAbs}
+use lib.Signed.{mag, ltZ}
+use Rattle.field.specs.Field.{fieldOf}
+use Rattle.field.specs.Columns.{gathered, knownOf}
+use Rattle.field.specs.declared.Field.{Field}
+use Rattle.field.specs.declared.Field.the-variants.{Blank, Ill, Number}
+use Rattle.field.proofs.Columns.{allOf, Means, all-means, count-last, known-last}
 use Rattle.line.specs.declared.Head.{Head}
 use Rattle.line.specs.declared.Line.{Line}
 use Rattle.line.specs.declared.Refusal.{Refusal}
 use Rattle.line.specs.declared.Refusal.the-variants.{Length, Childless, WrongSum}
 use Rattle.line.specs.Refusal.{Verdict, refused, fine, unlessAt, next}
-use Rattle.line.specs.Line.{Step, Above, ancestors, stepsOf, stepped, letterCode, entryOf, lineChecks, placed, Placed, nodeLine, header}
-use Rattle.line.proofs.Fine.{unless-fine, unlessAt-fine}
+use Rattle.line.specs.Line.{isIll, isBlank, outside, valueOf, countOf, Ranged, Step, Above, ancestors, stepsOf, stepped, letterCode, entryOf, illEntry, wideEntry, lineChecks, placed, Placed, nodeLine, header}
+use Rattle.line.proofs.Signs.{true-ne-false, mag-abs}
+use Rattle.line.proofs.Checks.{or-left, or-right}
+use Rattle.line.proofs.Fine.{unless-fine, unlessAt-fine, nor9, inside-mag}
 use Rattle.table.specs.Tree.{Forest, end, leaf, inner, childless, unbalanced}
 use Rattle.table.specs.Table.{Table, badLength, prefix, nodeLines, tree, complete, count, readText}
 use Rattle.table.specs.Slices.{heightOf, ends, stopsOf, fitted, Slices, Spans, heightTree, slicesOf}
-use Rattle.table.proofs.Accepted.{accepted-spans}
+use Rattle.table.proofs.Accepted.{accepted-ranged, accepted-spans}
 use Rattle.table.proofs.Grown.{fine-refused, next-fine}
 use Rattle.worth.specs.Inside.{kindIn, weightIn, heightIn, Lays}
-use Rattle.worth.proofs.Run.{lays-le}
-
--- ---- lines of a part of the text
-
-drop-take : (a n : ℕ) (l : List ℕ) → drop a (take n l) ≡ take (n - a) (drop a l)
-drop-take zero n l = let z : n ≡ n - 0 = omega arith in ap (λ (m : ℕ). take m l) z
-drop-take (suc a) zero l = let z : 0 ≡ 0 - suc a = omega arith in ap (λ (m : ℕ). take m (drop (suc a) l)) z
-drop-take (suc a) (suc n) [] = sym (take-nil (suc n - suc a))
-drop-take (suc a) (suc n) (x ∷ l) =
-    let z : n - a ≡ suc n - suc a = omega arith in
-    drop-take a n l ∙ ap (λ (m : ℕ). take m (drop a l)) z
-
-line-within : (m n : ℕ) (t : List ℕ) → 25 * m + 25 ≤ n → take 25 (drop (25 * m) (take n t)) ≡ take 25 (drop (25 * m) t)
-line-within m n t h = ap (take 25) (drop-take (25 * m) n t) ∙ take-take 25 (n - 25 * m) (drop (25 * m) t) (omega arith)
+use Rattle.worth.proofs.Run.{drop-take, line-within, lays-le}
 
 -- ---- what the lines say
 
@@ -117,7 +114,68 @@ prefix-fine : (done : List Line) (v : Verdict (List Line)) (ls : List Line) → 
 prefix-fine done (refused r) ls e = fine-refused r ls e
 prefix-fine done (fine rest) ls e = (rest, refl, cc)
 
-module _ (h : Head) (lo : ℤ) where
+-- a field that is not ill-written is read the same without a test of its columns
+means-value : (z : ℤ) (f : Field) → isIll f ≡ false → Means z f → z ≡ valueOf f
+means-value z Blank i m = m
+means-value z Ill i m = absurd (true-ne-false i)
+means-value z (Number y) i m = m
+
+-- how large the number in a field can be that is not outside its bounds
+weight-few : (T : ℕ) (f : Field) → isIll f ≡ false → outside (pos 1) (pos T) f ≡ false → T ≤ 64 → (natAbs (valueOf f) ≡ countOf f) × (natAbs (valueOf f) < 10 ^ 2)
+weight-few T Blank i o h = (refl, omega arith)
+weight-few T Ill i o h = absurd (true-ne-false i)
+weight-few T (Number (pos n)) i o h = (refl, omega (arith, ltb-false T n (or-right (ltZ (pos n) (pos 1)) (ltZ (pos T) (pos n)) o)))
+weight-few T (Number (negsuc n)) i o h = absurd (true-ne-false o)
+
+abs-mag : (z : ℤ) → natAbs z ≤ mag z + 1
+abs-mag (pos n) = omega arith
+abs-mag (negsuc n) = omega arith
+
+utility-few : (lo hi : ℤ) (f : Field) → isIll f ≡ false → outside lo hi f ≡ false → mag lo ≤ 1000000 → mag hi ≤ 1000000 → natAbs (valueOf f) < 10 ^ 7
+utility-few lo hi Blank i o p q = omega arith
+utility-few lo hi Ill i o p q = absurd (true-ne-false i)
+utility-few lo hi (Number z) i o p q =
+    omega (arith, abs-mag z, inside-mag lo hi z 1000000 p q (or-left (ltZ z lo) (ltZ hi z) o, or-right (ltZ z lo) (ltZ hi z) o))
+
+-- a line with a newline is a whole one
+reaches : (s : List ℕ) (n : ℕ) → getD s n 0 ≡ 10 → n < length s
+reaches [] zero e = absurd (omega (arith, e))
+reaches [] (suc n) e = absurd (omega (arith, e))
+reaches (x ∷ s) zero e = omega arith
+reaches (x ∷ s) (suc n) e = omega (arith, reaches s n e)
+
+columns : (s : List ℕ) (from width : ℕ) → from + width ≤ length s → length (take width (drop from s)) ≡ width
+columns s from width h = length-take-le width (drop from s) (omega (arith, length-drop from s))
+
+-- weight and utility of a line to which refusals 2 and 3 did not apply
+module _ (h : Head) (ok : Ranged h) (s : List ℕ) (ill : illEntry (getD s 4 0) (getD s 24 0) (entryOf s) ≡ false) (wide : wideEntry h (entryOf s) ≡ false) where
+  fields : (24 < length s) × (isIll (fieldOf s 11 5) ≡ false) × (isIll (fieldOf s 16 8) ≡ false)
+  fields =
+      let g = entryOf s in
+      let n = nor9 false (not (eqb (getD s 24 0) 10)) (isIll (g .number)) (isIll (g .parent)) (isIll (g .weight)) (isIll (g .utility)) (not (eqb (getD s 4 0) 32)) (isBlank (g .number)) (eqb (g .letter) 32) ill in
+      (reaches s 24 (eqb-true (getD s 24 0) 10 (not-false (eqb (getD s 24 0) 10) (n .1))), n .4, n .5)
+
+  weight-known : weightIn s ≡ countOf (fieldOf s 11 5)
+  weight-known =
+      let u : List ℕ = take 5 (drop 11 s) in
+      let f : Field = fieldOf s 11 5 in
+      let few = weight-few (h .total) f (fields .1) (or-left (outside (pos 1) (pos (h .total)) f) _ wide) (ok .total) in
+      let same : allOf u ≡ valueOf f = means-value (allOf u) f (fields .1) (all-means s 11 5) in
+      let size : length u ≡ 5 = columns s 11 5 (omega (arith, fields .0)) in
+      let cut : drop 3 u ≡ take 2 (drop 14 s) = drop-take 3 5 (drop 11 s) ∙ ap (take 2) (drop-drop 3 11 s) in
+      ap (gathered 0) (sym cut) ∙ count-last u 3 (rw (size, same) (few .1)) ∙ ap natAbs same ∙ few .0
+
+  utility-known : knownOf (take 8 (drop 16 s)) ≡ valueOf (fieldOf s 16 8)
+  utility-known =
+      let u : List ℕ = take 8 (drop 16 s) in
+      let f : Field = fieldOf s 16 8 in
+      let out = or-right (outside (pos 1) (pos (h .total)) (fieldOf s 11 5)) (outside (h .lowest) (h .highest) f) wide in
+      let few = utility-few (h .lowest) (h .highest) f (fields .2) out (omega (arith, mag-abs (h .lowest), ok .lowest)) (omega (arith, mag-abs (h .highest), ok .highest)) in
+      let same : allOf u ≡ valueOf f = means-value (allOf u) f (fields .2) (all-means s 16 8) in
+      let size : length u ≡ 8 = columns s 16 8 (omega (arith, fields .0)) in
+      known-last u (rw (size, same) few) ∙ same
+
+module _ (h : Head) (lo : ℤ) (ok : Ranged h) where
   -- a leaf's height is the one that its line says
   leaf-height : (l : Line) (z : ℤ) → l .utility ≡ z → l .kind ≡ 0 → heightOf lo (record { node = 0; kind = 0; parent = 0; weight = 0; utility = z; chances = 0 }) ≡ heightOf lo l
   leaf-height l z u k = rw (k, u) refl
@@ -127,11 +185,13 @@ module _ (h : Head) (lo : ℤ) where
   placed-says i P s p e =
       let k : ℕ = letterCode (entryOf s .letter) in
       let a : Above = ancestors (entryOf s .parent) P in
-      let q = unless-fine (lineChecks h i (entryOf s) (getD s 4 0) (getD s 24 0) a) (placed i k (entryOf s) (stepped i k (stepsOf a))) p e .1 in
+      let r = unless-fine (lineChecks h i (entryOf s) (getD s 4 0) (getD s 24 0) a) (placed i k (entryOf s) (stepped i k (stepsOf a))) p e in
+      let w : weightIn s ≡ countOf (fieldOf s 11 5) = weight-known h ok s (r .0 .0) (r .0 .1 .1 .1 .1 .1 .1 .0) in
+      let u = utility-known h ok s (r .0 .0) (r .0 .1 .1 .1 .1 .1 .1 .0) in
       record {
-        kind = ap (λ (x : Placed). x .line .kind) q;
-        weight = ap (λ (x : Placed). x .line .weight) q;
-        height = leaf-height (p .line) _ (sym (ap (λ (x : Placed). x .line .utility) q));
+        kind = ap (λ (x : Placed). x .line .kind) (r .1);
+        weight = w ∙ ap (λ (x : Placed). x .line .weight) (r .1);
+        height = leaf-height (p .line) _ (sym (u ∙ ap (λ (x : Placed). x .line .utility) (r .1)));
       }
 
   abbrev SaysOf : List Line → ℕ → List ℕ → Type 0
@@ -191,7 +251,7 @@ accepted-lays s t h = spans-lay lo (slicesOf t) 0 (length (t .lines)) (drop 25 s
     told m l =
         let z : m ≡ 0 + m = omega arith in
         subst (λ (n : ℕ). SaysAt lo (slicesOf t) n (take 25 (drop (25 * m) (drop 25 s)))) z
-        (lines-say (t .head) lo (count s) 0 [] (drop 25 s) (t .lines) (lines-read s t h) m (omega arith))
+        (lines-say (t .head) lo (accepted-ranged s t h) (count s) 0 [] (drop 25 s) (t .lines) (lines-read s t h) m (omega arith))
 
 -- ---- a lent slice that begins with the same ends
 

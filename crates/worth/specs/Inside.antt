@@ -6,23 +6,24 @@ use mathlib.Core.List.{List, [], _∷_}
 use lib.ListN.{length, getD, take, drop}
 use lib.IntN.{ℤ, _-ℤ_}
 use lib.Signed.{mag}
-use Rattle.field.specs.Field.{fieldOf}
-use Rattle.line.specs.Line.{letterCode, countOf, valueOf, toNat}
-use Rattle.table.specs.Tree.{Kind, MAX, MIN, CHANCE, Forest, end, leaf, inner, codeOf, isChance, isEnd}
+use Rattle.field.specs.Columns.{gathered, knownOf}
+use Rattle.line.specs.Line.{letterCode, toNat}
+use Rattle.table.specs.Tree.{Kind, MAX, MIN, CHANCE, Forest, end, leaf, inner, codeOf, kindOf, isChance, isEnd}
 use Rattle.table.specs.Accepted.{Filled}
 use Rattle.worth.specs.declared.Scale.{Scale}
 use Rattle.worth.specs.Worth.{Share}
 use Rattle.worth.specs.Heights.{heightValue, heightShares, summed, Small}
 
--- what a node line says
+-- What a node line says, where it was accepted: a weight is at most 64 and stands in the last two of its columns, and a utility, at most
+-- 1,000,000 either way, has no digit in the first of its columns.
 abbrev pub kindIn : List ℕ → ℕ
 kindIn s = letterCode (getD s 5 0)
 
 abbrev pub weightIn : List ℕ → ℕ
-weightIn s = countOf (fieldOf s 11 5)
+weightIn s = gathered 0 (take 2 (drop 14 s))
 
 abbrev pub heightIn : ℤ → List ℕ → ℕ
-heightIn lowest s = toNat (valueOf (fieldOf s 16 8) -ℤ lowest)
+heightIn lowest s = toNat (knownOf (take 8 (drop 16 s)) -ℤ lowest)
 
 -- The lines s of the nodes from c up to e are these nodes with one parent; S has one past the run of each node.
 unfoldable pub Lays : List ℕ → ℤ → ℕ → ℕ → List ℕ → Forest ℕ → Type 0
@@ -58,6 +59,18 @@ sealed T CHANCE a = a / T
 unfoldable pub takeAll : Kind → ℕ → List (Share ℕ) → ℕ
 takeAll k a [] = a
 takeAll k a (x ∷ xs) = takeAll k (taken k a (x .weight) (x .worth)) xs
+
+-- a node of the kind of the number k is worth what its first child is, of the kind of the number q: it is no C, its run ends where the
+-- child's does, and the child is no leaf
+abbrev pub Leads : ℕ → ℕ → ℕ → ℕ → Type 0
+Leads k q s e = (isChance (kindOf k) ≡ false) × (q ≡ 0 → ⊥) × (s ≡ e)
+
+-- so is each node from i up to j of the lines s, nodes c on
+abbrev pub kindAt : List ℕ → ℕ → ℕ → ℕ
+kindAt s c k = kindIn (take 25 (drop (25 * (k - c)) s))
+
+abbrev pub Chain : List ℕ → List ℕ → ℕ → ℕ → ℕ → ℕ → Type 0
+Chain S s c e i j = (k : ℕ) → i ≤ k → k < j → Leads (kindAt s c k) (kindAt s c (k + 1)) (getD S (k + 1) 0) e
 
 -- the numbers of an accepted table
 pub record OkScale (g : Scale) : Type 0 where

@@ -1,10 +1,13 @@
 // The exact worth of a run of lines, straight from the text, in grains above the lowest end.
 ghost use mathlib.Core.Path.{_≡_};
-ghost use Prim.Native.Nat.{_+_, _*_, _<_, _≤_};
-ghost use lib.ListN.{length, getD};
+ghost use mathlib.Core.Bool.{true};
+ghost use Prim.Native.Nat.{_+_, _-_, _*_, _<_, _≤_};
+ghost use lib.ListN.{length, getD, take, drop};
+ghost use lib.Dec.{eqb};
 ghost use lib.Signed.{mag};
+ghost use Rattle.line.specs.Line.{letterCode};
 ghost use Rattle.table.specs.Tree.{MAX, CHANCE, kindOf};
-ghost use Rattle.worth.specs.Inside.{kindIn, weightIn, heightIn, begin, taken, sealed, Ready, Worthy};
+ghost use Rattle.worth.specs.Inside.{kindIn, weightIn, heightIn, begin, taken, sealed, Leads, Chain, Ready, Worthy};
 
 // A table's total, lowest end and grain count, and the highest end's grains above the lowest.
 pub struct Scale {
@@ -14,18 +17,33 @@ pub struct Scale {
     pub top: u64,
 }
 
-fn kind_in(line: &[u8]) -> u8
+fn is_leaf(line: &[u8]) -> bool
     requires { ⌜ length (now line) ≡ 25 ⌝ }
-    ensures { λ r. ⌜ r ≡ kindIn (now (line .entry)) ⌝ }
+    ensures { λ r. ⌜ r ≡ eqb (kindIn (now (line .entry))) 0 ⌝ }
 {
-    line::letter_code(line[5])
+    line[5] == b'L'
+}
+
+// The letter of the line at the byte `at`.
+fn letter_at(run: &[u8], at: usize) -> u8
+    requires { ⌜ at + 25 ≤ length (now run) ⌝ }
+    ensures { λ r. ⌜ r ≡ getD (take 25 (drop at (now (run .entry)))) 5 0 ⌝ }
+{
+    run[at + 5]
+}
+
+fn kind_at(run: &[u8], at: usize) -> u8
+    requires { ⌜ at + 25 ≤ length (now run) ⌝ }
+    ensures { λ r. ⌜ r ≡ kindIn (take 25 (drop at (now (run .entry)))) ⌝ }
+{
+    line::letter_code(letter_at(run, at))
 }
 
 fn weight_in(line: &[u8]) -> u64
     requires { ⌜ length (now line) ≡ 25 ⌝ }
     ensures { λ r. ⌜ r ≡ weightIn (now (line .entry)) ⌝ }
 {
-    line::natural(line::value(field::read(line, 11, 5)))
+    field::count(&line[14..16])
 }
 
 // A leaf's grains above the lowest end.
@@ -33,7 +51,7 @@ fn leaf_worth(line: &[u8], lowest: i64, grain: u64) -> u64
     requires { ⌜ (length (now line) ≡ 25) × (mag lowest ≤ 1000000) × (grain ≤ 16777216) ⌝ }
     ensures { λ r. ⌜ r ≡ heightIn lowest (now (line .entry)) * grain ⌝ }
 {
-    line::natural(line::value(field::read(line, 16, 8)) - lowest) * grain
+    line::natural(field::known(line, 16, 8) - lowest) * grain
 }
 
 fn index_at(s: &[u16], i: usize) -> usize
@@ -78,7 +96,34 @@ fn seal(k: u8, total: u64, a: u64) -> u64
     a / total
 }
 
-// A node of kind k whose children's runs are the lines `run`, nodes c up to e: each child's run is a part of it.
+// Whether a node is worth what its first child is, and that is no leaf: it is an M or N, and its run ends at e as the child's does at s.
+fn leads(letter: u8, next: u8, s: usize, e: usize) -> bool
+    ensures { λ r. ⌜ (r ≡ true → Leads (letterCode letter) (letterCode next) s e) ⌝ }
+{
+    ((letter == b'M') | (letter == b'N')) & (next != b'L') & (s == e)
+}
+
+// From node i, whose run ends at e, down past the nodes that are worth what their only child is.
+fn chain_end(run: &[u8], stop: &[u16], c: usize, i: usize, e: usize) -> usize
+    requires { ⌜ (c ≤ i) × (i < e) × (e ≤ 1024) × (e ≤ length (now stop)) × (25 * (e - c) ≤ length (now run)) ⌝ }
+    ensures { λ r. ⌜ (i ≤ r) × (r < e) × Chain (now (stop .entry)) (now (run .entry)) c e i r ⌝ }
+{
+    let mut j = i;
+    while j + 1 < e {
+        let at = 25 * (j - c);
+        let letter = letter_at(run, at);
+        let next = letter_at(run, at + 25);
+        let s = index_at(stop, j + 1);
+        if !leads(letter, next, s, e) {
+            return j;
+        }
+        j += 1;
+    }
+    j
+}
+
+// A node of kind k whose children's runs are the lines `run`, nodes c up to e: each child's run is a part of it. A chain of only children
+// is gone down by a loop, as a call for each of up to 64 nodes takes longer.
 fn worth_under(k: u8, run: &[u8], stop: &[u16], c: usize, e: usize, g: Scale) -> u64
     requires { ⌜ Ready (now stop) g (kindOf k) c e (now run) ⌝ }
     ensures { λ r. ⌜ Worthy (now (stop .entry)) g (kindOf k) c e (now (run .entry)) r ⌝ }
@@ -89,12 +134,14 @@ fn worth_under(k: u8, run: &[u8], stop: &[u16], c: usize, e: usize, g: Scale) ->
         let at = 25 * (i - c);
         let line = &run[at..at + 25];
         let s = index_at(stop, i);
-        let kind = kind_in(line);
         let mut h: u64 = 0;
-        if kind == 0 {
+        if is_leaf(line) {
             h = leaf_worth(line, g.lowest, g.grain);
         } else {
-            h = worth_under(kind, &run[at + 25..25 * (s - c)], stop, i + 1, s, g);
+            let j = chain_end(run, stop, c, i, s);
+            let from = 25 * (j - c);
+            let kind = kind_at(run, from);
+            h = worth_under(kind, &run[from + 25..25 * (s - c)], stop, j + 1, s, g);
         }
         a = take_child(k, a, line, h);
         i = s;
