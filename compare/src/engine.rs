@@ -1,7 +1,7 @@
 //! Calls the proved engine through its C interface.
 //!
-//! The only `unsafe` of this crate is here, in `read_into`, `worth`, `judge` and
-//! `search`.
+//! The only `unsafe` of this crate is here, in `read_into`, `worth`, `judge`,
+//! `search` and `turn`.
 
 use crate::second::MOST_NODES;
 
@@ -45,6 +45,13 @@ mod abi {
             leaves_len: usize,
             numbers: *mut i64,
             numbers_len: usize,
+        ) -> u64;
+
+        pub fn margin_turn(
+            text: *const u8,
+            text_len: usize,
+            buffer: *mut u8,
+            buffer_len: usize,
         ) -> u64;
     }
 }
@@ -186,4 +193,14 @@ pub fn search(text: &[u8], margin: i64, leaves: &mut [u16], numbers: &mut [i64])
             numbers.len(),
         )
     }
+}
+
+/// Turns the table in `text`. Returns 0 or the refusal as `read` does, where
+/// refusal 11 has line 0. The turned text stands first in `buffer`; all else in
+/// it is left as it was, and everything where the call is refused.
+#[allow(unsafe_code)]
+pub fn turn(text: &[u8], buffer: &mut [u8]) -> u64 {
+    // Sound: each pointer stands with the length of what it points to, and the
+    // two slices are apart from each other and lent for the length of the call.
+    unsafe { abi::margin_turn(text.as_ptr(), text.len(), buffer.as_mut_ptr(), buffer.len()) }
 }

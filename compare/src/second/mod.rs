@@ -7,10 +7,12 @@ mod judge;
 mod read;
 mod search;
 mod table;
+mod turn;
 mod worth;
 
 pub use judge::{judge, Judgement};
 pub use read::read;
 pub use search::{search, search_watched, Found, Scale, Window, GREATEST_MARGIN};
 pub use table::*;
+pub use turn::turn;
 pub use worth::{worth, worths};
