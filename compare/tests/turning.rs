@@ -9,6 +9,8 @@
 mod common;
 #[path = "common/seen.rs"]
 mod seen;
+#[path = "common/tables.rs"]
+mod tables;
 
 use common::{code, demand, Tally, OF_TABLES};
 use compare::engine;
@@ -20,6 +22,7 @@ use compare::texts::examples::*;
 use compare::texts::small::{for_each, six_nodes};
 use compare::texts::{self, largest};
 use seen::Seen;
+use tables::count_table;
 
 // ---------------------------------------------------------------------------
 // The comparison
@@ -126,7 +129,7 @@ impl Comparison {
 
     fn add_table(&mut self, table: &Table, same: bool) {
         let seen = &mut self.seen;
-        seen.count_table(table);
+        count_table(seen, table);
         seen.count("root Chance", table.nodes[0].kind == Kind::Chance);
         for k in 0..=4 {
             seen.count(&format!("K {k}"), table.chances == k);

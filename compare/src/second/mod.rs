@@ -4,6 +4,7 @@
 //! document would have to be made twice to go unseen. One module a subject.
 
 mod judge;
+mod program;
 mod read;
 mod search;
 mod table;
@@ -11,6 +12,7 @@ mod turn;
 mod worth;
 
 pub use judge::{judge, Judgement};
+pub use program::output;
 pub use read::read;
 pub use search::{search, search_watched, Found, Scale, Window, GREATEST_MARGIN};
 pub use table::*;
