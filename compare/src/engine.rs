@@ -1,7 +1,7 @@
 //! Calls the proved engine through its C interface.
 //!
-//! The only `unsafe` of this crate is here, in `read_into`, `worth`, `judge` and
-//! `search`.
+//! The only `unsafe` of this crate is here, in `read_into`, `worth`, `judge`,
+//! `search`, `turn` and `rollout`.
 
 use crate::second::MOST_NODES;
 
@@ -41,6 +41,26 @@ mod abi {
             text: *const u8,
             text_len: usize,
             margin: i64,
+            leaves: *mut u16,
+            leaves_len: usize,
+            numbers: *mut i64,
+            numbers_len: usize,
+        ) -> u64;
+
+        pub fn margin_turn(
+            text: *const u8,
+            text_len: usize,
+            buffer: *mut u8,
+            buffer_len: usize,
+        ) -> u64;
+
+        pub fn margin_rollout(
+            text: *const u8,
+            text_len: usize,
+            policy: *const u8,
+            policy_len: usize,
+            store: *mut super::Record,
+            store_len: usize,
             leaves: *mut u16,
             leaves_len: usize,
             numbers: *mut i64,
@@ -180,6 +200,57 @@ pub fn search(text: &[u8], margin: i64, leaves: &mut [u16], numbers: &mut [i64])
             text.as_ptr(),
             text.len(),
             margin,
+            leaves.as_mut_ptr(),
+            leaves.len(),
+            numbers.as_mut_ptr(),
+            numbers.len(),
+        )
+    }
+}
+
+/// Turns the table in `text`. Returns 0 or the refusal as `read` does, where
+/// refusal 11 has line 0. The turned text stands first in `buffer`; all else in
+/// it is left as it was, and everything where the call is refused.
+#[allow(unsafe_code)]
+pub fn turn(text: &[u8], buffer: &mut [u8]) -> u64 {
+    // Sound: each pointer stands with the length of what it points to, and the
+    // two slices are apart from each other and lent for the length of the call.
+    unsafe { abi::margin_turn(text.as_ptr(), text.len(), buffer.as_mut_ptr(), buffer.len()) }
+}
+
+/// What the rollouts know of a node, in grains.
+#[repr(C)]
+#[derive(Clone, Copy, Debug, PartialEq, Eq)]
+pub struct Record {
+    pub low: i64,
+    pub high: i64,
+}
+
+/// Rolls out the table in `text`, which has no C, by this policy. Returns 0 or
+/// the refusal as `read` does, where refusals 13 and 11 have line 0. The worth
+/// and the number of leaves read stand first in `numbers`, as far as there is
+/// room, the node numbers of the leaves read first in `leaves`, in reading
+/// sequence, and the record of each node first in `store`. All else in the three
+/// is left as it was, and everything where the call is refused.
+#[allow(unsafe_code)]
+pub fn rollout(
+    text: &[u8],
+    policy: &[u8],
+    store: &mut [Record],
+    leaves: &mut [u16],
+    numbers: &mut [i64],
+) -> u64 {
+    // Sound: each pointer stands with the length of what it points to, and the
+    // five slices are apart from each other and lent for the length of the call;
+    // a record is two numbers, as on the other side.
+    unsafe {
+        abi::margin_rollout(
+            text.as_ptr(),
+            text.len(),
+            policy.as_ptr(),
+            policy.len(),
+            store.as_mut_ptr(),
+            store.len(),
             leaves.as_mut_ptr(),
             leaves.len(),
             numbers.as_mut_ptr(),

@@ -5,6 +5,7 @@
 //! - `random` and `texts` make the texts that both are given.
 //!
 //! The comparisons are in `tests`, the benchmark in `src/bin/bench.rs`.
+//! `src/bin/expected.rs` prints what the margin program must print.
 
 #![deny(unsafe_code)]
 

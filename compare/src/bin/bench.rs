@@ -1,14 +1,14 @@
-//! Benchmark of reading, of the exact worth and of the search: both engines on
-//! the same texts in the same run.
+//! Benchmark of reading, the exact worth, judging, the search, turning and
+//! rollouts: both engines on the same texts in the same run.
 //!
 //! Run it in release mode: `cargo run --release --bin bench`.
 
 use std::hint::black_box;
 use std::time::{Duration, Instant};
 
-use compare::engine::{self, Lent};
+use compare::engine::{self, Lent, Record};
 use compare::random::{seed, Random};
-use compare::second::{self, MOST_NODES};
+use compare::second::{self, Bounds, Judgement, LINE, MOST_NODES};
 
 /// Node lines of the tables.
 const SIZES: [usize; 3] = [64, 256, 1_024];
@@ -18,6 +18,13 @@ const TEXTS: usize = 8;
 
 /// The best of so many rounds counts, as others may use the machine too.
 const ROUNDS: usize = 60;
+
+/// The length of the longest text.
+const LONGEST: usize = LINE * (1 + MOST_NODES);
+
+/// What a store holds before the first call.
+const NO_RECORD: Record = Record { low: 0, high: 0 };
+const NO_BOUNDS: Bounds = Bounds { low: 0, high: 0 };
 
 /// The least time that an engine works on one shape and size in a round.
 const SPELL: Duration = Duration::from_millis(3);
@@ -29,6 +36,8 @@ struct Sort {
     texts: Vec<Vec<u8>>,
     /// From the lowest end to the highest, in grains.
     span: i64,
+    /// The number of the root child to judge: the second, or the only one.
+    played: i64,
 }
 
 /// The times that one sort of texts took.
@@ -48,24 +57,23 @@ fn main() {
     println!("Growth is the time per line over that of the same shape with 64 lines; of these");
     println!("the deep one is a single path of 64 nodes.");
 
-    let shapes: [(&str, Shape); 3] = [("flat", flat), ("deep", deep), ("bushy", bushy)];
-    let mut sorts = Vec::new();
-    for (shape, make) in shapes {
-        for size in SIZES {
-            let mut random = Random::new(seed);
-            let texts: Vec<Vec<u8>> = (0..TEXTS).map(|_| make(size, &mut random)).collect();
-            let table = second::read(&texts[0]).expect("a valid table");
-            let span = (table.highest - table.lowest) * table.grains;
-            sorts.push(Sort {
-                shape,
-                size,
-                texts,
-                span,
-            });
-        }
-    }
+    let sorts = sorts(seed, [("flat", flat), ("deep", deep), ("bushy", bushy)]);
     check(&sorts);
+    reading(&sorts);
+    worth(&sorts);
+    judging(&sorts);
+    search(&sorts);
+    turning(&sorts);
 
+    let plain = self::sorts(
+        seed,
+        [("flat", flat), ("deep", deep), ("bushy", bushy_plain)],
+    );
+    check_rollouts(&plain);
+    rollouts(&plain);
+}
+
+fn reading(sorts: &[Sort]) {
     println!();
     println!("Reading a table. The proved engine's arrays are allocated once, outside of the");
     println!("timing, and are not cleared between calls; the second engine allocates its table");
@@ -73,7 +81,7 @@ fn main() {
     println!();
     let mut lent = Box::new(Lent::PATTERN);
     measure(
-        &sorts,
+        sorts,
         |_, text| {
             black_box(engine::call(black_box(text), black_box(&mut lent)));
         },
@@ -81,14 +89,16 @@ fn main() {
             let _ = black_box(second::read(black_box(text)));
         },
     );
+}
 
+fn worth(sorts: &[Sort]) {
     println!();
     println!("The exact worth from the text. The second engine reads the table, then takes the");
     println!("worth of it.");
     println!();
     let mut numbers = [0; 2];
     measure(
-        &sorts,
+        sorts,
         |_, text| {
             black_box(engine::worth(black_box(text), black_box(&mut numbers)));
         },
@@ -96,7 +106,27 @@ fn main() {
             let _ = black_box(second_worth(black_box(text)));
         },
     );
+}
 
+fn judging(sorts: &[Sort]) {
+    println!();
+    println!("Judging from the text, where the second child of the root is played, or the only");
+    println!("one. The second engine reads the table, then judges.");
+    println!();
+    let mut numbers = [0; 3];
+    measure(
+        sorts,
+        |sort, text| {
+            let numbers = black_box(&mut numbers);
+            black_box(engine::judge(black_box(text), sort.played, numbers));
+        },
+        |sort, text| {
+            let _ = black_box(second_judgement(black_box(text), sort.played));
+        },
+    );
+}
+
+fn search(sorts: &[Sort]) {
     println!();
     println!("The search from the text. The second engine reads the table, then searches it.");
     println!("The leaf lists are allocated once, outside of the timing.");
@@ -108,7 +138,7 @@ fn main() {
         println!("Margin {name}:");
         println!();
         measure(
-            &sorts,
+            sorts,
             |sort, text| {
                 let (leaves, numbers) = (black_box(&mut *leaves), black_box(&mut numbers));
                 black_box(engine::search(
@@ -126,6 +156,83 @@ fn main() {
     }
 }
 
+fn turning(sorts: &[Sort]) {
+    println!();
+    println!("Turning. The second engine reads the table, then writes it. The buffers are");
+    println!("allocated once, outside of the timing.");
+    println!();
+    let mut buffer = Box::new([0; LONGEST]);
+    let mut second_buffer = Box::new([0; LONGEST]);
+    measure(
+        sorts,
+        |_, text| {
+            let buffer = black_box(&mut *buffer);
+            black_box(engine::turn(black_box(text), buffer));
+        },
+        |_, text| {
+            let buffer = black_box(&mut *second_buffer);
+            let _ = black_box(second::turn(black_box(text), buffer));
+        },
+    );
+}
+
+fn rollouts(sorts: &[Sort]) {
+    println!();
+    println!("Rollouts from the text with an empty policy, on tables without C; the plays of the");
+    println!("bushy ones are N with 21 leaves. The second engine reads the table, then rolls it");
+    println!("out. The stores and leaf lists are allocated once, outside of the timing. A walk");
+    println!("costs the children of the nodes on its path, and each leaf read is one walk: on a");
+    println!("root and its leaves the time grows with the square of the lines.");
+    println!();
+    let mut leaves = Box::new([0; MOST_NODES]);
+    let mut second_leaves = Box::new([0; MOST_NODES]);
+    let mut store = Box::new([NO_RECORD; MOST_NODES]);
+    let mut second_store = Box::new([NO_BOUNDS; MOST_NODES]);
+    let mut numbers = [0; 2];
+    measure(
+        sorts,
+        |_, text| {
+            let (leaves, numbers) = (black_box(&mut *leaves), black_box(&mut numbers));
+            let store = black_box(&mut *store);
+            black_box(engine::rollout(
+                black_box(text),
+                &[],
+                store,
+                leaves,
+                numbers,
+            ));
+        },
+        |_, text| {
+            let leaves = black_box(&mut *second_leaves);
+            let store = black_box(&mut *second_store);
+            let _ = black_box(second_rollout(black_box(text), store, leaves));
+        },
+    );
+}
+
+/// Tables of these shapes in all sizes.
+fn sorts(seed: u64, shapes: [(&'static str, Shape); 3]) -> Vec<Sort> {
+    let mut sorts = Vec::new();
+    for (shape, make) in shapes {
+        for size in SIZES {
+            let mut random = Random::new(seed);
+            let texts: Vec<Vec<u8>> = (0..TEXTS).map(|_| make(size, &mut random)).collect();
+            let table = second::read(&texts[0]).expect("a valid table");
+            let span = (table.highest - table.lowest) * table.grains;
+            let below = table.nodes.iter().map(|node| node.parent);
+            let children = below.filter(|parent| *parent == Some(0)).count();
+            sorts.push(Sort {
+                shape,
+                size,
+                texts,
+                span,
+                played: children.min(2) as i64,
+            });
+        }
+    }
+    sorts
+}
+
 /// The margin of a search, by name, from the table's span.
 type Margin = fn(&Sort) -> i64;
 
@@ -141,6 +248,27 @@ const MARGINS: [(&str, Margin); 3] = [
 fn second_worth(text: &[u8]) -> Result<[i64; 2], second::Refusal> {
     let table = second::read(text)?;
     Ok([second::worth(&table), table.grains])
+}
+
+/// The second engine's judgement, as the proved engine writes it.
+fn second_judgement(text: &[u8], number: i64) -> Result<[i64; 3], second::Refusal> {
+    let table = second::read(text)?;
+    Ok(match second::judge(&table, number)? {
+        Judgement::Loss { grains, level } => [1, grains, level as i64],
+        Judgement::NoDecision => [0; 3],
+    })
+}
+
+/// The worth and the number of leaves read, by the second engine's rollouts with
+/// an empty policy.
+fn second_rollout(
+    text: &[u8],
+    store: &mut [Bounds],
+    leaves: &mut [u16],
+) -> Result<[i64; 2], second::Refusal> {
+    let table = second::read(text)?;
+    let rolled = second::rollout(&table, &[], store, leaves)?;
+    Ok([rolled.worth, rolled.read as i64])
 }
 
 /// What the second engine's search finds, as the proved engine writes it.
@@ -175,6 +303,17 @@ fn check(sorts: &[Sort]) {
             assert_eq!(engine::worth(text, &mut numbers), 0, "a valid table");
             assert_eq!(Ok(numbers), second_worth(text));
 
+            let mut numbers = [0; 3];
+            let returned = engine::judge(text, sort.played, &mut numbers);
+            assert_eq!(returned, 0, "a valid table");
+            assert_eq!(Ok(numbers), second_judgement(text, sort.played));
+
+            let mut buffers = [vec![0; LONGEST], vec![0; LONGEST]];
+            let [buffer, second_buffer] = &mut buffers;
+            assert_eq!(engine::turn(text, buffer), 0, "a valid table");
+            assert_eq!(second::turn(text, second_buffer), Ok(()));
+            assert_eq!(buffer, second_buffer);
+
             for (name, margin) in MARGINS {
                 let mut numbers = [0; 5];
                 let mut lists = [[0; MOST_NODES]; 2];
@@ -185,6 +324,26 @@ fn check(sorts: &[Sort]) {
                 assert_eq!(Ok(numbers), found, "margin {name}");
                 assert_eq!(list, second_list, "margin {name}");
             }
+        }
+    }
+}
+
+/// The engines agree on the rollouts.
+fn check_rollouts(sorts: &[Sort]) {
+    for sort in sorts {
+        for text in &sort.texts {
+            let mut numbers = [0; 2];
+            let mut lists = [[0; MOST_NODES]; 2];
+            let [list, second_list] = &mut lists;
+            let mut store = [NO_RECORD; MOST_NODES];
+            let mut second_store = [NO_BOUNDS; MOST_NODES];
+            let returned = engine::rollout(text, &[], &mut store, list, &mut numbers);
+            assert_eq!(returned, 0, "a valid table without C");
+            let rolled = second_rollout(text, &mut second_store, second_list);
+            assert_eq!(Ok(numbers), rolled);
+            assert_eq!(list, second_list);
+            let second_store = second_store.map(|Bounds { low, high }| Record { low, high });
+            assert_eq!(store, second_store);
         }
     }
 }
@@ -348,10 +507,12 @@ fn deep(count: usize, random: &mut Random) -> Vec<u8> {
     table.finish()
 }
 
+/// The rolls of two dice.
+const ROLLS: usize = 21;
+
 /// Plays of a root, each followed by the 21 rolls of two dice; plays that are
 /// leaves fill up the count.
 fn bushy(count: usize, random: &mut Random) -> Vec<u8> {
-    const ROLLS: usize = 21;
     let mut table = Writer::new(count, 36, random);
     let root = table.node('M', None, None);
     while table.nodes + 1 + ROLLS <= count {
@@ -361,6 +522,22 @@ fn bushy(count: usize, random: &mut Random) -> Vec<u8> {
                 let weight = if first == second { 1 } else { 2 };
                 table.node('L', Some(play), Some(weight));
             }
+        }
+    }
+    while table.nodes < count {
+        table.node('L', Some(root), None);
+    }
+    table.finish()
+}
+
+/// The same with an N for each C, so that the other side chooses the roll.
+fn bushy_plain(count: usize, random: &mut Random) -> Vec<u8> {
+    let mut table = Writer::new(count, 1, random);
+    let root = table.node('M', None, None);
+    while table.nodes + 1 + ROLLS <= count {
+        let play = table.node('N', Some(root), None);
+        for _ in 0..ROLLS {
+            table.node('L', Some(play), None);
         }
     }
     while table.nodes < count {

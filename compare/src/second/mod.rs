@@ -4,13 +4,19 @@
 //! document would have to be made twice to go unseen. One module a subject.
 
 mod judge;
+mod program;
 mod read;
+mod rollout;
 mod search;
 mod table;
+mod turn;
 mod worth;
 
 pub use judge::{judge, Judgement};
+pub use program::output;
 pub use read::read;
-pub use search::{search, search_watched, Found, Scale, Window, GREATEST_MARGIN};
+pub use rollout::{rollout, Rolled};
+pub use search::{search, search_watched, Bounds, Found, Scale, Window, GREATEST_MARGIN};
 pub use table::*;
+pub use turn::turn;
 pub use worth::{worth, worths};

@@ -213,7 +213,7 @@ fn number(columns: &[u8]) -> Result<i64, u8> {
 /// Reads a field: blanks, then nothing or a number right-justified. A number is
 /// digits without a leading zero, with a minus directly before them if it is
 /// below zero; anything else is ill-written.
-fn field(columns: &[u8]) -> Result<Option<i64>, u8> {
+pub(super) fn field(columns: &[u8]) -> Result<Option<i64>, u8> {
     let Some(start) = columns.iter().position(|&byte| byte != b' ') else {
         return Ok(None);
     };

@@ -112,10 +112,10 @@ fn floor(dividend: i64, divisor: i64) -> i64 {
 }
 
 /// L and U of a node.
-#[derive(Clone, Copy)]
-struct Bounds {
-    low: i64,
-    high: i64,
+#[derive(Clone, Copy, Debug, PartialEq, Eq)]
+pub struct Bounds {
+    pub low: i64,
+    pub high: i64,
 }
 
 /// Alpha and beta of a node.

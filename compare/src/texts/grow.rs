@@ -32,6 +32,23 @@ struct Grower {
 
 /// A valid table of any size, the small sizes more often.
 pub fn valid(random: &mut Random) -> Draft {
+    let nodes = size(random);
+    let mut grower = Grower::new(random);
+    grower.path = path(random);
+    grower.grow_all(random, nodes)
+}
+
+/// A valid table of any size without chance nodes.
+pub fn plain(random: &mut Random) -> Draft {
+    let nodes = size(random);
+    let mut grower = Grower::new(random);
+    grower.path = path(random);
+    grower.rarity = 0;
+    grower.grow_all(random, nodes)
+}
+
+/// Any number of nodes, the small ones more often.
+fn size(random: &mut Random) -> usize {
     let most = MOST_NODES as i64;
     let nodes = match random.below(100) {
         0..=39 => random.between(1, 8),
@@ -40,19 +57,17 @@ pub fn valid(random: &mut Random) -> Draft {
         90..=97 => random.between(201, most),
         _ => random.between(most - 2, most),
     };
-    valid_of(random, nodes as usize)
+    nodes as usize
 }
 
-/// A valid table of so many nodes.
-fn valid_of(random: &mut Random, nodes: usize) -> Draft {
-    let mut grower = Grower::new(random);
-    grower.path = match random.below(6) {
+/// The most nodes on a path of a valid table.
+fn path(random: &mut Random) -> usize {
+    match random.below(6) {
         0 => LONGEST_PATH - 1,
         // Two is enough for any number of nodes: a root and its leaves.
         1 => random.between(2, LONGEST_PATH as i64) as usize,
         _ => LONGEST_PATH,
-    };
-    grower.grow_all(random, nodes)
+    }
 }
 
 /// A valid table of 1,024 nodes with T 64 and the widest ends, where chance
@@ -64,6 +79,15 @@ pub fn largest(random: &mut Random) -> Draft {
     grower.draft.highest = FARTHEST_END;
     grower.shape = random.pick(&[Shape::Deep, Shape::Bushy, Shape::Any]);
     grower.rarity = 1 + random.below(4);
+    grower.grow_all(random, MOST_NODES)
+}
+
+/// A valid table of 1,024 nodes with the widest ends and no chance node.
+pub fn largest_plain(random: &mut Random) -> Draft {
+    let mut grower = Grower::new(random);
+    grower.draft.lowest = -FARTHEST_END;
+    grower.draft.highest = FARTHEST_END;
+    grower.rarity = 0;
     grower.grow_all(random, MOST_NODES)
 }
 

@@ -19,6 +19,11 @@ pub fn any(random: &mut Random) -> Vec<u8> {
     draft.text()
 }
 
+/// A random table without C.
+pub fn plain(random: &mut Random) -> Vec<u8> {
+    grow::largest_plain(random).text()
+}
+
 /// Chance nodes and leaves alone, each leaf of this utility. Five children of
 /// the root are C, each of these has one C below it, and that has another, so
 /// that four are on a path. Every C has 64 children of weight 1, but for the

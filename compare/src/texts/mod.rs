@@ -40,6 +40,11 @@ pub fn valid(random: &mut Random) -> Vec<u8> {
     grow::valid(random).text()
 }
 
+/// A valid table of any shape and size without C.
+pub fn plain(random: &mut Random) -> Vec<u8> {
+    grow::plain(random).text()
+}
+
 /// A valid table where the rounding of windows often decides.
 pub fn narrow(random: &mut Random) -> Vec<u8> {
     grow::narrow(random).text()

@@ -1,0 +1,560 @@
+//! Holds the margin program to the second engine: every byte that it writes to
+//! standard output, its exit status, which is 0 for an answer and for a refusal,
+//! and that it writes nothing to standard error.
+//!
+//! The program is looked for at `../target/bin/margin`, or where the environment
+//! variable MARGIN_PROGRAM says (a relative name counts from this package's
+//! folder). SEED sets the seed of the random inputs, CASES their number.
+
+// A program returns no code, and takes too long for a hundred thousand inputs.
+#[allow(dead_code)]
+mod common;
+#[path = "common/seen.rs"]
+mod seen;
+
+use std::env;
+use std::fs::{self, File};
+use std::io::{ErrorKind, Write};
+use std::path::{Path, PathBuf};
+use std::process::{Child, Command, Output, Stdio};
+use std::thread;
+use std::time::Duration;
+
+use common::{demand, Tally, OF_TABLES};
+use compare::random::{number_from_environment, Random};
+use compare::second::{self, FARTHEST_END, GREATEST_MARGIN, LINE, MOST_NODES};
+use compare::texts::examples::*;
+use compare::texts::{self, largest};
+use seen::Seen;
+
+// ---------------------------------------------------------------------------
+// Running the program
+// ---------------------------------------------------------------------------
+
+/// How the input reaches the program.
+#[derive(Clone, Copy, Debug, PartialEq, Eq)]
+enum Way {
+    /// Through a pipe, in one go.
+    Pipe,
+    /// Through a pipe, in a few pieces with a pause after each.
+    Pieces,
+    /// From a file.
+    File,
+}
+
+fn program() -> PathBuf {
+    let package = Path::new(env!("CARGO_MANIFEST_DIR"));
+    let named = env::var_os("MARGIN_PROGRAM").filter(|path| !path.is_empty());
+    let path = match named {
+        Some(path) => package.join(path),
+        None => package.join("../target/bin/margin"),
+    };
+    assert!(
+        path.is_file(),
+        "The margin program is missing: {}\n\
+         Build it in the project's root, or name it in the environment variable MARGIN_PROGRAM.",
+        path.display()
+    );
+    path
+}
+
+/// What the program does with this on its standard input.
+fn run(program: &Path, input: &[u8], way: Way, name: &str) -> Output {
+    let mut command = Command::new(program);
+    command.stdout(Stdio::piped()).stderr(Stdio::piped());
+    let start = |command: &mut Command| command.spawn().expect("the program starts");
+    let finish = |child: Child| child.wait_with_output().expect("the program ends");
+    if way == Way::File {
+        let file = Path::new(env!("CARGO_TARGET_TMPDIR")).join(format!("{name}.txt"));
+        fs::write(&file, input).expect("a file in the target folder");
+        command.stdin(File::open(&file).expect("the file just written"));
+        return finish(start(&mut command));
+    }
+
+    let mut child = start(command.stdin(Stdio::piped()));
+    let mut stdin = child.stdin.take().expect("a pipe");
+    let size = match way {
+        Way::Pieces => input.len() / 4 + 1,
+        _ => input.len().max(1),
+    };
+    thread::scope(|scope| {
+        scope.spawn(move || {
+            for piece in input.chunks(size) {
+                match stdin.write_all(piece) {
+                    Ok(()) => {}
+                    // The program may stop reading where the input is too long.
+                    Err(error) if error.kind() == ErrorKind::BrokenPipe => break,
+                    Err(error) => panic!("{error}"),
+                }
+                if way == Way::Pieces {
+                    thread::sleep(Duration::from_millis(1));
+                }
+            }
+        });
+        finish(child)
+    })
+}
+
+/// Fails the test unless the program writes this for the input.
+fn hold_to(tally: &Tally, program: &Path, input: &[u8], way: Way, expected: &str) {
+    let name = tally.name.replace(' ', "-");
+    let output = run(program, input, way, &name);
+    if output.stdout != expected.as_bytes()
+        || output.status.code() != Some(0)
+        || !output.stderr.is_empty()
+    {
+        let shown = &input[..input.len().min(30_000)];
+        panic!(
+            "{}: the program differs from the second engine; input by {way:?}\n\
+             expected:\n{expected}\
+             got, with {}:\n{}\
+             on standard error:\n{}\
+             input of {} bytes:\n\"{}\"",
+            tally.place(),
+            output.status,
+            output
+                .stdout
+                .escape_ascii()
+                .to_string()
+                .replace("\\n", "\n"),
+            output.stderr.escape_ascii(),
+            input.len(),
+            shown.escape_ascii(),
+        );
+    }
+}
+
+/// Compares the program and the second engine on inputs.
+struct Comparison {
+    tally: Tally,
+    program: PathBuf,
+}
+
+impl Comparison {
+    fn new(name: &'static str) -> Comparison {
+        Comparison {
+            tally: Tally::new(name),
+            program: program(),
+        }
+    }
+
+    /// Gives an input to both, and returns what they write.
+    fn hold(&mut self, input: &[u8], way: Way) -> String {
+        let output = second::output(input);
+        hold_to(&self.tally, &self.program, input, way, &output);
+        self.tally.add(&[refusal(&output)]);
+        output
+    }
+}
+
+/// The number of the refusal in an output, 0 for an answer.
+fn refusal(output: &str) -> u64 {
+    number_after("refuse", output).unwrap_or(0) as u64
+}
+
+/// The number in the first line of an output that begins with this word.
+fn number_after(word: &str, output: &str) -> Option<i64> {
+    let line = output.lines().find(|line| line[..6].trim_end() == word)?;
+    Some(line[6..].trim_start().parse().expect("a number"))
+}
+
+// ---------------------------------------------------------------------------
+// Random inputs
+// ---------------------------------------------------------------------------
+
+/// The margin's line for a table of this span. The first of the two says whether
+/// the line is well-written.
+fn margin_line(random: &mut Random, span: i64) -> (bool, Vec<u8>) {
+    let margin = match random.below(8) {
+        0 | 1 => 0,
+        2 => span + random.pick(&[-1, 0, 1]),
+        3 => random.pick(&[1, 9, 10, 99, 100, GREATEST_MARGIN]),
+        4 => random.pick(&[
+            GREATEST_MARGIN + 1,
+            99_999_999_999_999,
+            -1,
+            -9_999_999_999_999,
+        ]),
+        5 => random.between(0, span) / 100,
+        _ => random.between(0, span),
+    };
+    let well = format!("{margin:>14}\n").into_bytes();
+    if !random.one_in(4) {
+        return (true, well);
+    }
+    let columns = match random.below(18) {
+        0 => String::new(),
+        1 => "-0".to_string(),
+        2 => format!("0{margin}"),
+        3 => format!("{margin:0>14}"),
+        4 => format!("+{}", margin.abs()),
+        5 => "-".to_string(),
+        6 => format!("{margin:<14}"),
+        7 => format!("{margin} "),
+        8 => format!("{margin}\r"),
+        9 => format!("- {}", margin.abs()),
+        10 => format!("--{}", margin.abs()),
+        11 => format!("{margin}.0"),
+        12 => format!("\t{margin}"),
+        13 => format!("{margin} {margin}"),
+        14 => format!("{margin}\0"),
+        15 => format!("{margin}\n"),
+        _ => {
+            // The line is right but for one byte, newline included.
+            let mut line = well;
+            line[random.below(15)] = match random.below(3) {
+                0 => random.pick(b"\r\n\t\0/:+-. x"),
+                1 => random.pick(b"0123456789"),
+                _ => random.bits() as u8,
+            };
+            return (false, line);
+        }
+    };
+    let columns = &columns.as_bytes()[..columns.len().min(14)];
+    let mut line = vec![b' '; 14 - columns.len()];
+    line.extend_from_slice(columns);
+    line.push(b'\n');
+    (false, line)
+}
+
+/// Changes the whole input.
+fn damage(input: &mut Vec<u8>, random: &mut Random) {
+    match random.below(14) {
+        0 => input.clear(),
+        1 => input.truncate(random.below(16)),
+        2 => input.truncate(15),
+        3 => input.truncate(random.below(input.len() + 1)),
+        4 => {
+            let lines = std::mem::take(input);
+            for byte in lines {
+                if byte == b'\n' {
+                    input.push(b'\r');
+                }
+                input.push(byte);
+            }
+        }
+        5 => {
+            for byte in input.iter_mut().filter(|byte| **byte == b'\n') {
+                *byte = b'\r';
+            }
+        }
+        // A column more or fewer for the margin, no margin, two margins.
+        6 => input.insert(0, b' '),
+        7 => {
+            input.remove(0);
+        }
+        8 => {
+            input.drain(..15.min(input.len()));
+        }
+        9 => {
+            let line = input[..15.min(input.len())].to_vec();
+            input.splice(..0, line);
+        }
+        // Something after the table.
+        10 => input.extend_from_slice(random.pick(&[b"\n", b" ", b"\0", b"\x1a"])),
+        11 => {
+            let line = input[input.len().saturating_sub(LINE)..].to_vec();
+            input.extend_from_slice(&line);
+        }
+        // Binary, of a length that a table may have or not.
+        12 => {
+            let length = match random.below(3) {
+                0 => 15 + LINE * random.below(40),
+                1 => random.below(3_000),
+                _ => 15 + LINE * (1 + MOST_NODES),
+            };
+            *input = (0..length).map(|_| random.bits() as u8).collect();
+        }
+        // Around the longest input, as if the table went on.
+        _ => {
+            let length = 15 + random.pick(&[25_600, 25_624, 25_625, 25_626, 25_650, 51_250]);
+            while input.len() < length {
+                let from = input.len().saturating_sub(LINE);
+                let more = match input.get(from) {
+                    Some(&byte) => byte,
+                    None => b' ',
+                };
+                input.push(more);
+            }
+            input.truncate(length);
+        }
+    }
+}
+
+/// From the lowest end to the highest in grains, of a text that is a table.
+fn span(text: &[u8]) -> i64 {
+    second::read(text).map_or(1_000, |table| (table.highest - table.lowest) * table.grains)
+}
+
+/// The main comparison. It also fails where the inputs or the answers were too
+/// much alike to mean anything.
+#[test]
+fn random_inputs() {
+    let mut comparison = Comparison::new("the program on random inputs");
+    let mut seen = Seen::default();
+    let cases = number_from_environment("CASES", 6_000);
+    for number in 0..cases {
+        let mut random = Random::of_case(comparison.tally.seed, number);
+        let text = match number % 8 {
+            0 => texts::close(&mut random),
+            1 => texts::dice(&mut random),
+            2 | 3 => texts::valid(&mut random),
+            _ => texts::case(&mut random).text,
+        };
+        let table = second::read(&text);
+        let (well, mut input) = margin_line(&mut random, span(&text));
+        input.extend_from_slice(&text);
+        let damaged = random.one_in(8);
+        if damaged {
+            damage(&mut input, &mut random);
+        }
+        let way = match random.below(16) {
+            0 => Way::Pieces,
+            1 | 2 => Way::File,
+            _ => Way::Pipe,
+        };
+        let output = comparison.hold(&input, way);
+
+        let refused = refusal(&output);
+        let play = number_after("play", &output);
+        let read = number_after("leaves", &output);
+        let leaves = table.as_ref().ok().map(|table| table.leaves as i64);
+        seen.count("an answer", refused == 0);
+        seen.count("input in pieces", way == Way::Pieces);
+        seen.count("input from a file", way == Way::File);
+        seen.count("damaged as a whole", damaged);
+        seen.count("margin ill-written, refused 12", !well && refused == 12);
+        seen.count("margin out of range, refused 12", well && refused == 12);
+        let bad_both = !damaged && !well && table.is_err();
+        seen.count("margin and table bad", bad_both);
+        assert!(!bad_both || refused < 11, "the table is named first");
+        seen.count("no play", play == Some(0));
+        seen.count("first child played", play == Some(1));
+        seen.count("later child played", play.is_some_and(|play| play > 1));
+        seen.count("all leaves read", read.is_some() && read == leaves);
+        seen.count("leaves unread", read.is_some() && read < leaves);
+        let low = number_after("low", &output);
+        seen.count("low below zero", low.is_some_and(|low| low < 0));
+        let grains = number_after("grain", &output);
+        seen.count("several grains", grains.is_some_and(|grains| grains > 1));
+    }
+    comparison.tally.report();
+    demand(100, &seen.sorts);
+    assert!(comparison.tally.cases >= 2_000, "too few inputs");
+    for number in OF_TABLES {
+        let count = comparison.tally.counts[number];
+        assert!(count >= 4, "refusal {number} came only {count} times");
+    }
+}
+
+/// A root of this kind, M or N, and 1,023 leaves, none of them at an end, so that
+/// margin 0 reads them all.
+fn all_read(kind: u8) -> Vec<u8> {
+    let kind = char::from(kind);
+    let mut text = format!("1024  64-1000000 1000000\n   0 {kind}{:18}\n", "");
+    for node in 1..MOST_NODES {
+        text += &format!("{node:>4} L    0     {node:>8}\n");
+    }
+    text.into_bytes()
+}
+
+/// The greatest tables, whose answers have the widest numbers and the most
+/// lines; and inputs of megabytes.
+#[test]
+fn largest_inputs() {
+    let mut comparison = Comparison::new("the program on the largest inputs");
+    let mut seen = Seen::default();
+    let mut texts: Vec<Vec<u8>> = vec![all_read(b'M'), all_read(b'N')];
+    for end in [-FARTHEST_END, FARTHEST_END] {
+        texts.push(largest::four_deep(end));
+        texts.push(largest::plays(b'M', end));
+        texts.push(largest::plays(b'N', end));
+    }
+    for number in 0..40 {
+        let mut random = Random::of_case(comparison.tally.seed, number);
+        texts.push(largest::any(&mut random));
+        texts.push(largest::flat(random.pick(b"MN"), &mut random));
+    }
+    for text in &texts {
+        assert_eq!(text.len(), LINE * (1 + MOST_NODES));
+        for margin in [0, span(text) / 10] {
+            let mut input = format!("{margin:>14}\n").into_bytes();
+            input.extend_from_slice(text);
+            for way in [Way::Pipe, Way::Pieces, Way::File] {
+                let output = comparison.hold(&input, way);
+                assert_eq!(refusal(&output), 0);
+                let wide = output.lines().any(|line| line.as_bytes()[6] != b' ');
+                seen.count("a number of 15 columns", wide);
+                let most = number_after("leaves", &output) == Some(1_023);
+                seen.count("1,023 leaves", most);
+            }
+            // One byte more, or a line, and the table is too long.
+            for more in [&b"\n"[..], b" ", &text[text.len() - LINE..]] {
+                let mut longer = input.clone();
+                longer.extend_from_slice(more);
+                assert_eq!(refusal(&comparison.hold(&longer, Way::Pipe)), 1);
+            }
+            input.pop();
+            assert_eq!(refusal(&comparison.hold(&input, Way::Pipe)), 1);
+        }
+    }
+    let mut random = Random::of_case(comparison.tally.seed, 1_000);
+    for length in [65_535, 65_536, 65_537, 1_000_000, 5_000_000, 20_000_015] {
+        for way in [Way::Pipe, Way::Pieces, Way::File] {
+            let mut input = format!("{:>14}\n", 0).into_bytes();
+            while input.len() < length {
+                input.extend_from_slice(&texts[0]);
+            }
+            input.truncate(length);
+            assert_eq!(refusal(&comparison.hold(&input, way)), 1);
+            input.fill_with(|| random.bits() as u8);
+            assert_eq!(refusal(&comparison.hold(&input, way)), 1);
+        }
+    }
+    comparison.tally.report();
+    demand(6, &seen.sorts);
+}
+
+// ---------------------------------------------------------------------------
+// Document 01's inputs
+// ---------------------------------------------------------------------------
+
+/// Document 01's input, table B at margin 12, and its output.
+const INPUT_B: &str = "............12\n";
+const OUTPUT_B: &str = "\
+low................20
+high...............32
+grain...............4
+play................1
+leaves..............1
+leaf................1
+";
+
+/// Table A with a leaf of 1 in node 2, where the second child is played.
+const OUTPUT_SECOND: &str = "\
+low.................2
+high................2
+grain...............1
+play................2
+leaves..............4
+leaf................2
+leaf................3
+leaf................5
+leaf................6
+";
+
+const OUTPUT_LONE_LEAF: &str = "\
+low.................7
+high................7
+grain...............1
+play................0
+leaves..............1
+leaf................0
+";
+
+const OUTPUT_B_TURNED: &str = "\
+low...............-32
+high..............-20
+grain...............4
+play................1
+leaves..............1
+leaf................1
+";
+
+/// All of a dotted text with blanks.
+fn blanks(dotted: &str) -> String {
+    dotted.replace('.', " ")
+}
+
+fn refused(number: u8, line: usize) -> String {
+    format!("refuse{number:>15}\nline  {line:>15}\n")
+}
+
+/// Inputs, and what the program writes for them.
+fn known() -> Vec<(Vec<u8>, String)> {
+    let b = dotted(TABLE_B);
+    let with_margin = |line: &str, text: &[u8]| [line.as_bytes(), text].concat();
+    let other_a = TABLE_A.replace("...2.L....1............3", "...2.L....1............1");
+    let mut all = vec![
+        (with_margin(&blanks(INPUT_B), &b), blanks(OUTPUT_B)),
+        (
+            with_margin(&blanks(INPUT_B), &dotted(TABLE_B_TURNED)),
+            blanks(OUTPUT_B_TURNED),
+        ),
+        (
+            with_margin("             0\n", &dotted(LONE_LEAF)),
+            blanks(OUTPUT_LONE_LEAF),
+        ),
+        (
+            with_margin("             0\n", &dotted(&other_a)),
+            blanks(OUTPUT_SECOND),
+        ),
+        // The table is all after byte 15; there is none in these.
+        (Vec::new(), refused(1, 0)),
+        (b"\n".to_vec(), refused(1, 0)),
+        (b"            12".to_vec(), refused(1, 0)),
+        (b"            12\n".to_vec(), refused(1, 0)),
+        // A table without a margin is taken for one that begins at byte 16.
+        (b.clone(), refused(1, 0)),
+        (
+            with_margin(
+                "             0\n",
+                &table_b_with(4, "...3.L....2....2.......2"),
+            ),
+            refused(9, 3),
+        ),
+    ];
+    let bad_margins = [
+        "              \n",
+        "            -0\n",
+        "            -1\n",
+        "            +1\n",
+        "            01\n",
+        "           1 2\n",
+        "12            \n",
+        "           12 \n",
+        "            12 ",
+        "            12\r",
+        "           12\r\n",
+        "          12.0\n",
+        "            1x\n",
+        "             \n\n",
+        "40000000000001\n",
+        "99999999999999\n",
+        "-9999999999999\n",
+        "00000000000012\n",
+    ];
+    for line in bad_margins {
+        assert_eq!(line.len(), 15);
+        all.push((with_margin(line, &b), refused(12, 0)));
+        // A bad table is named first.
+        for (text, number, line_of_it) in refused_examples() {
+            all.push((with_margin(line, &text), refused(number, line_of_it)));
+        }
+    }
+    for (text, number, line) in refused_examples() {
+        let input = with_margin("             0\n", &text);
+        all.push((input, refused(number, line)));
+    }
+    all
+}
+
+#[test]
+fn second_engine_has_the_known_outputs() {
+    for (input, output) in known() {
+        assert_eq!(second::output(&input), output, "{}", input.escape_ascii());
+    }
+}
+
+/// The known outputs; the program must have them, whatever the second engine
+/// says.
+#[test]
+fn examples() {
+    let mut comparison = Comparison::new("the program on examples");
+    for (number, (input, output)) in known().into_iter().enumerate() {
+        let way = [Way::Pipe, Way::File][number % 2];
+        hold_to(&comparison.tally, &comparison.program, &input, way, &output);
+        comparison.tally.add(&[refusal(&output)]);
+    }
+    comparison.tally.report();
+}
