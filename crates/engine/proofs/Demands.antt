@@ -201,9 +201,9 @@ sentence3 s m room b e size u w other long =
       }),
       reads u m other v q (A .margin) (long v q) ∙ read ∙ sym (reads s m room t p (A .margin) (A .long)),
       (λ z x.
-      let is : z ≡ worthOf t = same-grains z (worthOf t) (b .grain) (grain t) (sym x ∙ ap exactCall p) in
-      ap exactCall q
-      ∙ ap₂ Grains (mirror.turned-worth s u t v p q turns ∙ ap negℤ (sym is)) (grains ∙ sym (ap (λ (y : Bounds). y .grain) (A .bounds)))),
+          let is : z ≡ worthOf t = same-grains z (worthOf t) (b .grain) (grain t) (sym x ∙ ap exactCall p) in
+          ap exactCall q
+          ∙ ap₂ Grains (mirror.turned-worth s u t v p q turns ∙ ap negℤ (sym is)) (grains ∙ sym (ap (λ (y : Bounds). y .grain) (A .bounds)))),
       promised-of u v m q (A .margin),
     )
 

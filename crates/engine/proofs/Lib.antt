@@ -4,3 +4,4 @@ pub mod Searching
 pub mod Answered
 pub mod Turning
 pub mod Demands
+pub mod Rows

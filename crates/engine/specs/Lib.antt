@@ -1,3 +1,4 @@
 pub mod Calls
 pub mod Inside
 pub mod Demands
+pub mod Rows
