@@ -1,0 +1,103 @@
+/*
+ * The margin engine's calls, for programs in C. Link target/staticlib/libabi.a, which `rt staticlib abi` makes (x86-64 Linux).
+ *
+ * Every call takes any bytes and any numbers, ends, and returns
+ *
+ *     0                     the answer was written,
+ *     100 * line + number   refused, and nothing was written: 309 is refusal 9 at line 3.
+ *
+ * docs/REFUSALS.md says what each number means. The header is line 0 and node i is line i + 1; refusals 1 and 11 to 14 have line 0.
+ *
+ * A pointer is followed by its length: the number of entries that it points to, not of bytes. Each pointer must be valid for that many
+ * entries and not null, also where the length is 0; the areas that a call may write (pointers without const) must lie apart from each
+ * other and from the text. This is all that a caller must see to. Nothing is kept between calls.
+ *
+ * `numbers` gets as many of an answer's numbers as it has room for. Entries past the answer keep what they held, in every area.
+ *
+ * Worths, bounds, margins and losses are whole numbers of grains; G of them make one point.
+ */
+#ifndef MARGIN_ENGINE_H
+#define MARGIN_ENGINE_H
+
+#include <stddef.h>
+#include <stdint.h>
+
+#ifdef __cplusplus
+extern "C" {
+#endif
+
+/* The largest table, its text and its margin. Areas of these lengths have room for every answer. */
+#define MARGIN_MOST_NODES 1024
+#define MARGIN_MOST_BYTES 25625
+#define MARGIN_GREATEST_MARGIN INT64_C(40000000000000)
+
+/* What a refused call returned, taken apart. */
+#define MARGIN_NUMBER(code) ((code) % 100)
+#define MARGIN_LINE(code) ((code) / 100)
+
+/*
+ * Reads a table. Refuses 1 to 10.
+ *
+ * numbers (7): the number of nodes, T, the lowest end, the highest end, K (the most C on a path), G, the number of leaves.
+ * The other four get an entry for each node, by node number, as far as each has room:
+ * kind: 0 for L, 1 for M, 2 for N, 3 for C.
+ * stop: one past the last node under the node.
+ * weight: the weight, 0 where there is none.
+ * height: a leaf's utility minus the lowest end, 0 at other nodes.
+ */
+uint64_t margin_read(const uint8_t *text, size_t text_len, int64_t *numbers, size_t numbers_len, uint8_t *kind, size_t kind_len,
+                     uint16_t *stop, size_t stop_len, uint8_t *weight, size_t weight_len, uint32_t *height, size_t height_len);
+
+/*
+ * The exact worth. Refuses 1 to 10.
+ *
+ * numbers (2): the worth, G.
+ */
+uint64_t margin_worth(const uint8_t *text, size_t text_len, int64_t *numbers, size_t numbers_len);
+
+/*
+ * Judges the play of root child `number`, counted from 1. Refuses 1 to 10, and 14 where an M or N root has no such child.
+ *
+ * numbers (3 or 1), without sign: at an M or N root 1, the loss, the number of children level with the best; at a C or L root 0 alone.
+ */
+uint64_t margin_judge(const uint8_t *text, size_t text_len, int64_t number, uint64_t *numbers, size_t numbers_len);
+
+/*
+ * The bounded search at a margin from 0 to MARGIN_GREATEST_MARGIN. Refuses 1 to 10, 12 for another margin, and 11 where `leaves` has
+ * fewer entries than the table has leaves.
+ *
+ * leaves: the node numbers of the leaves read, in reading sequence.
+ * numbers (5): low, high, the node number of the play (0 for none: the root is no play), the number of leaves read, G.
+ */
+uint64_t margin_search(const uint8_t *text, size_t text_len, int64_t margin, uint16_t *leaves, size_t leaves_len, int64_t *numbers,
+                       size_t numbers_len);
+
+/*
+ * The turned table. Refuses 1 to 10, and 11 where `buffer` is shorter than the text.
+ *
+ * buffer: the turned text, text_len bytes.
+ */
+uint64_t margin_turn(const uint8_t *text, size_t text_len, uint8_t *buffer, size_t buffer_len);
+
+/* What rollouts know of a node. */
+struct margin_record {
+    int64_t low;
+    int64_t high;
+};
+
+/*
+ * Rollouts on a table without C, under a list of policy bytes. Refuses 1 to 10, 13 where the table has a C, and 11 where `leaves` has
+ * fewer entries than the table has leaves or `store` fewer than it has nodes.
+ *
+ * store: a record for each node, by node number, as last updated.
+ * leaves: the node numbers of the leaves read, in reading sequence.
+ * numbers (2): the worth, the number of leaves read.
+ */
+uint64_t margin_rollout(const uint8_t *text, size_t text_len, const uint8_t *policy, size_t policy_len, struct margin_record *store,
+                        size_t store_len, uint16_t *leaves, size_t leaves_len, int64_t *numbers, size_t numbers_len);
+
+#ifdef __cplusplus
+}
+#endif
+
+#endif
