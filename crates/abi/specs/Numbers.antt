@@ -16,7 +16,7 @@ use Rattle.engine.specs.declared.Opinion.{Opinion}
 use Rattle.engine.specs.declared.Bounds.{Bounds}
 use Rattle.engine.specs.declared.Bounded
 use Rattle.engine.specs.declared.Bounded.{Bounded}
-use Rattle.engine.specs.Calls.{judgeNumber, judgeLine, searchNumber, searchLine, turnNumber, turnLine}
+use Rattle.engine.specs.Calls.{exactNumber, exactLine, judgeNumber, judgeLine, searchNumber, searchLine, turnNumber, turnLine}
 use Rattle.engine.specs.declared.Turned.{Turned}
 use Rattle.engine.specs.declared.Exact
 use Rattle.engine.specs.declared.Exact.{Exact}
@@ -34,8 +34,7 @@ numbersOf (Refused r) = []
 
 -- the same of the exact worth: the worth and G
 abbrev pub worthCode : Exact → ℕ
-worthCode (Exact.the-variants.Grains z g) = 0
-worthCode (Exact.the-variants.Refused r) = codeOf (Refused r)
+worthCode e = 100 * exactLine e + exactNumber e
 
 abbrev pub worthNumbers : Exact → List ℤ
 worthNumbers (Exact.the-variants.Grains z g) = z ∷ pos g ∷ []

@@ -20,9 +20,9 @@ use Rattle.line.proofs.Checks.{or-left}
 use Rattle.table.specs.Tree.{Forest, leaf, inner, kindOf, run, after, forest, grow, leaves}
 use Rattle.table.specs.Table.{Table, tree, readText, grain}
 use Rattle.worth.specs.Worth.{worthOf}
+use Rattle.judge.specs.Judge.{playOf}
 use Rattle.judge.specs.declared.Play.{Play}
 use Rattle.judge.specs.declared.Play.the-variants.{Child, NoPlay}
-use Rattle.judge.specs.Inside.{playOf}
 use Rattle.turn.specs.Turn.{turnTable, turnedText}
 use Rattle.turn.proofs.Tree.{tree-turned, turn-twice}
 use Rattle.turn.proofs.Accepted.{turned-accepted}

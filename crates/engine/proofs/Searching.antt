@@ -20,8 +20,8 @@ use Rattle.table.specs.Table.{Table, readText, tree, summary, answer, grain}
 use Rattle.table.specs.Slices.{kindsOf, stopsOf, weightsOf, heightsOf, fitted, laid, decoded}
 use Rattle.table.proofs.Accepted.{answer-accepted, accepted-size, accepted-leaves}
 use Rattle.worth.proofs.Worth.{span-grains}
+use Rattle.judge.specs.Judge.{playOf}
 use Rattle.judge.specs.declared.Play.{Play}
-use Rattle.judge.specs.Inside.{playOf}
 use Rattle.search.specs.declared.Rule.{Rule}
 use Rattle.search.specs.declared.Found.{Found}
 use Rattle.search.specs.Search.{nodeOf}

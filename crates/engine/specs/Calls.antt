@@ -14,8 +14,7 @@ use Rattle.table.specs.Table.{Table, tree, grain}
 use Rattle.worth.specs.Worth.{worthOf}
 use Rattle.judge.specs.declared.Judged.{Judged}
 use Rattle.judge.specs.declared.Judged.the-variants.{NoDecision, Judged as Lost, NoChild}
-use Rattle.judge.specs.Judge.{Judgement, noDecision, judged, noSuchChild, judge}
-use Rattle.judge.specs.Inside.{playOf}
+use Rattle.judge.specs.Judge.{Judgement, noDecision, judged, noSuchChild, judge, playOf}
 use Rattle.turn.specs.Turn.{turnedText}
 use Rattle.search.specs.Search.{Seen, nodeOf}
 use Rattle.search.specs.Whole.{searched}
@@ -33,6 +32,15 @@ use Rattle.engine.specs.declared.Exact.the-variants.{Grains, Refused}
 abbrev pub exactCall : Verdict Table → Exact
 exactCall (refused r) = Refused r
 exactCall (fine t) = Grains (worthOf t) (grain t)
+
+-- document 01's number and line of every answer, 0 where there is no refusal
+abbrev pub exactNumber : Exact → ℕ
+exactNumber (Grains z g) = 0
+exactNumber (Refused r) = numberOf r
+
+abbrev pub exactLine : Exact → ℕ
+exactLine (Grains z g) = 0
+exactLine (Refused r) = lineOf r
 
 -- a judgement as the call gives it; that a loss is never below zero is a theorem (judge/Judge.loss-natural)
 abbrev pub told : Judgement → Judged

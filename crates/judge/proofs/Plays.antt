@@ -15,8 +15,8 @@ use Rattle.table.proofs.Accepted.{accepted-spans, heights-rooted}
 use Rattle.worth.proofs.Text.{ends-length}
 use Rattle.worth.proofs.Judged.{accepted-ready}
 use Rattle.judge.specs.declared.Play.{Play}
-use Rattle.judge.specs.Judge.{children, nodes, numbered, childNode}
-use Rattle.judge.specs.Inside.{Chained, Chain, playOf, Played}
+use Rattle.judge.specs.Judge.{children, nodes, numbered, childNode, playOf}
+use Rattle.judge.specs.Inside.{Chained, Chain, Played}
 use Rattle.judge.proofs.Judge.{nodes-heights}
 use Rattle.judge.proofs.Walk.{chained-le}
 

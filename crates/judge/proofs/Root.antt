@@ -19,9 +19,9 @@ use Rattle.worth.proofs.Bounds.{Each}
 use Rattle.worth.proofs.Run.{lays-le}
 use Rattle.judge.specs.declared.Play.{Play}
 use Rattle.judge.specs.declared.Play.the-variants.{Child as Kid, NoPlay}
-use Rattle.judge.specs.Judge.{Side, AtM, AtN, Root, undecided, decided, rootOf, children, numbered, noDecision, judged, noSuchChild}
+use Rattle.judge.specs.Judge.{Side, AtM, AtN, Root, undecided, decided, rootOf, children, numbered, noDecision, judged, noSuchChild, playOf}
 use Rattle.judge.specs.Heights.{heightLoss, heightLevels, heightJudgeChild, heightJudgeAt, Ahead}
-use Rattle.judge.specs.Inside.{Chained, Chain, playOf, AllAhead, Here, Room, Under, Levelled, forestJudge, Decided}
+use Rattle.judge.specs.Inside.{Chained, Chain, AllAhead, Here, Room, Under, Levelled, forestJudge, Decided}
 use Rattle.judge.proofs.Best.{no-decision, best-ahead}
 use Rattle.judge.proofs.Shift.{numbered-each}
 use Rattle.judge.proofs.Walk.{none-left}

@@ -14,10 +14,9 @@ use Rattle.worth.specs.Worth.{Share}
 use Rattle.worth.specs.Heights.{heightShares, firstHeight, Small}
 use Rattle.worth.specs.Inside.{Lays, OkScale, Ready}
 use Rattle.judge.specs.declared.Play.{Play}
-use Rattle.judge.specs.declared.Play.the-variants.{Child, NoPlay}
 use Rattle.judge.specs.declared.Judged.{Judged}
 use Rattle.judge.specs.declared.Judged.the-variants.{NoDecision, Judged as Told, NoChild}
-use Rattle.judge.specs.Judge.{Side, AtM, AtN, decided, rootOf, children, numbered, Judgement, noDecision, judged, noSuchChild}
+use Rattle.judge.specs.Judge.{Side, AtM, AtN, decided, rootOf, children, numbered, Judgement, noDecision, judged, noSuchChild, playOf}
 use Rattle.judge.specs.Heights.{heightLoss, heightLevels, heightJudgeAt, Ahead}
 
 abbrev pub sideIf : Bool → Side
@@ -36,10 +35,6 @@ pub record Chain (S : List ℕ) (n : ℕ) : Type 0 where
   pub nodes : List ℕ
   pub chained : Chained S n 1 nodes
   pub room : n ≤ length S
-
-abbrev pub playOf : Option ℕ → Play
-playOf none = NoPlay
-playOf (some n) = Child n
 
 abbrev pub Played : List ℕ → ℕ → ℤ → Play → Type 0
 Played S n i r = (C : Chain S n) → r ≡ playOf (numbered i (C .nodes))

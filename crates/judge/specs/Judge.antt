@@ -9,6 +9,8 @@ use lib.Signed.{ltZ}
 use Rattle.table.specs.Tree.{Kind, MAX, MIN, CHANCE, Forest, end, leaf, inner}
 use Rattle.table.specs.Table.{Table, tree, grain}
 use Rattle.worth.specs.Worth.{Share, shares, worthOf}
+use Rattle.judge.specs.declared.Play.{Play}
+use Rattle.judge.specs.declared.Play.the-variants.{Child, NoPlay}
 
 -- the roots at which a play is judged, "at M or N"
 pub data Side : Type 0 where
@@ -56,6 +58,11 @@ worths t = shares (t .head .total) (grain t) (children (tree t))
 -- "The play is either a root child or none": the node number of the root child of number i
 abbrev pub childNode : Table → ℤ → Option ℕ
 childNode t i = numbered i (nodes (children (tree t)))
+
+-- "an answer with cases Child(node) and NoPlay"
+abbrev pub playOf : Option ℕ → Play
+playOf none = NoPlay
+playOf (some n) = Child n
 
 -- "the loss is the exact worth minus the child's at M, the child's minus the exact worth at N"
 abbrev pub lossAt : Side → (exact worth : ℤ) → ℤ

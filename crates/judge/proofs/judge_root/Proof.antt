@@ -6,8 +6,8 @@ use borrow.Author.Needs.{needs}
 use denote.Ref.{now}
 use mir.Syntax.{w64}
 use mir.ValLaws.{toZ-ofZ}
-use Rattle.judge.specs.Judge.{numbered}
-use Rattle.judge.specs.Inside.{sideIf, playOf, Room, Decided}
+use Rattle.judge.specs.Judge.{numbered, playOf}
+use Rattle.judge.specs.Inside.{sideIf, Room, Decided}
 use Rattle.judge.proofs.Run.{part-ready, part-worth}
 use Rattle.judge.proofs.Root.{height, room-of, chain-of, best-of, under-of, level-of, Found, found, found-ahead, well-none, well-lost}
 use Rattle.judge.proofs.judge_root.Statement.{statement}
