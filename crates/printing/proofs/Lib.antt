@@ -1,0 +1,5 @@
+pub mod Stores
+pub mod Sizes
+pub mod Marks
+pub mod Children
+pub mod Found
