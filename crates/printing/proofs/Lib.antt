@@ -3,3 +3,4 @@ pub mod Sizes
 pub mod Marks
 pub mod Children
 pub mod Found
+pub mod Fitted
