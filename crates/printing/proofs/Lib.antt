@@ -4,3 +4,5 @@ pub mod Marks
 pub mod Children
 pub mod Found
 pub mod Fitted
+pub mod Front
+pub mod Worked
