@@ -9,7 +9,7 @@ fn skip_some() -> bool {
     libc::read(STDIN_FILENO, &mut rest) > 0
 }
 
-// An input that is too long is read on and dropped, so that its writer can end. No run is endless: this stops after a gigabyte.
+// An input that is too long is read on and dropped, so that its writer can end. An endless one is left after 16,384 reads.
 fn skip_rest() {
     let mut turns: u64 = 16384;
     while turns > 0 && skip_some() {

@@ -57,9 +57,10 @@ refusal-size r = rows-size (refusalRows r) (count-columns (numberOf r), (count-c
 
 pub bounds-size : (b : Bounds) (play : ℕ) → Narrow b play → length (printed (boundRows b play)) ≡ 110
 bounds-size b play h =
-    rows-size (boundRows b play)
-    (few-columns (b .low) 14 (omega arith) (h .low),
-    (few-columns (b .high) 14 (omega arith) (h .high), (count-columns (b .grain), (count-columns play, (count-columns (b .leaves), tt)))))
+    rows-size (boundRows b play) (
+      few-columns (b .low) 14 (omega arith) (h .low),
+      (few-columns (b .high) 14 (omega arith) (h .high), (count-columns (b .grain), (count-columns play, (count-columns (b .leaves), tt)))),
+    )
 
 -- the five rows and a row for each leaf
 pub found-size : (b : Bounds) (play : ℕ) (ns : List ℕ) → Narrow b play → length (printed (boundRows b play ++ map leafRow ns)) ≡ 110 + 22 * length ns

@@ -25,9 +25,9 @@ pub sets-more : (l xs : List ℕ) (i j : ℕ) → j < length xs → set (sets l 
 sets-more l xs i j h =
     let e : i + length (take j xs) ≡ i + j = ap (λ (k : ℕ). i + k) (length-take-le j xs (omega arith)) in
     sym (
-      ap (sets l i) (ap (λ (k : ℕ). take k xs) (add-one j) ∙ take-suc xs j 0 h)
-      ∙ sets-append l i (take j xs) (getD xs j 0 ∷ [])
-      ∙ ap (λ (k : ℕ). set (sets l i (take j xs)) k (getD xs j 0)) e
+    ap (sets l i) (ap (λ (k : ℕ). take k xs) (add-one j) ∙ take-suc xs j 0 h)
+    ∙ sets-append l i (take j xs) (getD xs j 0 ∷ [])
+    ∙ ap (λ (k : ℕ). set (sets l i (take j xs)) k (getD xs j 0)) e
     )
 
 -- ---- a row
@@ -58,9 +58,9 @@ module _ (d word : List ℕ) (at : ℕ) (z : ℤ) (room : at + 22 ≤ length d) 
   number-stored l e =
       let j = justified-size z h in
       sym (
-        sets-eq (justified 15 (textOf z)) l (at + 6) (omega (arith, j, e, room))
-        ∙ ap (λ (k : ℕ). take (at + 6) l ++ justified 15 (textOf z) ++ drop (at + 6 + k) l) j
-        ∙ append-assoc (take (at + 6) l) (justified 15 (textOf z)) (drop (at + 6 + 15) l)
+      sets-eq (justified 15 (textOf z)) l (at + 6) (omega (arith, j, e, room))
+      ∙ ap (λ (k : ℕ). take (at + 6) l ++ justified 15 (textOf z) ++ drop (at + 6 + k) l) j
+      ∙ append-assoc (take (at + 6) l) (justified 15 (textOf z)) (drop (at + 6 + 15) l)
       )
 
   pub row-stored : set (written (sets d at word) (at + 6) 15 z) (at + 21) 10 ≡ sets d at (rowOf word z)
@@ -69,11 +69,11 @@ module _ (d word : List ℕ) (at : ℕ) (z : ℤ) (room : at + 22 ≤ length d) 
       let a : at + length word ≡ at + 6 = ap (λ (k : ℕ). at + k) w in
       let b : at + 6 + length (justified 15 (textOf z)) ≡ at + 21 = omega (arith, j) in
       sym (
-        sets-append d at word (justified 15 (textOf z) ++ (10 ∷ []))
-        ∙ ap (λ (k : ℕ). sets (sets d at word) k (justified 15 (textOf z) ++ (10 ∷ []))) a
-        ∙ sets-append (sets d at word) (at + 6) (justified 15 (textOf z)) (10 ∷ [])
-        ∙ ap (λ (k : ℕ). set (sets (sets d at word) (at + 6) (justified 15 (textOf z))) k 10) b
-        ∙ ap (λ (l : List ℕ). set l (at + 21) 10) (sym (number-stored (sets d at word) (length-sets d at word)))
+      sets-append d at word (justified 15 (textOf z) ++ (10 ∷ []))
+      ∙ ap (λ (k : ℕ). sets (sets d at word) k (justified 15 (textOf z) ++ (10 ∷ []))) a
+      ∙ sets-append (sets d at word) (at + 6) (justified 15 (textOf z)) (10 ∷ [])
+      ∙ ap (λ (k : ℕ). set (sets (sets d at word) (at + 6) (justified 15 (textOf z))) k 10) b
+      ∙ ap (λ (l : List ℕ). set l (at + 21) 10) (sym (number-stored (sets d at word) (length-sets d at word)))
       )
 
 -- ---- rows
@@ -103,12 +103,12 @@ unfolding printed
 leaf-stored d ns at i h =
     let size : at + length (printed (map leafRow (take i ns))) ≡ at + 22 * i = omega (arith, leaves-size (take i ns), length-take-le i ns (omega arith)) in
     sym (
-      ap (λ (l : List ℕ). sets d at (printed (map leafRow l))) (ap (λ (k : ℕ). take k ns) (add-one i) ∙ take-suc ns i 0 h)
-      ∙ ap (λ (l : List Row). sets d at (printed l)) (map-append (take i ns) (getD ns i 0 ∷ []))
-      ∙ ap (sets d at) (printed-append (map leafRow (take i ns)) (leafRow (getD ns i 0) ∷ []))
-      ∙ ap (λ (l : List ℕ). sets d at (printed (map leafRow (take i ns)) ++ l)) (append-nil (rowOf (columns Leaf) (pos (getD ns i 0))))
-      ∙ sets-append d at (printed (map leafRow (take i ns))) (rowOf (columns Leaf) (pos (getD ns i 0)))
-      ∙ ap (λ (k : ℕ). sets (sets d at (printed (map leafRow (take i ns)))) k (rowOf (columns Leaf) (pos (getD ns i 0)))) size
+    ap (λ (l : List ℕ). sets d at (printed (map leafRow l))) (ap (λ (k : ℕ). take k ns) (add-one i) ∙ take-suc ns i 0 h)
+    ∙ ap (λ (l : List Row). sets d at (printed l)) (map-append (take i ns) (getD ns i 0 ∷ []))
+    ∙ ap (sets d at) (printed-append (map leafRow (take i ns)) (leafRow (getD ns i 0) ∷ []))
+    ∙ ap (λ (l : List ℕ). sets d at (printed (map leafRow (take i ns)) ++ l)) (append-nil (rowOf (columns Leaf) (pos (getD ns i 0))))
+    ∙ sets-append d at (printed (map leafRow (take i ns))) (rowOf (columns Leaf) (pos (getD ns i 0)))
+    ∙ ap (λ (k : ℕ). sets (sets d at (printed (map leafRow (take i ns)))) k (rowOf (columns Leaf) (pos (getD ns i 0)))) size
     )
 
 -- ---- one row after another

@@ -101,9 +101,10 @@ returns c =
     let output : List ℕ = now (s .args .output) in
     let P : List ℕ = outputOf (input-of R) in
     let count : L .least2 .result ≡ min (length P) (length output) = L .least2 .ensures ∙ ap (λ (n : ℕ). min n (length output)) (bytes-are R) in
-    let fits : length P ≤ length blank = omega (arith, bytes-are R, R .print-search .ensures .0) in
-    (count,
-    C .copy-in .ensures ∙ ap (λ (l : List ℕ). sets output 0 (take (L .least2 .result) l)) (text-is R) ∙ copied P blank output (L .least2 .result) fits count)
+    let fits : length P ≤ length blank = omega (arith, bytes-are R, R .print-search .ensures .0) in (
+      count,
+      C .copy-in .ensures ∙ ap (λ (l : List ℕ). sets output 0 (take (L .least2 .result) l)) (text-is R) ∙ copied P blank output (L .least2 .result) fits count,
+    )
 
 pub answer-spec : {M : Type 1} → statement M
 answer-spec =

@@ -41,7 +41,7 @@ loop-again c =
     let t = c .before .loop-test .taken in (
       omega (arith, t),
       ap (λ (l : List ℕ). set l (a .at + L .loop .i) (getD (now (a .from)) (L .loop .i) 0)) (L .loop .inv .1)
-      ∙ sets-more (now (a .to)) (now (a .from)) (a .at) (L .loop .i) t,
+          ∙ sets-more (now (a .to)) (now (a .from)) (a .at) (L .loop .i) t,
       length-set (L .loop .to) (a .at + L .loop .i) (getD (now (a .from)) (L .loop .i) 0) ∙ L .loop .inv .2,
     )
 

@@ -110,8 +110,10 @@ returns c =
     let e = told-refused S (r .0 .0) (r .1) in
     let d : List ℕ = now (start-of S .args .text) in (
       omega (arith, P .put-refusal .ensures .0, refusal-size (r .0 .0)),
-      (P .put-refusal .ensures .0 ∙ ap (λ (v : Verdict Sought). length (printed (rowsOf v))) (sym e),
-      P .put-refusal .ensures .1 ∙ ap (λ (v : Verdict Sought). sets d 0 (printed (rowsOf v))) (sym e)),
+      (
+        P .put-refusal .ensures .0 ∙ ap (λ (v : Verdict Sought). length (printed (rowsOf v))) (sym e),
+        P .put-refusal .ensures .1 ∙ ap (λ (v : Verdict Sought). sets d 0 (printed (rowsOf v))) (sym e),
+      ),
     )
 
 same-length-2 : tie.Need-same-length-2
@@ -132,8 +134,10 @@ returns-2 c =
     ∙ rows (table-of S) (margin-of S) 1024 s q k (marked M s p) (replicate 1024 0)
     ∙ ap rowsOf (sym q) in (
       F .put-found .ensures .0,
-      (F .put-found .ensures .1 .0 ∙ ap (λ (l : List Row). length (printed l)) same,
-      F .put-found .ensures .1 .1 ∙ ap (λ (l : List Row). sets d 0 (printed l)) same),
+      (
+        F .put-found .ensures .1 .0 ∙ ap (λ (l : List Row). length (printed l)) same,
+        F .put-found .ensures .1 .1 ∙ ap (λ (l : List Row). sets d 0 (printed l)) same,
+      ),
     )
 
 pub print-search-spec : {M : Type 1} → statement M

@@ -42,10 +42,12 @@ returns c =
     let narrow = s .pre .1 in
     let long : length ns ≡ b .leaves = length-take-le (b .leaves) (now (s .args .leaves)) (s .pre .2) in (
       omega (arith, narrow .leaves),
-      (sym (found-size b play ns narrow ∙ ap (λ (k : ℕ). 110 + 22 * k) long),
-      then d (B .put-bounds .last .0) (L .put-leaves .last .0) 0 110 (printed (boundRows b play)) (printed (map leafRow ns))
-      (B .put-bounds .ensures) (ap (λ (k : ℕ). 0 + k) (bounds-size b play narrow)) (L .put-leaves .ensures)
-      ∙ ap (sets d 0) (sym (printed-append (boundRows b play) (map leafRow ns)))),
+      (
+        sym (found-size b play ns narrow ∙ ap (λ (k : ℕ). 110 + 22 * k) long),
+        then d (B .put-bounds .last .0) (L .put-leaves .last .0) 0 110 (printed (boundRows b play)) (printed (map leafRow ns))
+            (B .put-bounds .ensures) (ap (λ (k : ℕ). 0 + k) (bounds-size b play narrow)) (L .put-leaves .ensures)
+            ∙ ap (sets d 0) (sym (printed-append (boundRows b play) (map leafRow ns))),
+      ),
     )
 
 pub put-found-spec : {M : Type 1} → statement M

@@ -57,8 +57,8 @@ loop-again c =
     let t = P .before .before .before .loop-test .taken in (
       omega (arith, t),
       P .put-leaf .ensures
-      ∙ ap (λ (l : List ℕ). sets l (110 + 22 * i) (rowOf (columns Leaf) (pos (getD (now (a .leaves)) i 0)))) (L .loop .inv .1)
-      ∙ leaf-stored (now (a .text)) (now (a .leaves)) 110 i (omega (arith, t, L .before .before .before .pre .1)),
+          ∙ ap (λ (l : List ℕ). sets l (110 + 22 * i) (rowOf (columns Leaf) (pos (getD (now (a .leaves)) i 0)))) (L .loop .inv .1)
+          ∙ leaf-stored (now (a .text)) (now (a .leaves)) 110 i (omega (arith, t, L .before .before .before .pre .1)),
       P .put-leaf .kept .0 ∙ L .loop .inv .2,
     )
 

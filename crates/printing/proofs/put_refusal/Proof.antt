@@ -51,10 +51,10 @@ returns c =
     let d : List ℕ = now (s .args .text) in (
       sym (refusal-size r),
       then d (P .put-count .last .0) (Q .put-count2 .last .0) 0 22 (rowOf (columns Refuse) (pos (numberOf r))) (rowOf (columns Line) (pos (lineOf r)) ++ printed [])
-      (P .put-count .ensures ∙ ap (λ (n : ℕ). sets d 0 (rowOf (columns Refuse) (pos n))) (N .refusal-number .ensures))
-      (ap (λ (n : ℕ). 0 + n) (row-size (columns Refuse) (pos (numberOf r)) refl (count-columns (numberOf r))))
-      (last-row (P .put-count .last .0) (Q .put-count2 .last .0) 22 (rowOf (columns Line) (pos (lineOf r)))
-      (Q .put-count2 .ensures ∙ ap (λ (n : ℕ). sets (P .put-count .last .0) 22 (rowOf (columns Line) (pos n))) (Q .before .refusal-line .ensures))),
+          (P .put-count .ensures ∙ ap (λ (n : ℕ). sets d 0 (rowOf (columns Refuse) (pos n))) (N .refusal-number .ensures))
+          (ap (λ (n : ℕ). 0 + n) (row-size (columns Refuse) (pos (numberOf r)) refl (count-columns (numberOf r))))
+          (last-row (P .put-count .last .0) (Q .put-count2 .last .0) 22 (rowOf (columns Line) (pos (lineOf r)))
+          (Q .put-count2 .ensures ∙ ap (λ (n : ℕ). sets (P .put-count .last .0) 22 (rowOf (columns Line) (pos n))) (Q .before .refusal-line .ensures))),
     )
 
 pub put-refusal-spec : {M : Type 1} → statement M
