@@ -18,7 +18,8 @@ fn skip_rest() {
 }
 
 fn main() {
-    // 15 bytes, the 25,625 of the longest table, and one more, which refuses it: what follows changes nothing (printing, `front`)
+    // 15 bytes, the 25,625 of the longest table, and one more, which refuses it; no answer is longer than `output`. That neither leaves
+    // anything out is proved in printing (`front`, `output-fits`).
     let mut input = [0u8; 25641];
     let mut output = [0u8; 22638];
     let n = io::read_full(STDIN_FILENO, &mut input);

@@ -4,5 +4,6 @@ pub mod Marks
 pub mod Children
 pub mod Found
 pub mod Fitted
+pub mod Program
 pub mod Front
 pub mod Worked
