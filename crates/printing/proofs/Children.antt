@@ -1,5 +1,5 @@
 -- The place of a root child, counted by the parents in the lines of an accepted table. Assumes nothing.
-use Prim.Native.Nat.{ℕ, zero, suc, _+_, _-_, _*_, _/_, _≤_, _<_}
+use Prim.Native.Nat.{ℕ, zero, suc, _+_, _-_, _*_, _≤_, _<_}
 use mathlib.Core.Path.{_≡_, refl, sym, ap, ap₂, subst, _∙_}
 use mathlib.Core.Bool.{Bool, true, false, cond}
 use mathlib.Core.List.{List, [], _∷_, _++_, map, append-nil}
@@ -7,7 +7,7 @@ use mathlib.Core.Option.{Option, none, some}
 use native.Mathlib.Omega.{arith}
 use borrow.Author.Tests.{eqb-true}
 use lib.Dec.{eqb, eqb·suc-zero}
-use lib.ListN.{length, getD, getElem?, take, drop, length-map}
+use lib.ListN.{length, getD, take, drop, length-map}
 use lib.Seq.{take-suc, take-append-add, drop-drop}
 use lib.IntN.{ℤ, pos, _*ℤ_}
 use Rattle.field.specs.Field.{fieldOf}
@@ -17,7 +17,7 @@ use Rattle.line.specs.Refusal.{fine}
 use Rattle.line.specs.Line.{Step, Above, Placed, ancestors, stepsOf, stepped, letterCode, entryOf, lineChecks, placed, nodeLine, countOf}
 use Rattle.line.proofs.Fine.{unless-fine}
 use Rattle.line.proofs.Signs.{true-ne-false}
-use Rattle.table.specs.Tree.{Kind, Forest, end, leaf, inner}
+use Rattle.table.specs.Tree.{Forest, end, leaf, inner}
 use Rattle.table.specs.Table.{Table, prefix, nodeLines, tree, count, readText, grain}
 use Rattle.table.specs.Accepted.{flat, one, Rooted}
 use Rattle.table.proofs.Grown.{next-fine}
@@ -29,7 +29,7 @@ use Rattle.judge.specs.Judge.{children, nodes, numbered}
 use Rattle.worth.specs.Worth.{shares, value}
 use Rattle.search.specs.Whole.{worthAt, playWorth}
 use Rattle.printing.specs.Program.{place}
-use Rattle.printing.specs.Inside.{childMark, childMarks}
+use Rattle.printing.specs.Inside.{childMarks}
 
 abbrev parentOf : Line → ℕ
 parentOf l = l .parent

@@ -1,31 +1,28 @@
 -- What the search's answer tells of its table: the numbers fit their columns, and the play has its line. Assumes nothing.
-use Prim.Native.Nat.{ℕ, zero, suc, _+_, _*_, _^_, _≤_, _<_}
+use Prim.Native.Nat.{ℕ, _+_, _^_, _≤_, _<_}
 use mathlib.Core.Path.{_≡_, refl, sym, ap, ap₂, subst, _∙_}
 use mathlib.Core.Bool.{Bool, true, false, cond}
 use mathlib.Core.List.{List, [], _∷_, _++_, map}
 use mathlib.Core.Option.{Option, none, some}
 use native.Mathlib.Nat.{le-trans}
 use native.Mathlib.Omega.{arith}
-use lib.Dec.{eqb, ltb}
+use lib.Dec.{ltb}
 use lib.ListN.{length, take, drop}
 use lib.Seq.{take-append-seam}
 use lib.IntN.{ℤ, pos, negsuc, natAbs, _+ℤ_, _*ℤ_}
 use lib.Signed.{mag}
-use Rattle.field.specs.Field.{fieldOf}
 use Rattle.line.specs.declared.Refusal.{Refusal}
 use Rattle.line.specs.declared.Refusal.the-variants.{NoRoom, BadMargin}
-use Rattle.line.specs.Refusal.{Verdict, refused, fine, Check, unless, next, lineOf}
-use Rattle.line.specs.Line.{toNat, countOf}
+use Rattle.line.specs.Refusal.{Verdict, refused, fine, unless, lineOf}
+use Rattle.line.specs.Line.{toNat}
 use Rattle.line.proofs.Fine.{unless-fine}
 use Rattle.line.proofs.Signs.{mag-abs}
 use Rattle.table.specs.Tree.{leaves}
 use Rattle.table.specs.Table.{Table, readText, tree, grain}
 use Rattle.table.specs.Slices.{laid}
-use Rattle.table.proofs.Grown.{next-fine}
 use Rattle.table.proofs.Places.{refused-line}
 use Rattle.table.proofs.Accepted.{accepted-ranged, accepted-size, accepted-grain, accepted-leaves, accepted-leaf-lines}
 use Rattle.worth.proofs.Worth.{span-grains}
-use Rattle.judge.specs.declared.Play.{Play}
 use Rattle.judge.specs.Judge.{children, nodes, numbered}
 use Rattle.judge.specs.Inside.{playOf}
 use Rattle.search.specs.Search.{Seen, nodeOf}
@@ -33,10 +30,10 @@ use Rattle.search.specs.Whole.{searched}
 use Rattle.search.proofs.Demand.{heights-hold, heights-order, shifted, play-near, play-small, reads-few}
 use Rattle.engine.specs.declared.Bounds.{Bounds}
 use Rattle.engine.specs.declared.Bounded.the-variants.{Found, Refused}
-use Rattle.engine.specs.Calls.{badMargin, Sought, sought, boundsOf, searchAnswer, searchList}
+use Rattle.engine.specs.Calls.{badMargin, Sought, sought, boundsOf, searchAnswer}
 use Rattle.engine.proofs.Sums.{few-digits}
-use Rattle.printing.specs.Program.{Row, place, playNumber, leafRow, rowsOf}
-use Rattle.printing.specs.Inside.{childMark, childMarks, Lined, playMarks, Narrow, boundRows}
+use Rattle.printing.specs.Program.{playNumber, leafRow, rowsOf}
+use Rattle.printing.specs.Inside.{Lined, playMarks, Narrow, boundRows}
 use Rattle.printing.proofs.Marks.{marks-few}
 use Rattle.printing.proofs.Children.{child-place, child-numbered}
 

@@ -1,14 +1,13 @@
 -- What stands past the longest input that can be accepted changes nothing: the program need not keep it. Assumes nothing.
-use Prim.Native.Nat.{ℕ, _-_, _≤_, _<_, _%_}
+use Prim.Native.Nat.{ℕ, _<_, _%_}
 use mathlib.Core.Path.{_≡_, refl, sym, ap, _∙_}
 use mathlib.Core.Bool.{Bool, true, false, not, _||_}
 use mathlib.Core.List.{List}
 use native.Mathlib.Omega.{arith}
 use borrow.Author.Tests.{lt-ltb, ltb-true, ltb-false}
 use lib.Dec.{eqb, ltb}
-use lib.ListN.{length, take, drop, length-drop}
+use lib.ListN.{length, take, length-drop}
 use lib.Seq.{take-all, length-take-le}
-use lib.IntN.{ℤ}
 use Rattle.line.specs.declared.Refusal.the-variants.{Length}
 use Rattle.line.specs.Refusal.{Verdict, refused}
 use Rattle.table.specs.Table.{Table, readText}

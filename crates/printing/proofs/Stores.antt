@@ -1,16 +1,15 @@
 -- Bytes stored one after another, and the bytes of a row. Assumes nothing.
-use Prim.Native.Nat.{ℕ, zero, suc, _+_, _-_, _*_, _/_, _≤_, _<_, min}
-use mathlib.Core.Path.{_≡_, refl, sym, ap, subst, _∙_}
+use Prim.Native.Nat.{ℕ, zero, suc, _+_, _*_, _/_, _≤_, _<_}
+use mathlib.Core.Path.{_≡_, refl, sym, ap, _∙_}
 use mathlib.Core.List.{List, [], _∷_, _++_, map, append-assoc, append-nil}
 use native.Mathlib.Omega.{arith}
-use native.Mathlib.Nat.{add-suc, suc-add, add-zero}
+use native.Mathlib.Nat.{add-zero}
 use native.Mathlib.Numerals.{add-one}
 use lib.Dec.{eqb·suc-zero}
-use lib.ListN.{length, getD, set, take, drop, replicate, length-append, length-replicate, length-take}
+use lib.ListN.{length, getD, set, take, drop, length-append, length-replicate}
 use lib.Seq.{sets, sets-eq, length-sets, take-suc, length-take-le}
 use lib.IntN.{ℤ, pos}
-use Rattle.field.specs.Field.{leading, decimal, textOf, justified, written, digit}
-use Rattle.table.specs.Slices.{laid, fitted}
+use Rattle.field.specs.Field.{leading, textOf, justified, written, digit}
 use Rattle.printing.specs.Program.{Row, Leaf, columns, rowOf, printed, leafRow}
 
 -- one run of stores after another

@@ -1,6 +1,6 @@
 // The margin program's answer: the bytes that it prints for the bytes that it reads.
 ghost use mathlib.Core.Path.{_≡_};
-ghost use mathlib.Core.List.{List, map, _++_};
+ghost use mathlib.Core.List.{map, _++_};
 ghost use Prim.Native.Nat.{_+_, _*_, _<_, _≤_, _^_, min};
 ghost use lib.ListN.{length, take};
 ghost use lib.Seq.{sets};
@@ -147,7 +147,7 @@ fn put_leaves(text: &mut [u8], leaves: &[u16], count: usize)
     }
 }
 
-// Each of the two gives the number of bytes.
+// The lines of an answer, and those of a refusal: each call gives their number of bytes.
 fn put_found(text: &mut [u8], b: Bounds, play: usize, leaves: &[u16]) -> usize
     requires { ⌜ (22638 ≤ length (now text)) × Narrow b play × (b .leaves ≤ length (now leaves)) ⌝ }
     ensures room { λ r. ⌜ r ≤ 22638 ⌝ }

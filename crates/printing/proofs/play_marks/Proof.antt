@@ -1,13 +1,12 @@
 -- `printing::play_marks` meets its contract. Assumes nothing.
 use Prim.Native.Nat.{ℕ, _+_, _-_, _*_, _≤_}
-use mathlib.Core.Path.{_≡_, refl, sym, ap, subst, _∙_}
+use mathlib.Core.Path.{_≡_, sym, ap, subst, _∙_}
 use mathlib.Core.List.{List}
 use native.Mathlib.Omega.{arith}
 use borrow.Author.Needs.{needs}
 use denote.Ref.{now}
 use lib.ListN.{length, take, drop, length-drop}
 use Rattle.field.proofs.Reading.{from-on}
-use Rattle.judge.specs.declared.Play.{Play}
 use Rattle.printing.specs.Inside.{childMarks, Lined, playMarks}
 use Rattle.printing.proofs.play_marks.Statement.{statement}
 use Rattle.printing.proofs.play_marks.Tie as tie

@@ -1,7 +1,7 @@
 -- `printing::put_bounds` meets its contract. Assumes nothing.
 use Prim.Native.Nat.{ℕ, _+_, _^_, _≤_, _<_}
-use mathlib.Core.Path.{_≡_, refl, sym, ap, _∙_}
-use mathlib.Core.List.{List, [], _∷_, _++_}
+use mathlib.Core.Path.{refl, ap, _∙_}
+use mathlib.Core.List.{List, [], _++_}
 use native.Mathlib.Omega.{arith}
 use borrow.Author.Needs.{needs}
 use denote.Ref.{now}
@@ -15,7 +15,6 @@ use Rattle.field.proofs.Bits.{back}
 use Rattle.field.proofs.Width.{few-columns}
 use Rattle.engine.specs.declared.Bounds.{Bounds}
 use Rattle.printing.specs.Program.{Low, High, Grain, Play, Leaves, columns, rowOf, printed}
-use Rattle.printing.specs.Inside.{boundRows}
 use Rattle.printing.proofs.Stores.{count-columns, row-size, then, last-row}
 use Rattle.printing.proofs.put_bounds.Statement.{statement}
 use Rattle.printing.proofs.put_bounds.Tie as tie

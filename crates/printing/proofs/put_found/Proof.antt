@@ -1,14 +1,14 @@
 -- `printing::put_found` meets its contract. Assumes nothing.
-use Prim.Native.Nat.{ℕ, _+_, _*_, _≤_}
-use mathlib.Core.Path.{_≡_, refl, sym, ap, _∙_}
-use mathlib.Core.List.{List, _++_, map}
+use Prim.Native.Nat.{ℕ, _+_, _*_}
+use mathlib.Core.Path.{_≡_, sym, ap, _∙_}
+use mathlib.Core.List.{List, map}
 use native.Mathlib.Omega.{arith}
 use borrow.Author.Needs.{needs}
 use denote.Ref.{now}
 use lib.ListN.{length, take}
 use lib.Seq.{sets, length-take-le}
 use Rattle.engine.specs.declared.Bounds.{Bounds}
-use Rattle.printing.specs.Program.{Row, printed, leafRow}
+use Rattle.printing.specs.Program.{printed, leafRow}
 use Rattle.printing.specs.Inside.{boundRows}
 use Rattle.printing.proofs.Stores.{then, printed-append}
 use Rattle.printing.proofs.Sizes.{bounds-size, found-size}

@@ -1,17 +1,15 @@
 -- `printing::put_refusal` meets its contract. Assumes nothing.
-use Prim.Native.Nat.{ℕ, _+_, _≤_, _<_}
-use mathlib.Core.Path.{_≡_, refl, sym, ap, _∙_}
-use mathlib.Core.List.{List, [], _∷_, _++_}
+use Prim.Native.Nat.{ℕ, _+_}
+use mathlib.Core.Path.{refl, sym, ap, _∙_}
+use mathlib.Core.List.{List, [], _++_}
 use native.Mathlib.Omega.{arith}
 use borrow.Author.Needs.{needs}
 use denote.Ref.{now}
 use lib.IntN.{pos}
-use lib.ListN.{length}
 use lib.Seq.{sets}
 use Rattle.line.specs.declared.Refusal.{Refusal}
 use Rattle.line.specs.Refusal.{numberOf, lineOf}
 use Rattle.printing.specs.Program.{Refuse, Line, columns, rowOf, printed}
-use Rattle.printing.specs.Inside.{refusalRows}
 use Rattle.printing.proofs.Stores.{count-columns, row-size, then, last-row}
 use Rattle.printing.proofs.Sizes.{number-few, refusal-size}
 use Rattle.printing.proofs.put_refusal.Statement.{statement}
