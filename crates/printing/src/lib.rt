@@ -68,10 +68,10 @@ fn child_marks(lines: &[u8], node: usize) -> usize
     ensures { λ r. ⌜ r ≡ childMarks (now (lines .entry)) node ⌝ }
 {
     let mut count: usize = 0;
-    let mut i: usize = 0;
-    while i < node {
-        i += 1;
-        count = count + child_mark(&lines[25 * i..25 * i + 25]);
+    let mut seen: usize = 0;
+    while seen < node {
+        seen += 1;
+        count = count + child_mark(&lines[25 * seen..25 * seen + 25]);
     }
     count
 }
