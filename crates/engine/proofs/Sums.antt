@@ -44,8 +44,11 @@ module _ (z : ℤ) (g h : ℕ) (hz : mag z ≤ 1000000) (hg : g ≤ 16777216) (h
       let k : (mag z + 1) * g ≤ 1000001 * 16777216 = mul-le-mul up hg in
       omega (arith, mag-mul z g)
 
+  pub few-digits : mag (z *ℤ pos g +ℤ pos h) < 99999999999999
+  few-digits = omega (arith, product, mag-add (z *ℤ pos g) h)
+
   pub sum : mag (z *ℤ pos g +ℤ pos h) < 2 ^ 63
-  sum = omega (arith, product, mag-add (z *ℤ pos g) h)
+  sum = omega (arith, few-digits)
 
   mul-is : toZ w64 (ofZ w64 z) *ℤ toZ w64 g ≡ z *ℤ pos g
   mul-is = rw (read-back z (omega arith), as-pos g (omega arith))

@@ -109,7 +109,7 @@ spans-lay lo t c e s (inner n w k under rest) x told =
 
 -- ---- the lines that were read
 
-prefix-fine : (done : List Line) (v : Verdict (List Line)) (ls : List Line) → prefix done v ≡ fine ls
+pub prefix-fine : (done : List Line) (v : Verdict (List Line)) (ls : List Line) → prefix done v ≡ fine ls
     → (rest : List Line) × (v ≡ fine rest) × (ls ≡ done ++ rest)
 prefix-fine done (refused r) ls e = fine-refused r ls e
 prefix-fine done (fine rest) ls e = (rest, refl, cc)
@@ -227,7 +227,7 @@ completed a t e =
     let (b, p, q) = next-fine (unlessAt f (childless (tree a)) a) (λ (t : Table). unlessAt g (unbalanced (t .head .total) (tree t)) t) t e in
     unlessAt-fine f (childless (tree a)) a b p .1 ∙ unlessAt-fine g (unbalanced (b .head .total) (tree b)) b t q .1
 
-lines-read : (s : List ℕ) (t : Table) → readText s ≡ fine t → nodeLines (t .head) (count s) 0 [] (drop 25 s) ≡ fine (t .lines)
+pub lines-read : (s : List ℕ) (t : Table) → readText s ≡ fine t → nodeLines (t .head) (count s) 0 [] (drop 25 s) ≡ fine (t .lines)
 unfolding readText
 lines-read s t e = go (badLength (length s)) e
   where

@@ -1,0 +1,9 @@
+pub mod Stores
+pub mod Sizes
+pub mod Marks
+pub mod Children
+pub mod Found
+pub mod Fitted
+pub mod Program
+pub mod Front
+pub mod Worked
