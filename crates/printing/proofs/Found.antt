@@ -24,7 +24,7 @@ use Rattle.table.proofs.Places.{refused-line}
 use Rattle.table.proofs.Accepted.{accepted-ranged, accepted-size, accepted-grain, accepted-leaves, accepted-leaf-lines}
 use Rattle.worth.proofs.Worth.{span-grains}
 use Rattle.judge.specs.Judge.{children, nodes, numbered}
-use Rattle.judge.specs.Inside.{playOf}
+use Rattle.judge.specs.Judge.{playOf}
 use Rattle.search.specs.Search.{Seen, nodeOf}
 use Rattle.search.specs.Whole.{searched}
 use Rattle.search.proofs.Demand.{heights-hold, heights-order, shifted, play-near, play-small, reads-few}

@@ -1,6 +1,6 @@
 -- `printing::child_mark` meets its contract. Assumes nothing.
-use Prim.Native.Nat.{ℕ}
-use mathlib.Core.Path.{_≡_, sym, ap, _∙_}
+use Prim.Native.Nat.{ℕ, _^_, _≤_}
+use mathlib.Core.Path.{_≡_, refl, sym, ap, _∙_}
 use mathlib.Core.Bool.{Bool, cond}
 use mathlib.Core.List.{List}
 use native.Mathlib.Omega.{arith}
@@ -9,12 +9,16 @@ use borrow.Author.Tests.{ne-eqb}
 use denote.Ref.{now}
 use lib.Dec.{eqb}
 use lib.IntN.{ℤ}
+use lib.Signed.{mag}
 use mir.Syntax.{w64}
 use mir.Val.{toZ, ofZ}
 use mir.ValLaws.{toZ-ofZ}
 use Rattle.field.specs.Field.{fieldOf}
+use Rattle.field.specs.declared.Field.{Field}
+use Rattle.field.specs.declared.Field.the-variants.{Blank, Ill, Number}
+use Rattle.field.proofs.Small.{small}
 use Rattle.line.specs.Line.{toNat, valueOf, countOf}
-use Rattle.worth.proofs.Codes.{value-small}
+use Rattle.line.proofs.Signs.{mag-abs}
 use Rattle.printing.proofs.child_mark.Statement.{statement}
 use Rattle.printing.proofs.child_mark.Tie as tie
 
@@ -27,13 +31,19 @@ value-requires c κs = search needs
 natural-requires : tie.Need-natural-requires
 natural-requires c κs = search needs
 
+-- the number in `width` columns
+value-mag : (s : List ℕ) (from width : ℕ) (f : Field) → fieldOf s from width ≡ f → mag (valueOf f) ≤ 10 ^ width
+value-mag s from width Blank e = omega arith
+value-mag s from width Ill e = omega arith
+value-mag s from width (Number z) e = omega (arith, small s from width z e, mag-abs z)
+
 parent-is : (N : tie.After-natural) → N .natural .result ≡ countOf (fieldOf (now (N .before .before .before .before .args .line)) 6 5)
 parent-is N =
     let s : List ℕ = now (N .before .before .before .before .args .line) in
     N .natural .ensures
     ∙ ap toNat
     (ap (λ (z : ℤ). toZ w64 (ofZ w64 z)) (N .before .value .ensures ∙ ap valueOf (N .before .before .read .ensures))
-    ∙ toZ-ofZ w64 (valueOf (fieldOf s 6 5)) (sfits-of (omega (arith, value-small s 6 5))))
+    ∙ toZ-ofZ w64 (valueOf (fieldOf s 6 5)) (sfits-of (omega (arith, value-mag s 6 5 (fieldOf s 6 5) refl))))
 
 returns : tie.Need-returns
 returns c = ap (λ (n : ℕ). cond (eqb n 0) 1 0) (sym (c .if1 .taken) ∙ parent-is (c .before))
