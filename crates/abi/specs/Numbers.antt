@@ -16,7 +16,7 @@ use Rattle.engine.specs.declared.Opinion.{Opinion}
 use Rattle.engine.specs.declared.Bounds.{Bounds}
 use Rattle.engine.specs.declared.Bounded
 use Rattle.engine.specs.declared.Bounded.{Bounded}
-use Rattle.engine.specs.Calls.{exactNumber, exactLine, judgeNumber, judgeLine, searchNumber, searchLine, turnNumber, turnLine}
+use Rattle.engine.specs.Calls.{exactNumber, exactLine, judgeNumber, judgeLine, searchNumber, searchLine, turnedNumber, turnedLine}
 use Rattle.engine.specs.declared.Turned.{Turned}
 use Rattle.engine.specs.declared.Exact
 use Rattle.engine.specs.declared.Exact.{Exact}
@@ -75,8 +75,8 @@ pub record SmallBounds (b : Bounds) : Type 0 where
   pub grain : b .grain < 2 ^ 63
 
 -- the same of turning
-abbrev pub turnCode : Turned → ℕ
-turnCode t = 100 * turnLine t + turnNumber t
+abbrev pub turnedCode : Turned → ℕ
+turnedCode t = 100 * turnedLine t + turnedNumber t
 
 module _ {A : Type 0} where
   -- the list l with xs written from its entry i on, as far as it goes

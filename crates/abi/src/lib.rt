@@ -8,7 +8,7 @@ ghost use Rattle.line.specs.Refusal.{lineOf};
 ghost use Rattle.table.specs.Table.{readText, answer};
 ghost use Rattle.table.specs.Slices.{laid, fitted, kindsOf, stopsOf, weightsOf, heightsOf, decoded};
 ghost use Rattle.engine.specs.Calls.{exactCall, judgeCall, searchCall, searchReads, turnCall, turnBytes};
-ghost use Rattle.abi.specs.Numbers.{codeOf, numbersOf, worthCode, worthNumbers, judgeCode, judgedNumbers, judgeNumbers, nodeNumber, searchCode, boundsNumbers, searchNumbers, turnCode, put, Small, SmallBounds};
+ghost use Rattle.abi.specs.Numbers.{codeOf, numbersOf, worthCode, worthNumbers, judgeCode, judgedNumbers, judgeNumbers, nodeNumber, searchCode, boundsNumbers, searchNumbers, turnedCode, put, Small, SmallBounds};
 use engine::Bounded;
 use engine::Bounds;
 use engine::Exact;
@@ -199,7 +199,7 @@ pub extern "C" fn margin_search(
 // The turned table's text, as long as the text, goes to the start of `buffer`. Where the call is refused, nothing is written.
 #[no_mangle]
 pub extern "C" fn margin_turn(text: &[u8], buffer: &mut [u8]) -> u64
-    ensures code { λ r. ⌜ r ≡ turnCode (turnCall (readText (now (text .entry))) (length (now (buffer .entry)))) ⌝ }
+    ensures code { λ r. ⌜ r ≡ turnedCode (turnCall (readText (now (text .entry))) (length (now (buffer .entry)))) ⌝ }
     ensures writes { λ _. ⌜ now (buffer .exit) ≡ laid (turnBytes (readText (now (text .entry))) (length (now (buffer .entry)))) (now (buffer .entry)) ⌝ }
 {
     match engine::turn_table(text, buffer) {

@@ -19,13 +19,14 @@ use Rattle.line.specs.Line.{toNat}
 use Rattle.line.proofs.Checks.{or-left}
 use Rattle.table.specs.Tree.{Forest, leaf, inner, kindOf, run, after, forest, grow, leaves}
 use Rattle.table.specs.Table.{Table, tree, readText, grain}
+use Rattle.table.specs.Slices.{laid}
 use Rattle.worth.specs.Worth.{worthOf}
 use Rattle.judge.specs.Judge.{playOf}
 use Rattle.judge.specs.declared.Play.{Play}
 use Rattle.judge.specs.declared.Play.the-variants.{Child, NoPlay}
 use Rattle.turn.specs.Turn.{turnTable, turnedText}
 use Rattle.turn.proofs.Tree.{tree-turned, turn-twice}
-use Rattle.turn.proofs.Accepted.{turned-accepted}
+use Rattle.turn.proofs.Accepted.{turned-accepted, turned-length}
 use Rattle.search.specs.Search.{Seen, nodeOf}
 use Rattle.search.specs.Whole.{searched, playWorth}
 use Rattle.search.specs.Unread.{Alike, alike-end, alike-leaf, alike-inner, ReadBy}
@@ -34,10 +35,11 @@ use Rattle.search.proofs.Demand.{contains, width, play-near}
 use Rattle.search.proofs.Changed as changed
 use Rattle.search.proofs.Turned as mirror
 use Rattle.engine.specs.declared.Bounds.{Bounds}
-use Rattle.engine.specs.declared.Bounded.the-variants.{Found}
+use Rattle.engine.specs.declared.Bounded.the-variants.{Found, Refused}
+use Rattle.engine.specs.declared.Turned
 use Rattle.engine.specs.declared.Exact.the-variants.{Grains}
-use Rattle.engine.specs.Calls.{exactCall, badMargin, boundsOf, searchCall, searchReads, turnOf}
-use Rattle.engine.specs.Demands.{childWorth, Promised, LongEnough, withUtility, SameLines, same-none, same-more, Differ, Mirrors, Answers, Sentence1, Sentence2, Sentence3, TurningTwice}
+use Rattle.engine.specs.Calls.{exactCall, badMargin, Sought, sought, boundsOf, searchAnswer, searchList, searchCall, searchReads, turnOf, turnAnswer, turnWritten}
+use Rattle.engine.specs.Demands.{childWorth, Promised, LongEnough, withUtility, SameLines, same-none, same-more, Differ, Mirrors, Answers, Sentence1, Sentence2, Sentence3, TurnAnswers, TurningTwice, SearchUntouched, TurnUntouched}
 use Rattle.engine.proofs.Answered.{answered, answers, reads}
 use Rattle.engine.proofs.Turning.{turn-fine}
 
@@ -216,3 +218,22 @@ turning-twice s size u w other long =
     let (t, p, text) = turned-of s size u (readText s) refl w in
     let q : readText u ≡ fine (turnTable t) = subst (λ (x : List ℕ). readText x ≡ fine (turnTable t)) text (turned-accepted s t p) in
     turn-fine u (turnTable t) other q long ∙ ap fine (turn-twice s t p)
+
+pub turn-answers : TurnAnswers
+turn-answers s t size p long = (turnedText t, turn-fine s t size p long, turned-length s t p)
+
+-- ---- refused calls
+
+nothing-sought : (v : Verdict Sought) (list : List ℕ) (r : Refusal) → searchAnswer v ≡ Refused r → laid (searchList v) list ≡ list
+nothing-sought (refused x) list r e = refl
+nothing-sought (fine s) list r e = let z : _≡_ {A = ℕ} 0 1 = cc in absurd (omega arith)
+
+pub search-untouched : SearchUntouched
+search-untouched s m list r e = nothing-sought (sought (readText s) m (length list)) list r e
+
+nothing-turned : (v : Verdict (List ℕ)) (buffer : List ℕ) (r : Refusal) → turnAnswer v ≡ Turned.the-variants.Refused r → laid (turnWritten v) buffer ≡ buffer
+nothing-turned (refused x) buffer r e = refl
+nothing-turned (fine s) buffer r e = let z : _≡_ {A = ℕ} 0 1 = cc in absurd (omega arith)
+
+pub turn-untouched : TurnUntouched
+turn-untouched s buffer r e = nothing-turned (turnOf (readText s) (length buffer)) buffer r e

@@ -13,4 +13,4 @@ use Rattle.engine.specs.Rows.{rows, AllTell}
 
 pub all-rows : AllTell rows
 unfolding strip digits wholeField signed unless unlessAt climb run afterRun forest weigh nodesWhere leaves nodeLines complete readText greatest maxZ minZ floorZ largest smallest weighted value shares levels begin finish cut point lower upper beats take stop scan search searchRoot ceilZ downZ upZ gainZ lossZ inGrains
-all-rows = (refl, (refl, (refl, (refl, (refl, (refl, (refl, (refl, (refl, (refl, (refl, tt)))))))))))
+all-rows = (refl, (refl, (refl, (refl, (refl, (refl, (refl, (refl, (refl, (refl, (refl, (refl, tt))))))))))))

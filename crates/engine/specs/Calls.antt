@@ -143,10 +143,10 @@ abbrev pub turnBytes : Verdict Table → ℕ → List ℕ
 turnBytes v room = turnWritten (turnOf v room)
 
 -- document 01's number and line of every answer, 0 where there is no refusal
-abbrev pub turnNumber : Turned → ℕ
-turnNumber (Turned.the-variants.Written n) = 0
-turnNumber (Turned.the-variants.Refused r) = numberOf r
+abbrev pub turnedNumber : Turned → ℕ
+turnedNumber (Turned.the-variants.Written n) = 0
+turnedNumber (Turned.the-variants.Refused r) = numberOf r
 
-abbrev pub turnLine : Turned → ℕ
-turnLine (Turned.the-variants.Written n) = 0
-turnLine (Turned.the-variants.Refused r) = lineOf r
+abbrev pub turnedLine : Turned → ℕ
+turnedLine (Turned.the-variants.Written n) = 0
+turnedLine (Turned.the-variants.Refused r) = lineOf r

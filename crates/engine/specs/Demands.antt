@@ -1,5 +1,5 @@
--- Demand 3 at the public calls, stated over texts. Document 01, 'The search', third paragraph; proofs/Demands.antt has the theorems.
--- Assumes nothing: these are definitions.
+-- Demand 3 at the public calls, stated over texts. Document 01, 'The search', third paragraph, says what its words mean; what is quoted over the
+-- sentences is the demand itself. proofs/Demands.antt has the theorems. Assumes nothing: these are definitions.
 use Prim.Native.Nat.{ℕ, _≤_}
 use mathlib.Core.Path.{_≡_}
 use mathlib.Core.Bool.{true, false}
@@ -9,16 +9,19 @@ use lib.ListN.{length}
 use lib.IntN.{ℤ, negℤ, _+ℤ_}
 use lib.Signed.{leZ}
 use Rattle.line.specs.declared.Line.{Line}
+use Rattle.line.specs.declared.Refusal.{Refusal}
 use Rattle.line.specs.Refusal.{Verdict, refused, fine}
 use Rattle.table.specs.Tree.{leaves}
 use Rattle.table.specs.Table.{Table, tree, readText}
-use Rattle.judge.specs.declared.Play.{Play}
+use Rattle.table.specs.Slices.{laid}
 use Rattle.judge.specs.declared.Play.the-variants.{Child}
 use Rattle.search.specs.Whole.{playWorth}
 use Rattle.engine.specs.declared.Bounds.{Bounds}
+use Rattle.engine.specs.declared.Bounded
 use Rattle.engine.specs.declared.Bounded.the-variants.{Found}
+use Rattle.engine.specs.declared.Turned
 use Rattle.engine.specs.declared.Exact.the-variants.{Grains}
-use Rattle.engine.specs.Calls.{exactCall, badMargin, searchCall, searchReads, turnOf}
+use Rattle.engine.specs.Calls.{exactCall, badMargin, searchCall, searchReads, turnOf, turnCall, turnBytes}
 
 -- ---- the bounds and the play
 
@@ -79,6 +82,7 @@ Answers =
     (s : List ℕ) (t : Table) (m : ℤ) (room : ℕ) → readText s ≡ fine t → badMargin m ≡ false → LongEnough s room
     → (b : Bounds) × (searchCall (readText s) m room ≡ Found b)
 
+-- "the exact worth lies within the two bounds, they differ by at most the margin, the play named is worth within the margin of the exact worth"
 abbrev pub Sentence1 : Type 0
 Sentence1 = (s : List ℕ) (m : ℤ) (room : ℕ) (b : Bounds) → searchCall (readText s) m room ≡ Found b → Promised s m b
 
@@ -106,8 +110,25 @@ Sentence3 =
     × ((z : ℤ) → exactCall (readText s) ≡ Grains z (b .grain) → exactCall (readText u) ≡ Grains (negℤ z) (b .grain))
     × Promised u m c
 
--- "Turning twice restores the text.": u is what turning s writes, and turning u into a buffer with room for it writes s
+-- Turning needs no more than an accepted text and a buffer as long as it, and writes a text of that length.
+abbrev pub TurnAnswers : Type 0
+TurnAnswers =
+    (s : List ℕ) (t : Table) (size : ℕ) → readText s ≡ fine t → length s ≤ size → (u : List ℕ) × (turnOf (readText s) size ≡ fine u) × (length u ≡ length s)
+
+-- document 01: "Turning twice restores the text.": u is what turning s writes, and turning u into a buffer with room for it writes s
 abbrev pub TurningTwice : Type 0
 TurningTwice =
     (s : List ℕ) (size : ℕ) (u : List ℕ) → turnOf (readText s) size ≡ fine u
     → (other : ℕ) → length u ≤ other → turnOf (readText u) other ≡ fine s
+
+-- ---- demand 1: "A refused call changes no byte of what it was lent."
+
+abbrev pub SearchUntouched : Type 0
+SearchUntouched =
+    (s : List ℕ) (m : ℤ) (list : List ℕ) (r : Refusal) → searchCall (readText s) m (length list) ≡ Bounded.the-variants.Refused r
+    → laid (searchReads (readText s) m (length list)) list ≡ list
+
+abbrev pub TurnUntouched : Type 0
+TurnUntouched =
+    (s : List ℕ) (buffer : List ℕ) (r : Refusal) → turnCall (readText s) (length buffer) ≡ Turned.the-variants.Refused r
+    → laid (turnBytes (readText s) (length buffer)) buffer ≡ buffer

@@ -1,5 +1,5 @@
 -- What the contracts of private functions cite; no public promise names these.
-use Prim.Native.Nat.{ℕ, _*_, _≤_}
+use Prim.Native.Nat.{_*_, _≤_}
 use lib.IntN.{ℤ, _-ℤ_}
 use lib.Signed.{mag}
 use Rattle.line.specs.Line.{toNat}

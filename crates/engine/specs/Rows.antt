@@ -49,6 +49,7 @@ rows =
     ∷ record { call = search (pos 12); text = table-b; told = bounds (pos 20) (pos 32) 4 (Child 1) 1 (1 ∷ []) }
     ∷ record { call = search (pos 12); text = turned-b; told = bounds (negsuc 31) (negsuc 19) 4 (Child 1) 1 (1 ∷ []) }
     ∷ record { call = search (pos 0); text = lone-leaf; told = bounds (pos 7) (pos 7) 1 NoPlay 1 (0 ∷ []) }
+    ∷ record { call = search (pos 40000000000000); text = lone-leaf; told = bounds (pos 7) (pos 7) 1 NoPlay 1 (0 ∷ []) }
     ∷ record { call = judge (pos 2); text = table-b; told = opined (Given (Lost 6 1)) }
     ∷ []
 

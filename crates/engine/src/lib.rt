@@ -24,7 +24,7 @@ pub enum Exact {
     Refused(Refusal),
 }
 
-// The judgement, or a table's refusal.
+// The judgement, in which `NoChild` is refusal 14, or a table's refusal.
 pub enum Opinion {
     Given(Judged),
     Refused(Refusal),

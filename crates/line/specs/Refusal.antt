@@ -1,4 +1,4 @@
--- Refusals of a table, 1 to 10, and of a call on an accepted one, 11 and 12. Document 01, 'Refused tables and calls'.
+-- Refusals of a table, 1 to 10, and of a call on an accepted one, 11 and 12; 14 is a case of judging's answer (engine/specs/Calls). Document 01, 'Refused tables and calls'.
 use Prim.Native.Nat.{ℕ}
 use mathlib.Core.Bool.{Bool, cond}
 use mathlib.Core.List.{List, [], _∷_}

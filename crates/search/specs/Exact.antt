@@ -40,6 +40,6 @@ Whole e w r =
     (pos (e .total) *ℤ floorZ (pos w *ℤ (r .low -ℤ e .bottom)) (e .total) ≡ pos w *ℤ (r .low -ℤ e .bottom))
     × (pos (e .total) *ℤ floorZ (pos w *ℤ (e .top -ℤ r .high)) (e .total) ≡ pos w *ℤ (e .top -ℤ r .high))
 
--- "that division never leaves a remainder", of lines 20 and 21 in the search of a table
+-- "Every worth, bound, margin and loss is a whole number of grains": nothing is rounded in lines 20 and 21 of the search of a table
 abbrev pub NoRemainder : Table → ℕ → Type 0
 NoRemainder t ε = EachTakenRoot whole (rules t ε) Whole (inGrains (grain t) (tree t))

@@ -53,7 +53,7 @@ linesOf h n s = next (nodeLines h n 0 [] s) (λ (ls : List Line). complete (reco
 abbrev pub count : List ℕ → ℕ
 count s = length s / 25 - 1
 
--- "Sequence: 1; the header by 2, 3, 4; each node line from the top by 2, 4, 5, 6, 10, 7, 3; then 8 ..; then 9 likewise"
+-- "Sequence: 1; the header by 2, 3, 4; each node line from the top by 2, 4, 5, 6, 10, 7, 3; then 8 .., then 9 likewise"
 unfoldable pub readText : List ℕ → Verdict Table
 readText s =
     cond (badLength (length s)) (refused Length)

@@ -10,7 +10,7 @@ use Rattle.engine.specs.declared.Turned.{Turned}
 use Rattle.engine.specs.declared.Turned.the-variants.{Written, Refused}
 use Rattle.engine.specs.Calls.{turnCall}
 use Rattle.engine.proofs.Turning.{turn-line}
-use Rattle.abi.specs.Numbers.{turnCode}
+use Rattle.abi.specs.Numbers.{turnedCode}
 use Rattle.abi.proofs.margin_turn.Statement.{statement}
 use Rattle.abi.proofs.margin_turn.Tie as tie
 
@@ -46,7 +46,7 @@ returns : tie.Need-returns
 returns c =
     let E = c .before .before .before .before .before .before in
     let r = c .before .before .r .given in
-    (c .refusal-code .ensures ∙ sym (ap turnCode (said E (Refused (r .0 .0)) (r .1))), E .turn-table .ensures .1)
+    (c .refusal-code .ensures ∙ sym (ap turnedCode (said E (Refused (r .0 .0)) (r .1))), E .turn-table .ensures .1)
 
 same-length-2 : tie.Need-same-length-2
 same-length-2 c = search needs
@@ -55,7 +55,7 @@ returns-2 : tie.Need-returns-2
 returns-2 c =
     let E = c .before .before .before .before in
     let w = c .enum-told .given in
-    (sym (ap turnCode (said E (Written (w .0 .0)) (w .1))), E .turn-table .ensures .1)
+    (sym (ap turnedCode (said E (Written (w .0 .0)) (w .1))), E .turn-table .ensures .1)
 
 pub margin-turn-spec : {M : Type 1} → statement M
 margin-turn-spec =
