@@ -1,0 +1,3 @@
+pub mod Rollout
+pub mod Whole
+pub mod Heights
