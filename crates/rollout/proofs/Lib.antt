@@ -1,1 +1,3 @@
+pub mod Raise
+pub mod Shift
 pub mod Worked

@@ -1,3 +1,4 @@
 pub mod Rollout
 pub mod Whole
 pub mod Heights
+pub mod Raised
