@@ -1,3 +1,5 @@
 pub mod Raise
 pub mod Shift
+pub mod Folds
+pub mod Turns
 pub mod Worked

@@ -2,3 +2,4 @@ pub mod Rollout
 pub mod Whole
 pub mod Heights
 pub mod Raised
+pub mod Leaves
