@@ -2,4 +2,5 @@ pub mod Raise
 pub mod Shift
 pub mod Folds
 pub mod Turns
+pub mod Rolls
 pub mod Worked
