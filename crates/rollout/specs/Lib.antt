@@ -3,3 +3,4 @@ pub mod Whole
 pub mod Heights
 pub mod Raised
 pub mod Leaves
+pub mod Lists
