@@ -5,4 +5,5 @@ pub mod Turns
 pub mod Rolls
 pub mod Fresh
 pub mod Numbers
+pub mod Table
 pub mod Worked

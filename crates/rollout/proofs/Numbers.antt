@@ -34,7 +34,7 @@ pub picks-distinct : {l r : List ℕ} → Picks l r → Distinct l → Distinct 
 picks-distinct nothing d = tt
 picks-distinct (this {n} e p) d = let r = drops-distinct e d in (lacks-picks n p (r .1), picks-distinct p (r .0))
 
-drops-less : {n : ℕ} {l r : List ℕ} → Drops n l r → length l ≡ suc (length r)
+pub drops-less : {n : ℕ} {l r : List ℕ} → Drops n l r → length l ≡ suc (length r)
 drops-less now = refl
 drops-less (later d) = ap suc (drops-less d)
 

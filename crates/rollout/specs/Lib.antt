@@ -3,4 +3,5 @@ pub mod Whole
 pub mod Heights
 pub mod Raised
 pub mod Leaves
+pub mod Store
 pub mod Lists
