@@ -6,4 +6,5 @@ pub mod Rolls
 pub mod Fresh
 pub mod Numbers
 pub mod Table
+pub mod Held
 pub mod Worked

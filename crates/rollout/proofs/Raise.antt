@@ -13,7 +13,7 @@ cond-map : {A B : Type 0} (f : A → B) (b : Bool) (x y : A) → cond b (f x) (f
 cond-map f true x y = refl
 cond-map f false x y = refl
 
-map-append : {A B : Type 0} (f : A → B) (l m : List A) → map f (l ++ m) ≡ map f l ++ map f m
+pub map-append : {A B : Type 0} (f : A → B) (l m : List A) → map f (l ++ m) ≡ map f l ++ map f m
 map-append f [] m = refl
 map-append {B} f (x ∷ l) m = ap (λ (r : List B). f x ∷ r) (map-append f l m)
 

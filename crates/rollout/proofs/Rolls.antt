@@ -25,7 +25,7 @@ exacts none = []
 exacts (tip n v l h rest) = v ∷ exacts rest
 exacts (knot n k l h under rest) = over natural k 0 (exacts under) ∷ exacts rest
 
-some-exacts : (f : Kept ℕ) → Filled f → Some (exacts f)
+pub some-exacts : (f : Kept ℕ) → Filled f → Some (exacts f)
 unfolding exacts
 some-exacts none s = s
 some-exacts (tip n v l h rest) s = tt
@@ -52,7 +52,7 @@ first-beside R a b s done = absurd s
 first-beside R a b s (also r t) = r
 
 -- no walk changes a worth
-turns-exacts : {f f2 : Kept ℕ} {n : ℕ} → Turns f n f2 → exacts f2 ≡ exacts f
+pub turns-exacts : {f f2 : Kept ℕ} {n : ℕ} → Turns f n f2 → exacts f2 ≡ exacts f
 unfolding exacts
 turns-exacts (at-tip h) = refl
 turns-exacts (at-knot {k} {rest} t) = ap (λ (x : List ℕ). over natural k 0 x ∷ exacts rest) (turns-exacts t)

@@ -22,11 +22,12 @@ use Rattle.worth.proofs.Signs.{plus, minus, parts, is-le}
 use Rattle.worth.proofs.Shift.{lift, leaf-shift, max-shift, min-shift}
 use Rattle.search.specs.Whole.{inGrains}
 use Rattle.search.specs.Heights.{grained}
-use Rattle.rollout.specs.Rollout.{Rolled, rollouts, lows, firstOr}
+use Rattle.rollout.specs.Rollout.{Rolled, fresh, roll, rollouts}
 use Rattle.rollout.specs.Whole.{whole, bottom, top, rolled}
 use Rattle.rollout.specs.Heights.{natural, heightRolled}
 use Rattle.rollout.specs.Raised.{mapRolled, above}
-use Rattle.rollout.proofs.Raise.{Keeps, rollouts-map}
+use Rattle.rollout.specs.Store.{afterWalks}
+use Rattle.rollout.proofs.Raise.{Keeps, fresh-map, roll-map, rollouts-map}
 
 -- ---- the order above b
 
@@ -87,3 +88,14 @@ module _ (s : List ℕ) (t : Table) (h : readText s ≡ fine t) where
       ap₂ (λ (b c : ℤ). rollouts whole b c p (inGrains (grain t) (tree t))) bottom-above top-above
       ∙ ap (λ (f : Forest ℤ). rollouts whole (above t 0) (above t (span (t .head) * grain t)) p f) grains-above
       ∙ rollouts-map (above t) natural whole (keeps (bottom t)) 0 (span (t .head) * grain t) p (grained (grain t) (heightTree t))
+
+  pub after-above : (n : ℕ) (p : List ℕ)
+      → afterWalks t n p
+      ≡ mapRolled (above t) (roll natural 0 (span (t .head) * grain t) n p (fresh 0 (span (t .head) * grain t) (grained (grain t) (heightTree t))))
+  after-above n p =
+      let S : ℕ = span (t .head) * grain t in
+      let F : Forest ℕ = grained (grain t) (heightTree t) in
+      ap₂ (λ (b c : ℤ). roll whole b c n p (fresh b c (inGrains (grain t) (tree t)))) bottom-above top-above
+      ∙ ap (λ (f : Forest ℤ). roll whole (above t 0) (above t S) n p (fresh (above t 0) (above t S) f)) grains-above
+      ∙ ap (roll whole (above t 0) (above t S) n p) (fresh-map (above t) 0 S F)
+      ∙ roll-map (above t) natural whole (keeps (bottom t)) 0 S n p (fresh 0 S F)

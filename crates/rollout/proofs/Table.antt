@@ -94,7 +94,7 @@ module _ (s : List ℕ) (t : Table) (h : readText s ≡ fine t) where
 
     start-exact : firstOr 0 (exacts start) ≡ heightWorth t
     start-exact =
-        ap (firstOr 0) (fresh-exacts (t .head .total) (span (t .head)) (grain t) 0 (span (t .head) * grain t) 0 0 false (heightTree t) plain)
+        ap (firstOr 0) (fresh-exacts (t .head .total) (λ (x : ℕ). x ≤ span (t .head)) (grain t) 0 (span (t .head) * grain t) 0 0 false (heightTree t) plain)
         ∙ first-worth (heightShares (t .head .total) (grain t) (heightTree t))
 
     pub height-ends : (p : List ℕ)
