@@ -7,4 +7,5 @@ pub mod Fresh
 pub mod Numbers
 pub mod Table
 pub mod Held
+pub mod Demand
 pub mod Worked
