@@ -8,4 +8,5 @@ pub mod Numbers
 pub mod Table
 pub mod Held
 pub mod Demand
+pub mod Stored
 pub mod Worked
