@@ -6,9 +6,10 @@ use mathlib.Core.Bool.{Bool, true, false, _&&_, cond}
 use mathlib.Core.List.{List, [], _∷_, _++_}
 use native.Mathlib.Omega.{arith}
 use lib.Dec.{eqb, ltb}
-use lib.ListN.{length, getD, set, take, drop, length-set}
+use lib.ListN.{length, getD, set, take, drop, length-set, length-take, length-drop}
 use lib.Seq.{getD-set-same, getD-set-other, drop-cons, take-add, drop-drop}
-use Rattle.table.specs.Tree.{Kind, Forest, end, leaf, inner, leaves}
+use Rattle.line.proofs.Signs.{true-ne-false}
+use Rattle.table.specs.Tree.{Kind, Forest, end, leaf, inner, isEnd}
 use Rattle.search.specs.Heights.{grained}
 use Rattle.rollout.specs.Rollout.{Kept, none, tip, knot, Pair, Walk, Rolled, pick, spend, fresh, lows, highs, records, firstOr, over, candidate, candidates, walk, roll}
 use Rattle.rollout.specs.Heights.{natural}
@@ -36,6 +37,37 @@ put-other st n l h i e = (getD-set-other (st .low) n i l 0 e, getD-set-other (st
 both : {A B : Type 0} {x y : A} {u v : B} (P : A → B → Type 0) (b : Bool) → P x u → P y v → P (cond b x y) (cond b u v)
 both P true f g = f
 both P false f g = g
+
+frame-still : (a n : ℕ) (st : Store) → Frame a n st st
+frame-still a n st = record { low = refl; high = refl; before = λ i b. (refl, refl); behind = λ i b. (refl, refl) }
+
+-- one store after another
+at-then : (x y z : Store) (i : ℕ) → At x y i → At y z i → At x z i
+at-then x y z i p q = (q .0 ∙ p .0, q .1 ∙ p .1)
+
+pub frame-then : (a n : ℕ) (x y z : Store) → Frame a n x y → Frame a n y z → Frame a n x z
+frame-then a n x y z p q = record {
+  low = q .low ∙ p .low;
+  high = q .high ∙ p .high;
+  before = λ i b. at-then x y z i (p .before i b) (q .before i b);
+  behind = λ i b. at-then x y z i (p .behind i b) (q .behind i b);
+}
+
+pairs-append : (a b c d : List ℕ) → length a ≡ length c → pairs a c ++ pairs b d ≡ pairs (a ++ b) (c ++ d)
+unfolding pairs
+pairs-append [] b [] d e = refl
+pairs-append [] b (z ∷ c) d e = absurd (omega arith)
+pairs-append (x ∷ a) b [] d e = absurd (omega arith)
+pairs-append (x ∷ a) b (z ∷ c) d e = ap (λ (l : List (Pair ℕ)). record { low = x; high = z } ∷ l) (pairs-append a b c d (omega arith))
+
+-- m entries from a on, and the n behind them
+pairs-two : (m n a : ℕ) (l h : List ℕ) → a + m + n ≤ length l → a + m + n ≤ length h
+    → pairs (take m (drop a l)) (take m (drop a h)) ++ pairs (take n (drop (a + m) l)) (take n (drop (a + m) h))
+    ≡ pairs (take (m + n) (drop a l)) (take (m + n) (drop a h))
+pairs-two m n a l h p q =
+    rw (take-add m n (drop a l), take-add m n (drop a h), drop-drop m a l, drop-drop m a h)
+    (pairs-append (take m (drop a l)) (take n (drop (a + m) l)) (take m (drop a h)) (take n (drop (a + m) h))
+    (omega (arith, length-take m (drop a l), length-drop a l, length-take m (drop a h), length-drop a h)))
 
 module _ (G : ℕ) where
   -- ---- what the tree keeps
@@ -138,10 +170,6 @@ module _ (G : ℕ) where
         };
       }
 
-  -- the two stores one after the other
-  at-then : (x y z : Store) (i : ℕ) → At x y i → At y z i → At x z i
-  at-then x y z i p q = (q .0 ∙ p .0, q .1 ∙ p .1)
-
   now-inner : (n w L H : ℕ) (k : Kind) (under rest : Forest ℕ) (st : Store) (a : ℕ) (r : WalkS) (u : Walk ℕ) → Numbered a (inner n w k under rest)
       → Room (a + size (inner n w k under rest)) st → Like (a + 1) under st r u
       → Like a (inner n w k under rest) st
@@ -178,7 +206,7 @@ module _ (G : ℕ) where
       → Like a F st (walkS G α β j p F st) (walk natural α β j p (keep G F st))
   unfolding walkS walk keep size Numbered
   walk-keep α β j p end st a q m =
-      record { kept = refl; read = refl; policy = refl; frame = record { low = refl; high = refl; before = λ i b. (refl, refl); behind = λ i b. (refl, refl) } }
+      record { kept = refl; read = refl; policy = refl; frame = frame-still a 0 st }
   walk-keep α β j p (leaf n w x rest) st a q m =
       let t : Bool = candidate natural α β (lowAt st n) (highAt st n) in
       let i : ℕ = cond t (pred j) j in
@@ -202,3 +230,77 @@ module _ (G : ℕ) where
       (walk-keep y z (pick c p) (spend p) under st (a + 1) (q .1) (omega (arith, m .0), omega (arith, m .1)))))
       (later-inner n w k under rest st a (walkS G α β i p rest st) (walk natural α β i p (keep G rest st)) q
       (walk-keep α β i p rest st (a + 1 + size under) (q .2) (omega (arith, m .0), omega (arith, m .1))))
+
+  -- ---- walks one after another
+
+  -- what rollouts over the store have to do with rollouts over the tree
+  pub record Alike (F : Forest ℕ) (st : Store) (r : RolledS) (q : Rolled ℕ) : Type 0 where
+    pub kept : keep G F (r .store) ≡ q .kept
+    pub read : r .read ≡ q .read
+    pub frame : Frame 0 (size F) st (r .store)
+
+  -- the root is node 0
+  pub root-low : (b : ℕ) (F : Forest ℕ) (st : Store) → Numbered 0 F → isEnd F ≡ false → firstOr b (lows (keep G F st)) ≡ lowAt st 0
+  unfolding lows keep Numbered
+  root-low b end st q e = absurd (true-ne-false e)
+  root-low b (leaf n w x rest) st q e = ap (lowAt st) (q .0)
+  root-low b (inner n w k under rest) st q e = ap (lowAt st) (q .0)
+
+  pub root-high : (b : ℕ) (F : Forest ℕ) (st : Store) → Numbered 0 F → isEnd F ≡ false → firstOr b (highs (keep G F st)) ≡ highAt st 0
+  unfolding highs keep Numbered
+  root-high b end st q e = absurd (true-ne-false e)
+  root-high b (leaf n w x rest) st q e = ap (highAt st) (q .0)
+  root-high b (inner n w k under rest) st q e = ap (highAt st) (q .0)
+
+  module _ (bottom top : ℕ) where
+    pub roll-keep : (n : ℕ) (p : List ℕ) (F : Forest ℕ) (st : Store) → Numbered 0 F → isEnd F ≡ false → Room (size F) st
+        → Alike F st (rollS G n p F st) (roll natural bottom top n p (keep G F st))
+    unfolding rollS roll
+    roll-keep zero p F st q e m = record { kept = refl; read = refl; frame = frame-still 0 (size F) st }
+    roll-keep (suc n) p F st q e m =
+        let r : WalkS = walkS G (lowAt st 0) (highAt st 0) 0 p F st in
+        let u : Walk ℕ = walk natural (lowAt st 0) (highAt st 0) 0 p (keep G F st) in
+        let w : Like 0 F st r u = walk-keep (lowAt st 0) (highAt st 0) 0 p F st 0 q (omega (arith, m .0), omega (arith, m .1)) in
+        let d : Alike F (r .store) (rollS G n (r .policy) F (r .store)) (roll natural bottom top n (u .policy) (u .kept)) =
+        subst₂ (λ (y : Kept ℕ) (z : List ℕ). Alike F (r .store) (rollS G n (r .policy) F (r .store)) (roll natural bottom top n z y)) (w .kept) (w .policy)
+        (roll-keep n (r .policy) F (r .store) q e (omega (arith, m .0, w .frame .low), omega (arith, m .1, w .frame .high))) in
+        rw (root-low bottom F st q e, root-high top F st q e)
+        (both (Alike F st) (ltb (lowAt st 0) (highAt st 0))
+        (record { kept = d .kept; read = ap₂ _++_ (w .read) (d .read); frame = frame-then 0 (size F) st (r .store) _ (w .frame) (d .frame) })
+        (record { kept = refl; read = refl; frame = frame-still 0 (size F) st }))
+
+  -- ---- before the first walk, and the records
+
+  pub keep-fresh : (S : ℕ) (F : Forest ℕ) (a : ℕ) (st : Store) → Numbered a F → ((i : ℕ) → a ≤ i → i < a + size F → (lowAt st i ≡ 0) × (highAt st i ≡ S))
+      → keep G F st ≡ fresh 0 S (grained G F)
+  unfolding keep fresh grained size Numbered
+  keep-fresh S end a st q e = refl
+  keep-fresh S (leaf n w x rest) a st q e =
+      let p = e n (omega (arith, q .0)) (omega (arith, q .0)) in
+      let r = keep-fresh S rest (a + 1) st (q .1) (λ i b c. e i (omega arith) (omega arith)) in
+      rw (p .0, p .1, r)
+  keep-fresh S (inner n w k under rest) a st q e =
+      let p = e n (omega (arith, q .0)) (omega (arith, q .0)) in
+      let u = keep-fresh S under (a + 1) st (q .1) (λ i b c. e i (omega arith) (omega arith)) in
+      let r = keep-fresh S rest (a + 1 + size under) st (q .2) (λ i b c. e i (omega arith) (omega arith)) in
+      rw (p .0, p .1, u, r)
+
+  -- the records of the tree are the two lists, from its first node on
+  pub records-keep : (F : Forest ℕ) (a : ℕ) (st : Store) → Numbered a F → Room (a + size F) st
+      → records (keep G F st) ≡ pairs (take (size F) (drop a (st .low))) (take (size F) (drop a (st .high)))
+  unfolding records keep size Numbered pairs
+  records-keep end a st q m = refl
+  records-keep (leaf n w x rest) a st q m =
+      let one : 1 + size rest ≡ suc (size rest) = omega arith in
+      let up : a + 1 ≡ suc a = omega arith in
+      let r = records-keep rest (a + 1) st (q .1) (omega (arith, m .0), omega (arith, m .1)) in
+      rw (q .0, one, drop-cons (st .low) a 0 (omega (arith, m .0)), drop-cons (st .high) a 0 (omega (arith, m .1)))
+      (ap (λ (l : List (Pair ℕ)). record { low = lowAt st a; high = highAt st a } ∷ l) (rw up at r))
+  records-keep (inner n w k under rest) a st q m =
+      let one : 1 + size under + size rest ≡ suc (size under + size rest) = omega arith in
+      let up : a + 1 ≡ suc a = omega arith in
+      let u = records-keep under (a + 1) st (q .1) (omega (arith, m .0), omega (arith, m .1)) in
+      let r = records-keep rest (a + 1 + size under) st (q .2) (omega (arith, m .0), omega (arith, m .1)) in
+      rw (q .0, one, drop-cons (st .low) a 0 (omega (arith, m .0)), drop-cons (st .high) a 0 (omega (arith, m .1)))
+      (ap (λ (l : List (Pair ℕ)). record { low = lowAt st a; high = highAt st a } ∷ l)
+      (ap₂ _++_ (rw up at u) (rw up at r) ∙ pairs-two (size under) (size rest) (suc a) (st .low) (st .high) (omega (arith, m .0)) (omega (arith, m .1))))
