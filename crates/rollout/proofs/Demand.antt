@@ -1,18 +1,18 @@
 -- What is demanded of rollouts, for every accepted table without C and every policy list. Assumes nothing.
-use Prim.Native.Nat.{ℕ, _+_, _*_, _≤_}
-use mathlib.Core.Path.{_≡_, refl, sym, ap, ap₂, _∙_, subst, subst₂}
-use mathlib.Core.Bool.{Bool, true, false}
+use Prim.Native.Nat.{ℕ, _*_, _≤_}
+use mathlib.Core.Path.{_≡_, sym, ap, ap₂, _∙_, subst, subst₂}
+use mathlib.Core.Bool.{true, false}
 use mathlib.Core.List.{List, [], _∷_, _++_, map}
 use native.Mathlib.Omega.{arith}
 use borrow.Author.Tests.{le-ltb}
 use lib.ListN.{length}
-use lib.IntN.{ℤ, pos}
+use lib.IntN.{ℤ}
 use lib.Dec.{ltb}
 use lib.Signed.{ltZ}
 use Rattle.line.specs.Refusal.{fine}
 use Rattle.line.specs.Line.{Within}
-use Rattle.table.specs.Tree.{Forest, leaves}
-use Rattle.table.specs.Table.{Table, tree, readText, greatest, grain}
+use Rattle.table.specs.Tree.{leaves}
+use Rattle.table.specs.Table.{Table, tree, readText, grain}
 use Rattle.table.specs.Slices.{heightTree}
 use Rattle.table.specs.Accepted.{span, Proper}
 use Rattle.table.proofs.Heights.{heights-map}
@@ -21,8 +21,8 @@ use Rattle.worth.specs.Worth.{worthOf}
 use Rattle.worth.specs.Heights.{heightWorth}
 use Rattle.worth.proofs.Worth.{shift}
 use Rattle.search.specs.Heights.{grained}
-use Rattle.rollout.specs.Rollout.{Kept, Pair, Walk, Rolled, fresh, lows, highs, firstOr, records, walk, roll}
-use Rattle.rollout.specs.Whole.{whole, bottom, top, hasChance, rolled, rolledWorth, rolledStore}
+use Rattle.rollout.specs.Rollout.{Kept, Walk, Rolled, lows, highs, firstOr, records, walk, roll}
+use Rattle.rollout.specs.Whole.{whole, bottom, hasChance, rolled, rolledWorth, rolledStore}
 use Rattle.rollout.specs.Heights.{natural, heightRolled}
 use Rattle.rollout.specs.Raised.{mapKept, mapPair, mapWalk, mapRolled, above}
 use Rattle.rollout.specs.Leaves.{leafNodes, Picks, Distinct}

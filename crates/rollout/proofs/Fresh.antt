@@ -1,12 +1,11 @@
 -- Before the first walk, over heights: what holds of the bounds, the worths and the unread leaves of a table's tree. Assumes nothing.
-use Prim.Native.Nat.{ℕ, suc, _+_, _*_, min, max, _≤_, _<_}
-use mathlib.Core.Path.{_≡_, refl, sym, ap, ap₂, _∙_, subst}
-use mathlib.Core.Bool.{Bool, true, false, not, cond}
-use mathlib.Core.List.{List, [], _∷_, _++_, map}
+use Prim.Native.Nat.{ℕ, _+_, _*_, min, max, _≤_, _<_}
+use mathlib.Core.Path.{_≡_, refl, sym, ap, ap₂, _∙_}
+use mathlib.Core.Bool.{Bool, false}
+use mathlib.Core.List.{List, [], _∷_, map}
 use native.Mathlib.Nat.{mul-le-mul-right}
 use native.Mathlib.Omega.{arith}
-use borrow.Author.Tests.{lt-ltb, le-ltb, eqb-true, not-false}
-use lib.Dec.{ltb, eqb}
+use borrow.Author.Tests.{lt-ltb}
 use lib.ListN.{length, length-append}
 use Rattle.line.proofs.Signs.{true-ne-false}
 use Rattle.table.specs.Tree.{Kind, MAX, MIN, CHANCE, Forest, end, leaf, inner, isEnd, leaves}
@@ -15,10 +14,10 @@ use Rattle.table.proofs.Heights.{mapForest}
 use Rattle.worth.specs.Worth.{Share}
 use Rattle.worth.specs.Heights.{tallest, shortest, heightValue, heightShares}
 use Rattle.search.specs.Heights.{grained}
-use Rattle.rollout.specs.Rollout.{Kept, none, tip, knot, fresh, lows, highs, joined, over}
+use Rattle.rollout.specs.Rollout.{fresh, lows, highs, joined, over}
 use Rattle.rollout.specs.Heights.{natural}
 use Rattle.rollout.specs.Leaves.{leafNodes}
-use Rattle.rollout.proofs.Folds.{Some, Beside, done, also, over-both}
+use Rattle.rollout.proofs.Folds.{Beside, done, also, over-both}
 use Rattle.rollout.proofs.Turns.{Filled, Sound, some-lows, some-highs}
 use Rattle.rollout.proofs.Rolls.{exacts, unread}
 

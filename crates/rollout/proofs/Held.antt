@@ -1,9 +1,8 @@
 -- Every store that rollouts leave holds the worth of every node. Assumes nothing.
-use Prim.Native.Nat.{ℕ, suc, _+_, _*_, _≤_, _<_}
+use Prim.Native.Nat.{ℕ, suc, _+_, _≤_, _<_}
 use mathlib.Core.Path.{_≡_, refl, sym, ap, ap₂, _∙_}
-use mathlib.Core.Bool.{Bool, true, false}
+use mathlib.Core.Bool.{Bool}
 use mathlib.Core.List.{List, [], _∷_, _++_, map}
-use native.Mathlib.Omega.{arith}
 use borrow.Author.Tests.{le-leb}
 use lib.IntN.{ℤ, pos, _+ℤ_, _*ℤ_}
 use Rattle.line.specs.declared.Head.{Head}
@@ -11,18 +10,18 @@ use Rattle.line.specs.Line.{Within}
 use Rattle.table.specs.Tree.{Kind, Forest, end, leaf, inner, isChance}
 use Rattle.table.specs.Accepted.{one, Filled as AllFilled, Balanced, Proper}
 use Rattle.table.proofs.Heights.{above as height, height-back, mapForest, map-proper}
-use Rattle.worth.specs.Worth.{Share, value, shares, firstWorth}
+use Rattle.worth.specs.Worth.{value, shares, firstWorth}
 use Rattle.worth.specs.Heights.{heightValue, heightShares}
 use Rattle.worth.proofs.Shift.{leaf-shift, shares-shift}
 use Rattle.search.specs.Heights.{grained}
-use Rattle.rollout.specs.Rollout.{Kept, none, tip, knot, Pair, fresh, lows, highs, records, over}
+use Rattle.rollout.specs.Rollout.{Kept, none, tip, knot, Pair, fresh, records, over}
 use Rattle.rollout.specs.Heights.{natural}
 use Rattle.rollout.specs.Raised.{mapPair}
 use Rattle.rollout.specs.Store.{worths, Holds}
 use Rattle.rollout.proofs.Raise.{map-append}
 use Rattle.rollout.proofs.Shift.{le-above}
 use Rattle.rollout.proofs.Folds.{Beside, done, also, over-le}
-use Rattle.rollout.proofs.Turns.{Filled, Sound, Turns, at-tip, at-knot, past-tip, past-knot, some-lows}
+use Rattle.rollout.proofs.Turns.{Sound, Turns, at-tip, at-knot, past-tip, past-knot, some-lows}
 use Rattle.rollout.proofs.Rolls.{exacts, some-exacts, lows-exact, exact-highs, turns-exacts, Rolls, still, again}
 use Rattle.rollout.proofs.Fresh.{value-over, fresh-exacts}
 

@@ -9,4 +9,5 @@ pub mod Table
 pub mod Held
 pub mod Demand
 pub mod Stored
+pub mod Listed
 pub mod Worked

@@ -1,11 +1,10 @@
 -- Nodes numbered in depth-first order: no two leaves have one number, and what is picked among them has none twice. Assumes nothing.
 use Prim.Native.Nat.{ℕ, suc, _+_, _≤_, _<_}
-use mathlib.Core.Path.{_≡_, refl, sym, ap, _∙_, subst}
+use mathlib.Core.Path.{_≡_, refl, sym, ap, subst}
 use mathlib.Core.List.{List, [], _∷_, _++_}
-use mathlib.Core.Logic.{_⊎_, inl, inr}
 use native.Mathlib.Omega.{arith}
 use lib.ListN.{length, getD}
-use Rattle.table.specs.Tree.{Kind, Forest, end, leaf, inner}
+use Rattle.table.specs.Tree.{Forest, end, leaf, inner}
 use Rattle.table.specs.Slices.{Slices, Spans}
 use Rattle.rollout.specs.Leaves.{leafNodes, Drops, now, later, Picks, nothing, this, Lacks, Distinct}
 use Rattle.rollout.specs.Lists.{size, Numbered}

@@ -1,5 +1,5 @@
 -- A map that keeps the order commutes with rollouts. Assumes nothing.
-use Prim.Native.Nat.{ℕ, zero, suc, pred, _+_}
+use Prim.Native.Nat.{ℕ, zero, suc, pred}
 use mathlib.Core.Path.{_≡_, refl, sym, ap, ap₂, _∙_}
 use mathlib.Core.Bool.{Bool, true, false, _&&_, cond}
 use mathlib.Core.List.{List, [], _∷_, _++_, map}
@@ -90,8 +90,18 @@ module _ {A B : Type 0} (g : A → B) where
         let b : A = O .low-of β h in
         let u : Walk A = walk O a b (pick (candidates O a b under) p) (spend p) under in
         let r : Walk A = walk O α β (cond t (pred j) j) p rest in
-        rw (test-map α β l h, walk-map α β (cond t (pred j) j) p rest, keeps .greater α l, keeps .lesser β h, count-map a b under,
-        walk-map a b (pick (candidates O a b under) p) (spend p) under, lows-map (u .kept), highs-map (u .kept), over-map k l (lows (u .kept)), over-map k h (highs (u .kept)))
+        rw (
+          test-map α β l h,
+          walk-map α β (cond t (pred j) j) p rest,
+          keeps .greater α l,
+          keeps .lesser β h,
+          count-map a b under,
+          walk-map a b (pick (candidates O a b under) p) (spend p) under,
+          lows-map (u .kept),
+          highs-map (u .kept),
+          over-map k l (lows (u .kept)),
+          over-map k h (highs (u .kept)),
+        )
         (cond-map (mapWalk g) (t && eqb j 0)
         (record { kept = knot n k (over O k l (lows (u .kept))) (over O k h (highs (u .kept))) (u .kept) rest; read = u .read; policy = u .policy })
         (pastKnot n k l h under r))

@@ -1,13 +1,12 @@
 -- Walks one after another, over heights: they end closed on the worth, and no leaf is read twice. Assumes nothing.
-use Prim.Native.Nat.{ℕ, zero, suc, _+_, min, max, _≤_, _<_}
-use mathlib.Core.Path.{_≡_, refl, sym, ap, ap₂, _∙_}
+use Prim.Native.Nat.{ℕ, zero, suc, min, max, _≤_, _<_}
+use mathlib.Core.Path.{_≡_, refl, ap, _∙_}
 use mathlib.Core.Bool.{Bool, true, false, cond}
 use mathlib.Core.List.{List, [], _∷_, _++_}
 use native.Mathlib.Omega.{arith}
 use borrow.Author.Tests.{ltb-true, ltb-false, lt-ltb, le-ltb}
 use lib.Dec.{ltb}
-use lib.ListN.{length, length-append}
-use Rattle.table.specs.Tree.{Kind}
+use lib.ListN.{length}
 use Rattle.rollout.specs.Rollout.{Kept, none, tip, knot, Walk, Rolled, lows, highs, firstOr, over, candidate, candidates, walk, roll}
 use Rattle.rollout.specs.Heights.{natural}
 use Rattle.rollout.specs.Leaves.{Drops, now, later, Picks, nothing, this}

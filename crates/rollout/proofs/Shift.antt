@@ -1,7 +1,7 @@
 -- Rollouts of a table over the integers are those over heights, every bound above the lowest end. Assumes nothing.
 use Prim.Native.Nat.{ℕ, _+_, _*_, _<_, _≤_}
 use mathlib.Core.Path.{_≡_, refl, sym, ap, ap₂, _∙_}
-use mathlib.Core.Bool.{Bool, true, false, not}
+use mathlib.Core.Bool.{Bool, false, not}
 use mathlib.Core.List.{List}
 use native.Mathlib.Decide.{decLe}
 use native.Mathlib.Omega.{arith}
@@ -12,17 +12,17 @@ use lib.Signed.{ltZ, leZ}
 use Rattle.line.specs.declared.Head.{Head}
 use Rattle.line.specs.Line.{Within}
 use Rattle.line.specs.Refusal.{fine}
-use Rattle.table.specs.Tree.{Kind, Forest, end, leaf, inner, isChance}
+use Rattle.table.specs.Tree.{Forest, end, leaf, inner}
 use Rattle.table.specs.Table.{Table, tree, readText, greatest, grain}
 use Rattle.table.specs.Slices.{heightTree}
-use Rattle.table.specs.Accepted.{span, one, Proper}
+use Rattle.table.specs.Accepted.{span, Proper}
 use Rattle.table.proofs.Heights.{above as height, height-back, mapForest, heights-map}
 use Rattle.table.proofs.Accepted.{accepted-ranged, accepted-proper}
 use Rattle.worth.proofs.Signs.{plus, minus, parts, is-le}
 use Rattle.worth.proofs.Shift.{lift, leaf-shift, max-shift, min-shift}
 use Rattle.search.specs.Whole.{inGrains}
 use Rattle.search.specs.Heights.{grained}
-use Rattle.rollout.specs.Rollout.{Rolled, fresh, roll, rollouts}
+use Rattle.rollout.specs.Rollout.{fresh, roll, rollouts}
 use Rattle.rollout.specs.Whole.{whole, bottom, top, rolled}
 use Rattle.rollout.specs.Heights.{natural, heightRolled}
 use Rattle.rollout.specs.Raised.{mapRolled, above}

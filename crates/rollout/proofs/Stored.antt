@@ -1,6 +1,6 @@
 -- Rollouts over two lists by node number are rollouts over the tree that keeps its bounds. Assumes nothing.
-use Prim.Native.Nat.{ℕ, zero, suc, pred, _+_, _*_, _-_, min, max, _≤_, _<_}
-use mathlib.Core.Path.{_≡_, refl, sym, ap, ap₂, _∙_, subst, subst₂}
+use Prim.Native.Nat.{ℕ, zero, suc, pred, _+_, _*_, min, max, _≤_, _<_}
+use mathlib.Core.Path.{_≡_, refl, ap, ap₂, _∙_, subst, subst₂}
 use mathlib.Core.Logic.{_≢_}
 use mathlib.Core.Bool.{Bool, true, false, _&&_, cond}
 use mathlib.Core.List.{List, [], _∷_, _++_}
@@ -11,7 +11,7 @@ use lib.Seq.{getD-set-same, getD-set-other, drop-cons, take-add, drop-drop}
 use Rattle.line.proofs.Signs.{true-ne-false}
 use Rattle.table.specs.Tree.{Kind, Forest, end, leaf, inner, isEnd}
 use Rattle.search.specs.Heights.{grained}
-use Rattle.rollout.specs.Rollout.{Kept, none, tip, knot, Pair, Walk, Rolled, pick, spend, fresh, lows, highs, records, firstOr, over, candidate, candidates, walk, roll}
+use Rattle.rollout.specs.Rollout.{Kept, tip, knot, Pair, Walk, Rolled, pick, spend, fresh, lows, highs, records, firstOr, over, candidate, candidates, walk, roll}
 use Rattle.rollout.specs.Heights.{natural}
 use Rattle.rollout.specs.Lists.{Store, lowAt, highAt, put, pairs, size, Numbered, lowsS, highsS, candidatesS, WalkS, RolledS, keep, walkS, rollS}
 
@@ -38,7 +38,7 @@ both : {A B : Type 0} {x y : A} {u v : B} (P : A → B → Type 0) (b : Bool) �
 both P true f g = f
 both P false f g = g
 
-frame-still : (a n : ℕ) (st : Store) → Frame a n st st
+pub frame-still : (a n : ℕ) (st : Store) → Frame a n st st
 frame-still a n st = record { low = refl; high = refl; before = λ i b. (refl, refl); behind = λ i b. (refl, refl) }
 
 -- one store after another

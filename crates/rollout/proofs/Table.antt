@@ -1,8 +1,9 @@
 -- Rollouts of an accepted table, over heights: where they begin, that they end on the worth, and which leaves they read. Assumes nothing.
-use Prim.Native.Nat.{ℕ, zero, suc, _+_, _*_, _≤_, _<_}
-use mathlib.Core.Path.{_≡_, refl, sym, ap, ap₂, _∙_, subst}
-use mathlib.Core.Bool.{Bool, true, false, not}
-use mathlib.Core.List.{List, [], _∷_, _++_, map}
+use Prim.Native.Nat.{ℕ, zero, suc, _*_, _^_, _≤_}
+use mathlib.Core.Path.{_≡_, refl, sym, ap, _∙_, subst}
+use mathlib.Core.Bool.{false}
+use mathlib.Core.List.{List, [], _∷_, map}
+use native.Mathlib.Nat.{pow-zero}
 use native.Mathlib.Omega.{arith}
 use borrow.Author.Tests.{eqb-true, not-false}
 use lib.Dec.{eqb}
@@ -18,15 +19,15 @@ use Rattle.worth.specs.Worth.{Share}
 use Rattle.worth.specs.Heights.{heightShares, firstHeight, heightWorth}
 use Rattle.worth.proofs.Worth.{rooted-some}
 use Rattle.search.specs.Heights.{grained}
-use Rattle.rollout.specs.Rollout.{Kept, Rolled, fresh, firstOr, roll}
+use Rattle.rollout.specs.Rollout.{Kept, fresh, firstOr, roll}
 use Rattle.rollout.specs.Whole.{hasChance}
 use Rattle.rollout.specs.Heights.{natural, heightRolled}
-use Rattle.rollout.specs.Leaves.{leafNodes, Drops, Picks, nothing, this, Distinct}
+use Rattle.rollout.specs.Leaves.{leafNodes, Picks, nothing, this, Distinct}
 use Rattle.rollout.specs.Lists.{size, Numbered}
 use Rattle.rollout.proofs.Turns.{Filled, Sound}
 use Rattle.rollout.proofs.Rolls.{exacts, unread, Rolls, rootLow, rootHigh, roll-rolls, roll-ends, rolls-picks}
-use Rattle.rollout.proofs.Fresh.{fresh-filled, fresh-sound, fresh-exacts, grained-leaves, grained-nodes, map-nodes, nodes-length, all-unread, none-unread}
-use Rattle.rollout.proofs.Numbers.{drops-less, picks-distinct, picks-few, nodes-distinct, spans-numbered}
+use Rattle.rollout.proofs.Fresh.{fresh-filled, fresh-sound, fresh-exacts, grained-nodes, map-nodes, nodes-length, all-unread, none-unread}
+use Rattle.rollout.proofs.Numbers.{drops-less, nodes-distinct, spans-numbered}
 
 -- what holds of all leaves and of none holds of the leaves unread at first
 unread-start : (P : List ℕ → Type 0) (S : ℕ) (F : Forest ℕ) → P (leafNodes F) → P [] → P (unread (fresh 0 S F))
@@ -88,6 +89,10 @@ module _ (s : List ℕ) (t : Table) (h : readText s ≡ fine t) where
   module _ (none : hasChance t ≡ false) where
     pub no-chance : greatest (t .lines) ≡ 0
     no-chance = eqb-true (greatest (t .lines)) 0 (not-false (eqb (greatest (t .lines)) 0) none)
+
+    -- "1 where there is no C"
+    pub one-grain : grain t ≡ 1
+    one-grain = ap (λ (K : ℕ). t .head .total ^ K) no-chance ∙ pow-zero (t .head .total)
 
     pub plain : Proper (t .head .total) 0 (λ (x : ℕ). x ≤ span (t .head)) 0 0 false (heightTree t)
     plain = subst (λ (K : ℕ). Proper (t .head .total) K (λ (x : ℕ). x ≤ span (t .head)) 0 0 false (heightTree t)) no-chance (heights-proper s t h)

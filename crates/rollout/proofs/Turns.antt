@@ -1,17 +1,16 @@
 -- A walk over heights reads one leaf that was unread, and recomputes the bounds above it: document 003, Lemma 3. Assumes nothing.
-use Prim.Native.Nat.{ℕ, zero, suc, pred, _%_, min, max, _≤_, _<_}
-use mathlib.Core.Path.{_≡_, refl, sym, ap, _∙_}
+use Prim.Native.Nat.{ℕ, zero, suc, pred, min, max, _≤_, _<_}
+use mathlib.Core.Path.{_≡_, refl}
 use mathlib.Core.Bool.{Bool, true, false, _&&_, cond}
-use mathlib.Core.List.{List, [], _∷_, _++_}
+use mathlib.Core.List.{List, [], _∷_}
 use native.Mathlib.Nat.{mod-lt}
 use native.Mathlib.Omega.{arith}
-use borrow.Author.Tests.{ltb-true, ltb-false, lt-ltb, le-ltb}
-use lib.Dec.{eqb, ltb, eqb·suc-zero}
+use borrow.Author.Tests.{ltb-true, ltb-false}
+use lib.Dec.{eqb, eqb·suc-zero}
 use Rattle.table.specs.Tree.{Kind}
-use Rattle.rollout.specs.Rollout.{Kept, none, tip, knot, Walk, pick, spend, lows, highs, firstOr, over, candidate, candidates, walk}
+use Rattle.rollout.specs.Rollout.{Kept, none, tip, knot, Walk, pick, spend, lows, highs, over, candidate, candidates, walk}
 use Rattle.rollout.specs.Heights.{natural}
-use Rattle.rollout.specs.Leaves.{Drops, now, later}
-use Rattle.rollout.proofs.Folds.{Some, Beside, done, also, over-any, over-le, Shut, over-shut}
+use Rattle.rollout.proofs.Folds.{Some, Beside, done, also, over-any, Shut, over-shut}
 
 -- ---- what holds between walks
 

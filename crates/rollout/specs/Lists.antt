@@ -5,9 +5,9 @@ use mathlib.Core.Path.{_≡_}
 use mathlib.Core.Bool.{Bool, _&&_, cond}
 use mathlib.Core.List.{List, [], _∷_, _++_}
 use lib.Dec.{eqb, ltb}
-use lib.ListN.{getD, set, replicate}
-use Rattle.table.specs.Tree.{Kind, Forest, end, leaf, inner, leaves}
-use Rattle.rollout.specs.Rollout.{Kept, none, tip, knot, Pair, pick, spend, over, candidate}
+use lib.ListN.{getD, set}
+use Rattle.table.specs.Tree.{Kind, Forest, end, leaf, inner}
+use Rattle.rollout.specs.Rollout.{Kept, none, tip, knot, Pair, pick, spend, joined, over, candidate}
 use Rattle.rollout.specs.Heights.{natural}
 
 -- the lows and the highs, by node number
@@ -61,6 +61,11 @@ candidatesS α β (leaf n w x rest) st =
     cond (candidate natural α β (lowAt st n) (highAt st n)) (suc (candidatesS α β rest st)) (candidatesS α β rest st)
 candidatesS α β (inner n w k under rest) st =
     cond (candidate natural α β (lowAt st n) (highAt st n)) (suc (candidatesS α β rest st)) (candidatesS α β rest st)
+
+-- The maximum or minimum as a loop takes it, from the first child on.
+unfoldable pub runs : Kind → ℕ → List ℕ → ℕ
+runs k x [] = x
+runs k x (y ∷ ys) = runs k (joined natural k x y) ys
 
 -- what a walk leaves: the store, the leaf that it read, and the policy bytes that are left
 pub record WalkS : Type 0 where

@@ -1,6 +1,5 @@
 -- Bounds replaced one by one: what rollouts over heights are, as rollouts over the integers. Assumes nothing: these are definitions.
 use Prim.Native.Nat.{ℕ}
-use mathlib.Core.List.{List}
 use lib.IntN.{ℤ, pos, _+ℤ_}
 use Rattle.table.specs.Table.{Table}
 use Rattle.rollout.specs.Rollout.{Kept, none, tip, knot, Pair, Walk, Rolled}
