@@ -25,7 +25,7 @@ use Rattle.rollout.specs.Rollout.{Kept, Walk, Rolled, lows, highs, first
 use Rattle.rollout.specs.Whole.{whole, bottom, hasChance, rolled, rolledWorth, rolledStore}
 use Rattle.rollout.specs.Heights.{natural, heightRolled}
 use Rattle.rollout.specs.Raised.{mapKept, mapPair, mapWalk, mapRolled, above}
-use Rattle.rollout.specs.Leaves.{leafNodes, Picks, Distinct}
+use Rattle.rollout.specs.Leaves.{leafNodes, Picks, Distinct, NewLeaf}
 use Rattle.rollout.specs.Store.{afterWalks, rootLow, rootHigh, isOpen, nextWalk, worths, Holds}
 use Rattle.rollout.proofs.Raise.{lows-map, highs-map, records-map, first-map, walk-map}
 use Rattle.rollout.proofs.Shift.{lt-above, keeps, bottom-above, top-above, rolled-above, after-above}
@@ -50,6 +50,7 @@ module _ (s : List ℕ) (t : Table) (h : readText s ≡ fine t) where
 
   -- ---- over the integers as over heights
 
+  -- "Every worth, bound, margin and loss is a whole number of grains": each bound is the lowest end and a height
   pub shifted : (p : List ℕ) → rolled t p ≡ mapRolled (above t) (heightRolled t p)
   shifted p = rolled-above s t h p
 
@@ -76,7 +77,7 @@ module _ (s : List ℕ) (t : Table) (h : readText s ≡ fine t) where
     pub ends-on-worth : (p : List ℕ) → rolledWorth t p ≡ worthOf t
     ends-on-worth p = shifted-worth p ∙ ap (above t) (height-ends s t h none p .0) ∙ sym (shift s t h)
 
-    -- the root's high is the worth too
+    -- the root's high too: rollouts end closed
     pub ends-high : (p : List ℕ) → rootHigh t (rolled t p .kept) ≡ worthOf t
     ends-high p =
         ap (λ (r : Rolled ℤ). rootHigh t (r .kept)) (shifted p)
@@ -93,28 +94,32 @@ module _ (s : List ℕ) (t : Table) (h : readText s ≡ fine t) where
 
     -- ---- the leaves read
 
-    -- each is a leaf of the table, and none is read twice
+    -- "The leaf reached is read": each entry is a leaf of the table, and no leaf is read twice
     pub only-leaves : (p : List ℕ) → Picks (leafNodes (tree t)) (rolled t p .read)
     only-leaves p = rw (shifted-read p) (rolls-leaves s t h (height-rolls s t h (leaves (grained (grain t) (heightTree t))) p))
 
     pub no-leaf-twice : (p : List ℕ) → Distinct (rolled t p .read)
     no-leaf-twice p = picks-distinct (only-leaves p) (leaves-distinct s t h)
 
+    -- "the number of leaves read" has room in a leaf list that is long enough
     pub few-leaves : (p : List ℕ) → length (rolled t p .read) ≤ leaves (tree t)
     few-leaves p = omega (arith, picks-few (only-leaves p), nodes-length (tree t))
 
+    new-leaf : (l : List ℕ) (m : ℕ) {f : Kept ℕ} → Rolls (start s t h) (l ++ (m ∷ [])) f → NewLeaf (tree t) l m
+    new-leaf l m r = let q = rolls-leaves s t h r in (q, picks-distinct q (leaves-distinct s t h))
+
     -- Document 003, Lemma 3: after any number of walks, while the root is open, the next walk reads exactly one leaf, and one that was not read.
     pub always-candidate : (n : ℕ) (p q : List ℕ) → isOpen t (afterWalks t n p .kept) ≡ true
-        → (m : ℕ) × (nextWalk t q (afterWalks t n p .kept) .read ≡ m ∷ []) × Picks (leafNodes (tree t)) (afterWalks t n p .read ++ (m ∷ []))
+        → (m : ℕ) × (nextWalk t q (afterWalks t n p .kept) .read ≡ m ∷ []) × NewLeaf (tree t) (afterWalks t n p .read) m
     always-candidate n p q =
-        subst (λ (r : Rolled ℤ). isOpen t (r .kept) ≡ true → (m : ℕ) × (nextWalk t q (r .kept) .read ≡ m ∷ []) × Picks (leafNodes (tree t)) (r .read ++ (m ∷ [])))
+        subst (λ (r : Rolled ℤ). isOpen t (r .kept) ≡ true → (m : ℕ) × (nextWalk t q (r .kept) .read ≡ m ∷ []) × NewLeaf (tree t) (r .read) m)
         (sym (after-above s t h n p)) go
       where
         d : Rolled ℕ
         d = roll natural 0 far n p (start s t h)
 
         go : isOpen t (mapKept (above t) (d .kept)) ≡ true
-            → (m : ℕ) × (nextWalk t q (mapKept (above t) (d .kept)) .read ≡ m ∷ []) × Picks (leafNodes (tree t)) (d .read ++ (m ∷ []))
+            → (m : ℕ) × (nextWalk t q (mapKept (above t) (d .kept)) .read ≡ m ∷ []) × NewLeaf (tree t) (d .read) m
         go e =
             let f : Kept ℕ = d .kept in
             let a : ℕ = lowHeight 0 far f in
@@ -125,11 +130,11 @@ module _ (s : List ℕ) (t : Table) (h : readText s ≡ fine t) where
             let w : nextWalk t q (mapKept (above t) f) ≡ mapWalk (above t) (walk natural a b 0 q f) =
             ap₂ (λ (y z : ℤ). walk whole y z 0 q (mapKept (above t) f)) (low-above f) (high-above f)
             ∙ walk-map (above t) natural whole (keeps (bottom t)) a b 0 q f in
-            (x .node, ap (λ (y : Walk ℤ). y .read) w ∙ x .read, rolls-leaves s t h (rolls-more r (x .turns)))
+            (x .node, ap (λ (y : Walk ℤ). y .read) w ∙ x .read, new-leaf (d .read) (x .node) (rolls-more r (x .turns)))
 
     -- ---- the store
 
-    -- after any number of walks the worth of every node lies between its low and its high
+    -- "the store as last updated", and every store before it: the worth of every node lies between its low and its high
     pub stores-hold : (n : ℕ) (p : List ℕ) → Holds (worths (t .head .total) (grain t) (tree t)) (records (afterWalks t n p .kept))
     stores-hold n p =
         let d : Rolled ℕ = roll natural 0 far n p (start s t h) in

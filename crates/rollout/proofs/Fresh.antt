@@ -17,8 +17,9 @@ use Rattle.search.specs.Heights.{grained}
 use Rattle.rollout.specs.Rollout.{fresh, lows, highs, joined, over}
 use Rattle.rollout.specs.Heights.{natural}
 use Rattle.rollout.specs.Leaves.{leafNodes}
+use Rattle.rollout.specs.Sound.{Filled, Sound}
 use Rattle.rollout.proofs.Folds.{Beside, done, also, over-both}
-use Rattle.rollout.proofs.Turns.{Filled, Sound, some-lows, some-highs}
+use Rattle.rollout.proofs.Turns.{some-lows, some-highs}
 use Rattle.rollout.proofs.Rolls.{exacts, unread}
 
 -- ---- the bounds

@@ -18,10 +18,11 @@ use Rattle.rollout.specs.Rollout.{Kept, none, tip, knot, Pair, fresh, re
 use Rattle.rollout.specs.Heights.{natural}
 use Rattle.rollout.specs.Raised.{mapPair}
 use Rattle.rollout.specs.Store.{worths, Holds}
+use Rattle.rollout.specs.Sound.{Sound}
 use Rattle.rollout.proofs.Raise.{map-append}
 use Rattle.rollout.proofs.Shift.{le-above}
 use Rattle.rollout.proofs.Folds.{Beside, done, also, over-le}
-use Rattle.rollout.proofs.Turns.{Sound, Turns, at-tip, at-knot, past-tip, past-knot, some-lows}
+use Rattle.rollout.proofs.Turns.{Turns, at-tip, at-knot, past-tip, past-knot, some-lows}
 use Rattle.rollout.proofs.Rolls.{exacts, some-exacts, lows-exact, exact-highs, turns-exacts, Rolls, still, again}
 use Rattle.rollout.proofs.Fresh.{value-over, fresh-exacts}
 

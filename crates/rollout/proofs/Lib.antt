@@ -1,10 +1,10 @@
 pub mod Raise
 pub mod Shift
 pub mod Folds
+pub mod Numbers
 pub mod Turns
 pub mod Rolls
 pub mod Fresh
-pub mod Numbers
 pub mod Table
 pub mod Held
 pub mod Demand

@@ -17,13 +17,14 @@ use Rattle.rollout.specs.Rollout.{Kept, records, lows, firstOr, candidat
 use Rattle.rollout.specs.Whole.{rolled, rolledWorth, rolledStore}
 use Rattle.rollout.specs.Heights.{natural, heightRolled}
 use Rattle.rollout.specs.Raised.{mapPair, above}
-use Rattle.rollout.specs.Lists.{Store, lowAt, highAt, pairs, size, Numbered, candidatesS, WalkS, RolledS, keep, walkS, rollS}
-use Rattle.rollout.proofs.Turns.{Sound, Reads, some-candidate, test-true, walk-reads}
+use Rattle.rollout.specs.Lists.{Store, lowAt, highAt, Room, Frame, Ready, pairs, size, Numbered, candidatesS, WalkS, RolledS, keep, walkS, rollS}
+use Rattle.rollout.specs.Sound.{Sound}
+use Rattle.rollout.proofs.Turns.{Reads, some-candidate, test-true, walk-reads}
 use Rattle.rollout.proofs.Rolls.{Rolls, still, rolls-more, rolls-sound, rolls-filled, root-reads, rootLow, rootHigh}
 use Rattle.rollout.proofs.Fresh.{grained-leaves, nodes-length}
 use Rattle.rollout.proofs.Numbers.{picks-few}
 use Rattle.rollout.proofs.Table.{start, start-sound, start-filled, height-numbered, rolls-leaves}
-use Rattle.rollout.proofs.Stored.{Room, Frame, candidates-keep, Like, walk-keep, Alike, root-low, root-high, roll-keep, keep-fresh, records-keep}
+use Rattle.rollout.proofs.Stored.{candidates-keep, Like, walk-keep, Alike, root-low, root-high, roll-keep, keep-fresh, records-keep}
 use Rattle.rollout.proofs.Demand.{shifted-read, shifted-store, shifted-worth}
 
 -- ---- one walk
@@ -92,14 +93,13 @@ module _ (s : List ℕ) (t : Table) (h : readText s ≡ fine t) where
   some : isEnd F ≡ false
   some = rooted-some F (heights-rooted s t h)
 
-  -- "Each node has a low and a high, at first the ends"
-  pub record Ready (st : Store) : Type 0 where
-    pub room : Room nodes st
-    pub ends : (i : ℕ) → i < nodes → (lowAt st i ≡ 0) × (highAt st i ≡ span (t .head) * grain t)
+  -- how many grains the ends are apart
+  abbrev far : ℕ
+  far = span (t .head) * grain t
 
-  ready-keep : (st : Store) → Ready st → keep G F st ≡ start s t h
+  ready-keep : (st : Store) → Ready nodes far st → keep G F st ≡ start s t h
   ready-keep st r =
-      keep-fresh G (span (t .head) * grain t) F 0 st (height-numbered s t h .1) (λ i a b. r .ends i (omega (arith, height-numbered s t h .0)))
+      keep-fresh G far F 0 st (height-numbered s t h .1) (λ i a b. r .ends i (omega (arith, height-numbered s t h .0)))
 
   -- ---- all walks
 
@@ -110,14 +110,13 @@ module _ (s : List ℕ) (t : Table) (h : readText s ≡ fine t) where
     pub worth : above t (lowAt (r .store) 0) ≡ rolledWorth t p
     pub frame : Frame 0 nodes st (r .store)
 
-  alike : (p : List ℕ) (st : Store) → Ready st → Alike G F st (rollS G (leaves F) p F st) (heightRolled t p)
+  alike : (p : List ℕ) (st : Store) → Ready nodes far st → Alike G F st (rollS G (leaves F) p F st) (heightRolled t p)
   alike p st r =
-      let far : ℕ = span (t .head) * grain t in
       subst₂ (λ (n : ℕ) (f : Kept ℕ). Alike G F st (rollS G (leaves F) p F st) (roll natural 0 far n p f))
       (sym (grained-leaves G F)) (ready-keep st r)
       (roll-keep G 0 far (leaves F) p F st (height-numbered s t h .1) some (omega (arith, r .room .0, height-numbered s t h .0), omega (arith, r .room .1, height-numbered s t h .0)))
 
-  pub listed : (p : List ℕ) (st : Store) → Ready st → Listed p st (rollS G (leaves F) p F st)
+  pub listed : (p : List ℕ) (st : Store) → Ready nodes far st → Listed p st (rollS G (leaves F) p F st)
   listed p st r =
       let d : RolledS = rollS G (leaves F) p F st in
       let x : Alike G F st d (heightRolled t p) = alike p st r in
@@ -146,7 +145,7 @@ module _ (s : List ℕ) (t : Table) (h : readText s ≡ fine t) where
   all-left : (n : ℕ) → n ≡ n - 0
   all-left n = omega arith
 
-  pub going-begin : (p : List ℕ) (st : Store) → Ready st → Going p st [] p st
+  pub going-begin : (p : List ℕ) (st : Store) → Ready nodes far st → Going p st [] p st
   going-begin p st r = record {
     room = r .room;
     rolls = subst (λ (f : Kept ℕ). Rolls (start s t h) [] f) (sym (ready-keep st r)) still;
@@ -173,7 +172,6 @@ module _ (s : List ℕ) (t : Table) (h : readText s ≡ fine t) where
       → let r : WalkS = walkS G (lowAt st 0) (highAt st 0) 0 p F st in
       (m : ℕ) × (r .read ≡ m ∷ []) × (length l < leaves F) × Going p0 st0 (l ++ (m ∷ [])) (r .policy) (r .store)
   going-walk p0 st0 l p st g e =
-      let far : ℕ = span (t .head) * grain t in
       let f : Kept ℕ = keep G F st in
       let a : ℕ = lowAt st 0 in
       let b : ℕ = highAt st 0 in

@@ -33,13 +33,13 @@ pub picks-distinct : {l r : List ℕ} → Picks l r → Distinct l → Distinct 
 picks-distinct nothing d = tt
 picks-distinct (this {n} e p) d = let r = drops-distinct e d in (lacks-picks n p (r .1), picks-distinct p (r .0))
 
-pub drops-less : {n : ℕ} {l r : List ℕ} → Drops n l r → length l ≡ suc (length r)
-drops-less now = refl
-drops-less (later d) = ap suc (drops-less d)
+pub drops-length : {n : ℕ} {l r : List ℕ} → Drops n l r → length l ≡ suc (length r)
+drops-length now = refl
+drops-length (later d) = ap suc (drops-length d)
 
 pub picks-few : {l r : List ℕ} → Picks l r → length r ≤ length l
 picks-few nothing = omega arith
-picks-few (this d p) = omega (arith, drops-less d, picks-few p)
+picks-few (this d p) = omega (arith, drops-length d, picks-few p)
 
 -- ---- the numbers of the leaves
 

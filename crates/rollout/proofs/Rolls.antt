@@ -10,8 +10,10 @@ use lib.ListN.{length}
 use Rattle.rollout.specs.Rollout.{Kept, none, tip, knot, Walk, Rolled, lows, highs, firstOr, over, candidate, candidates, walk, roll}
 use Rattle.rollout.specs.Heights.{natural}
 use Rattle.rollout.specs.Leaves.{Drops, now, later, Picks, nothing, this}
+use Rattle.rollout.specs.Sound.{Filled, Sound}
+use Rattle.rollout.proofs.Numbers.{drops-length}
 use Rattle.rollout.proofs.Folds.{Some, Beside, done, also, over-le}
-use Rattle.rollout.proofs.Turns.{Filled, Sound, Turns, at-tip, at-knot, past-tip, past-knot, Reads, some-lows, walk-reads, turns-filled, turns-sound}
+use Rattle.rollout.proofs.Turns.{Turns, at-tip, at-knot, past-tip, past-knot, Reads, some-lows, walk-reads, turns-filled, turns-sound}
 
 choose : {A : Type 0} {x y : A} (P : A → Type 0) (b : Bool) → (b ≡ true → P x) → (b ≡ false → P y) → P (cond b x y)
 choose P true f g = f refl
@@ -72,10 +74,6 @@ drops-left r (later d) = later (drops-left r d)
 drops-right : {n : ℕ} {l m : List ℕ} (r : List ℕ) → Drops n l m → Drops n (r ++ l) (r ++ m)
 drops-right [] d = d
 drops-right (x ∷ r) d = later (drops-right r d)
-
-drops-length : {n : ℕ} {l m : List ℕ} → Drops n l m → length l ≡ suc (length m)
-drops-length now = refl
-drops-length (later d) = ap suc (drops-length d)
 
 skip : {n : ℕ} {l m : List ℕ} (b : Bool) (a : ℕ) → Drops n l m → Drops n (cond b (a ∷ l) l) (cond b (a ∷ m) m)
 skip true a d = later d

@@ -13,22 +13,7 @@ use Rattle.table.specs.Tree.{Kind, Forest, end, leaf, inner, isEnd}
 use Rattle.search.specs.Heights.{grained}
 use Rattle.rollout.specs.Rollout.{Kept, tip, knot, Pair, Walk, Rolled, pick, spend, fresh, lows, highs, records, firstOr, over, candidate, candidates, walk, roll}
 use Rattle.rollout.specs.Heights.{natural}
-use Rattle.rollout.specs.Lists.{Store, lowAt, highAt, put, pairs, size, Numbered, lowsS, highsS, candidatesS, WalkS, RolledS, keep, walkS, rollS}
-
--- the store has room for n nodes
-abbrev pub Room : ℕ → Store → Type 0
-Room n st = (n ≤ length (st .low)) × (n ≤ length (st .high))
-
--- the two stores have the same at i
-abbrev pub At : Store → Store → ℕ → Type 0
-At st st2 i = (lowAt st2 i ≡ lowAt st i) × (highAt st2 i ≡ highAt st i)
-
--- only the n nodes from a on are written
-pub record Frame (a n : ℕ) (st st2 : Store) : Type 0 where
-  pub low : length (st2 .low) ≡ length (st .low)
-  pub high : length (st2 .high) ≡ length (st .high)
-  pub before : (i : ℕ) → i < a → At st st2 i
-  pub behind : (i : ℕ) → a + n ≤ i → At st st2 i
+use Rattle.rollout.specs.Lists.{Store, lowAt, highAt, put, Room, At, Frame, pairs, size, Numbered, lowsS, highsS, candidatesS, WalkS, RolledS, keep, walkS, rollS}
 
 put-other : (st : Store) (n l h i : ℕ) → i ≢ n → At st (put st n l h) i
 put-other st n l h i e = (getD-set-other (st .low) n i l 0 e, getD-set-other (st .high) n i h 0 e)

@@ -24,10 +24,10 @@ use Rattle.rollout.specs.Whole.{hasChance}
 use Rattle.rollout.specs.Heights.{natural, heightRolled}
 use Rattle.rollout.specs.Leaves.{leafNodes, Picks, nothing, this, Distinct}
 use Rattle.rollout.specs.Lists.{size, Numbered}
-use Rattle.rollout.proofs.Turns.{Filled, Sound}
+use Rattle.rollout.specs.Sound.{Filled, Sound}
 use Rattle.rollout.proofs.Rolls.{exacts, unread, Rolls, rootLow, rootHigh, roll-rolls, roll-ends, rolls-picks}
 use Rattle.rollout.proofs.Fresh.{fresh-filled, fresh-sound, fresh-exacts, grained-nodes, map-nodes, nodes-length, all-unread, none-unread}
-use Rattle.rollout.proofs.Numbers.{drops-less, nodes-distinct, spans-numbered}
+use Rattle.rollout.proofs.Numbers.{drops-length, nodes-distinct, spans-numbered}
 
 -- what holds of all leaves and of none holds of the leaves unread at first
 unread-start : (P : List ℕ → Type 0) (S : ℕ) (F : Forest ℕ) → P (leafNodes F) → P [] → P (unread (fresh 0 S F))
@@ -36,7 +36,7 @@ unread-start P (suc S) F p q = rw (all-unread (suc S) F (omega arith)) p
 
 none-picked : (m : List ℕ) {l r : List ℕ} → length l ≡ 0 → Picks l r → Picks m r
 none-picked m e nothing = nothing
-none-picked m e (this d p) = absurd (omega (arith, drops-less d))
+none-picked m e (this d p) = absurd (omega (arith, drops-length d))
 
 first-worth : (xs : List (Share ℕ)) → firstOr 0 (map (λ (x : Share ℕ). x .worth) xs) ≡ firstHeight xs
 first-worth [] = refl

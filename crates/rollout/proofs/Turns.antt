@@ -10,21 +10,8 @@ use lib.Dec.{eqb, eqb·suc-zero}
 use Rattle.table.specs.Tree.{Kind}
 use Rattle.rollout.specs.Rollout.{Kept, none, tip, knot, Walk, pick, spend, lows, highs, over, candidate, candidates, walk}
 use Rattle.rollout.specs.Heights.{natural}
+use Rattle.rollout.specs.Sound.{Filled, Sound}
 use Rattle.rollout.proofs.Folds.{Some, Beside, done, also, over-any, Shut, over-shut}
-
--- ---- what holds between walks
-
-abbrev pub Filled : Kept ℕ → Type 0
-Filled none = ⊥
-Filled (tip n v l h rest) = Unit {0}
-Filled (knot n k l h under rest) = Unit {0}
-
--- a leaf's bounds hold its worth; every other node has children, and its bounds are the extremes of theirs
-abbrev pub Sound : Kept ℕ → Type 0
-Sound none = Unit {0}
-Sound (tip n v l h rest) = (l ≤ v) × (v ≤ h) × Sound rest
-Sound (knot n k l h under rest) =
-    Filled under × (l ≡ over natural k 0 (lows under)) × (h ≡ over natural k 0 (highs under)) × Sound under × Sound rest
 
 -- One leaf more is read: n, which was unread; the bounds above it are taken again from all children.
 pub data Turns : Kept ℕ → ℕ → Kept ℕ → Type 0 where

@@ -1,4 +1,4 @@
--- Rollouts on table A of document 01: the worth, the leaves read and the store, by computation. Assumes nothing.
+-- Rollouts on table A of document 01: the worth and the leaves read, by computation. Assumes nothing.
 use Prim.Native.Nat.{ℕ}
 use mathlib.Core.Path.{_≡_, refl}
 use mathlib.Core.List.{List, [], _∷_}
@@ -15,15 +15,15 @@ use Rattle.rollout.specs.Rollout.{fresh, lows, highs, over, candidates, 
 use Rattle.rollout.specs.Whole.{rolled, rolledWorth}
 
 -- the worth, and the leaves read
-found : List ℕ → Table → Verdict (ℤ × List ℕ)
+abbrev pub found : List ℕ → Table → Verdict (ℤ × List ℕ)
 found p t = fine (rolledWorth t p, rolled t p .read)
 
 -- "Rollouts on A, empty list: 3, leaves 2 3 5."
-rolled-a : next (readText table-a) (found []) ≡ fine (pos 3, 2 ∷ 3 ∷ 5 ∷ [])
-unfolding found maxZ minZ inGrains fresh lows highs over candidates walk roll leaves strip digits whole signed unless unlessAt climb run after forest weigh nodesWhere nodeLines complete readText greatest
+pub rolled-a : next (readText table-a) (found []) ≡ fine (pos 3, 2 ∷ 3 ∷ 5 ∷ [])
+unfolding maxZ minZ inGrains fresh lows highs over candidates walk roll leaves strip digits whole signed unless unlessAt climb run after forest weigh nodesWhere nodeLines complete readText greatest
 rolled-a = refl
 
 -- "List 1, 1: 3, leaves 6 2 3 5."
-rolled-a-ones : next (readText table-a) (found (1 ∷ 1 ∷ [])) ≡ fine (pos 3, 6 ∷ 2 ∷ 3 ∷ 5 ∷ [])
-unfolding found maxZ minZ inGrains fresh lows highs over candidates walk roll leaves strip digits whole signed unless unlessAt climb run after forest weigh nodesWhere nodeLines complete readText greatest
+pub rolled-a-ones : next (readText table-a) (found (1 ∷ 1 ∷ [])) ≡ fine (pos 3, 6 ∷ 2 ∷ 3 ∷ 5 ∷ [])
+unfolding maxZ minZ inGrains fresh lows highs over candidates walk roll leaves strip digits whole signed unless unlessAt climb run after forest weigh nodesWhere nodeLines complete readText greatest
 rolled-a-ones = refl

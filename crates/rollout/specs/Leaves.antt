@@ -29,3 +29,7 @@ Lacks n (a ∷ l) = (n ≡ a → ⊥) × Lacks n l
 abbrev pub Distinct : List ℕ → Type 0
 Distinct [] = Unit {0}
 Distinct (a ∷ l) = Lacks a l × Distinct l
+
+-- m is a leaf of the tree and not among the leaves l that were read
+abbrev pub NewLeaf : {A : Type 0} → Forest A → List ℕ → ℕ → Type 0
+NewLeaf f l m = Picks (leafNodes f) (l ++ (m ∷ [])) × Distinct (l ++ (m ∷ []))

@@ -4,4 +4,5 @@ pub mod Heights
 pub mod Raised
 pub mod Leaves
 pub mod Store
+pub mod Sound
 pub mod Lists

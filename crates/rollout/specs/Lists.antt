@@ -1,11 +1,11 @@
 -- Rollouts over heights with the bounds in two lists by node number, beside the tree: the form of the code. Assumes nothing: these are
 -- definitions. proofs/Stored.antt has the theorem that they are those of Rollout.antt.
-use Prim.Native.Nat.{ℕ, zero, suc, pred, _+_, _*_, min, max}
+use Prim.Native.Nat.{ℕ, zero, suc, pred, _+_, _*_, min, max, _≤_, _<_}
 use mathlib.Core.Path.{_≡_}
 use mathlib.Core.Bool.{Bool, _&&_, cond}
 use mathlib.Core.List.{List, [], _∷_, _++_}
 use lib.Dec.{eqb, ltb}
-use lib.ListN.{getD, set}
+use lib.ListN.{length, getD, set}
 use Rattle.table.specs.Tree.{Kind, Forest, end, leaf, inner}
 use Rattle.rollout.specs.Rollout.{Kept, none, tip, knot, Pair, pick, spend, joined, over, candidate}
 use Rattle.rollout.specs.Heights.{natural}
@@ -24,6 +24,26 @@ highAt st n = getD (st .high) n 0
 -- node n gets the bounds l and h
 abbrev pub put : Store → ℕ → ℕ → ℕ → Store
 put st n l h = record { low = set (st .low) n l; high = set (st .high) n h }
+
+-- the store has room for n nodes
+abbrev pub Room : ℕ → Store → Type 0
+Room n st = (n ≤ length (st .low)) × (n ≤ length (st .high))
+
+-- the two stores have the same at i
+abbrev pub At : Store → Store → ℕ → Type 0
+At st st2 i = (lowAt st2 i ≡ lowAt st i) × (highAt st2 i ≡ highAt st i)
+
+-- only the n nodes from a on are written
+pub record Frame (a n : ℕ) (st st2 : Store) : Type 0 where
+  pub low : length (st2 .low) ≡ length (st .low)
+  pub high : length (st2 .high) ≡ length (st .high)
+  pub before : (i : ℕ) → i < a → At st st2 i
+  pub behind : (i : ℕ) → a + n ≤ i → At st st2 i
+
+-- "Each node has a low and a high, at first the ends": of n nodes, the lowest end 0 and the highest S
+pub record Ready (n S : ℕ) (st : Store) : Type 0 where
+  pub room : Room n st
+  pub ends : (i : ℕ) → i < n → (lowAt st i ≡ 0) × (highAt st i ≡ S)
 
 -- a list of lows and a list of highs as records
 unfoldable pub pairs : List ℕ → List ℕ → List (Pair ℕ)
