@@ -9,5 +9,6 @@ pub mod Table
 pub mod Held
 pub mod Demand
 pub mod Stored
+pub mod Capped
 pub mod Listed
 pub mod Worked

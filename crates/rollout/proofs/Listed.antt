@@ -1,5 +1,5 @@
 -- Rollouts of an accepted table over two lists by node number, walk by walk: what the code's loop keeps. Assumes nothing.
-use Prim.Native.Nat.{ℕ, zero, suc, _+_, _*_, _-_, min, max, _<_}
+use Prim.Native.Nat.{ℕ, zero, suc, _+_, _*_, _-_, min, max, _≤_, _<_}
 use mathlib.Core.Path.{_≡_, refl, sym, ap, ap₂, _∙_, subst, subst₂}
 use mathlib.Core.Bool.{true, false}
 use mathlib.Core.List.{List, [], _∷_, _++_, map, append-nil, append-assoc}
@@ -8,11 +8,12 @@ use lib.Dec.{ltb}
 use lib.ListN.{length, take, length-append}
 use Rattle.line.specs.Refusal.{fine}
 use Rattle.table.specs.Tree.{Kind, Forest, inner, isEnd, leaves}
-use Rattle.table.specs.Table.{Table, tree, readText, grain}
+use Rattle.table.specs.Table.{Table, tree, readText, greatest, grain}
 use Rattle.table.specs.Slices.{heightTree}
 use Rattle.table.specs.Accepted.{span}
-use Rattle.table.proofs.Accepted.{accepted-leaves, heights-leaves, heights-rooted}
+use Rattle.table.proofs.Accepted.{accepted-leaves, heights-leaves, heights-proper, heights-rooted}
 use Rattle.worth.proofs.Worth.{rooted-some}
+use Rattle.search.specs.Heights.{grained}
 use Rattle.rollout.specs.Rollout.{Kept, records, lows, firstOr, candidate, walk, roll}
 use Rattle.rollout.specs.Whole.{rolled, rolledWorth, rolledStore}
 use Rattle.rollout.specs.Heights.{natural, heightRolled}
@@ -23,7 +24,8 @@ use Rattle.rollout.proofs.Turns.{Reads, some-candidate, test-true, walk
 use Rattle.rollout.proofs.Rolls.{Rolls, still, rolls-more, rolls-sound, rolls-filled, root-reads, rootLow, rootHigh}
 use Rattle.rollout.proofs.Fresh.{grained-leaves, nodes-length}
 use Rattle.rollout.proofs.Numbers.{picks-few}
-use Rattle.rollout.proofs.Table.{start, start-sound, start-filled, height-numbered, rolls-leaves}
+use Rattle.rollout.proofs.Table.{start, start-sound, start-filled, height-numbered, height-rolls, rolls-leaves}
+use Rattle.rollout.proofs.Capped.{rolls-capped, capped-at, fresh-capped}
 use Rattle.rollout.proofs.Stored.{candidates-keep, Like, walk-keep, Alike, root-low, root-high, roll-keep, keep-fresh, records-keep}
 use Rattle.rollout.proofs.Demand.{shifted-read, shifted-store, shifted-worth}
 
@@ -110,7 +112,7 @@ module _ (s : List ℕ) (t : Table) (h : readText s ≡ fine t) where
     pub worth : above t (lowAt (r .store) 0) ≡ rolledWorth t p
     pub frame : Frame 0 nodes st (r .store)
 
-  alike : (p : List ℕ) (st : Store) → Ready nodes far st → Alike G F st (rollS G (leaves F) p F st) (heightRolled t p)
+  pub alike : (p : List ℕ) (st : Store) → Ready nodes far st → Alike G F st (rollS G (leaves F) p F st) (heightRolled t p)
   alike p st r =
       subst₂ (λ (n : ℕ) (f : Kept ℕ). Alike G F st (rollS G (leaves F) p F st) (roll natural 0 far n p f))
       (sym (grained-leaves G F)) (ready-keep st r)
@@ -155,6 +157,23 @@ module _ (s : List ℕ) (t : Table) (h : readText s ≡ fine t) where
   -- what holds of every node: its bounds are the extremes of its children's
   pub going-sound : (p0 : List ℕ) (st0 : Store) (l p : List ℕ) (st : Store) → Going p0 st0 l p st → Sound (keep G F st)
   going-sound p0 st0 l p st g = rolls-sound (g .rolls) (start-sound s t h)
+
+  -- no bound is above the highest end
+  rolls-small : (l : List ℕ) (st : Store) → Rolls (start s t h) l (keep G F st) → (i : ℕ) → i < nodes → (lowAt st i ≤ far) × (highAt st i ≤ far)
+  rolls-small l st r i o =
+      capped-at far G F 0 st (height-numbered s t h .1)
+      (rolls-capped far r (fresh-capped (t .head .total) (greatest (t .lines)) (span (t .head)) G 0 0 false F (heights-proper s t h))) i (omega arith)
+      (omega (arith, height-numbered s t h .0))
+
+  pub going-small : (p0 : List ℕ) (st0 : Store) (l p : List ℕ) (st : Store) → Going p0 st0 l p st → (i : ℕ) → i < nodes → (lowAt st i ≤ far) × (highAt st i ≤ far)
+  going-small p0 st0 l p st g = rolls-small l st (g .rolls)
+
+  pub listed-small : (p : List ℕ) (st : Store) → Ready nodes far st
+      → (i : ℕ) → i < nodes → (lowAt (rollS G (leaves F) p F st .store) i ≤ far) × (highAt (rollS G (leaves F) p F st .store) i ≤ far)
+  listed-small p st r =
+      rolls-small (heightRolled t p .read) (rollS G (leaves F) p F st .store)
+      (subst (λ (f : Kept ℕ). Rolls (start s t h) (heightRolled t p .read) f) (sym (alike p st r .kept))
+      (height-rolls s t h (leaves (grained G F)) p))
 
   leaf-count : leaves F ≡ leaves (tree t)
   leaf-count = heights-leaves s t h ∙ sym (accepted-leaves s t h)
