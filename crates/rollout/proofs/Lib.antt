@@ -1,0 +1,14 @@
+pub mod Raise
+pub mod Shift
+pub mod Folds
+pub mod Numbers
+pub mod Turns
+pub mod Rolls
+pub mod Fresh
+pub mod Table
+pub mod Held
+pub mod Demand
+pub mod Stored
+pub mod Capped
+pub mod Listed
+pub mod Worked

@@ -1,0 +1,1 @@
+// Rollouts over the decoded table.
