@@ -12,3 +12,5 @@ pub mod Stored
 pub mod Capped
 pub mod Listed
 pub mod Worked
+pub mod Rows
+pub mod Walks

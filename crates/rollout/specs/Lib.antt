@@ -6,3 +6,4 @@ pub mod Leaves
 pub mod Store
 pub mod Sound
 pub mod Lists
+pub mod Inside
