@@ -14,3 +14,4 @@ pub mod Listed
 pub mod Worked
 pub mod Rows
 pub mod Walks
+pub mod Looped

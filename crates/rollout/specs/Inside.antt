@@ -131,4 +131,4 @@ pub record RolledIn (d : RolledS) (st : Store) (r : ℕ) (came now : List ℕ) :
 abbrev pub WellRolled : (K S H : List ℕ) (G n : ℕ) (P : List ℕ) → (st last : Store) → ℕ → (came now : List ℕ) → Type 0
 WellRolled K S H G n P st last r came now =
     (R : ReadyRoll K S H G n st (length came))
-    → RolledIn (rollS G (leaves (heightTree (R .table))) P (heightTree (R .table)) st) last r came now
+    → RolledIn (rollS (grain (R .table)) (leaves (heightTree (R .table))) P (heightTree (R .table)) st) last r came now

@@ -80,7 +80,15 @@ fn is_candidate(low: &[u64], high: &[u64], i: usize, alpha: u64, beta: u64) -> b
 }
 
 // How many of the children, entries c up to e, are candidates.
-fn count(stop: &[u16], low: &[u64], high: &[u64], c: usize, e: usize, alpha: u64, beta: u64) -> usize
+fn count(
+    stop: &[u16],
+    low: &[u64],
+    high: &[u64],
+    c: usize,
+    e: usize,
+    alpha: u64,
+    beta: u64,
+) -> usize
     requires { ⌜ Children (now stop) c e × (e ≤ length (now low)) × (e ≤ length (now high)) ⌝ }
     ensures { λ r. ⌜ Counted (now (stop .entry)) c e alpha beta (stored (now (low .entry)) (now (high .entry))) r ⌝ }
 {
@@ -94,7 +102,16 @@ fn count(stop: &[u16], low: &[u64], high: &[u64], c: usize, e: usize, alpha: u64
 }
 
 // Candidate number j of the children, counted from 0.
-fn find(stop: &[u16], low: &[u64], high: &[u64], c: usize, e: usize, alpha: u64, beta: u64, j: usize) -> usize
+fn find(
+    stop: &[u16],
+    low: &[u64],
+    high: &[u64],
+    c: usize,
+    e: usize,
+    alpha: u64,
+    beta: u64,
+    j: usize,
+) -> usize
     requires { ⌜ Choice (now stop) c e alpha beta (stored (now low) (now high)) j ⌝ }
     ensures { λ r. ⌜ Chosen (now (stop .entry)) c e alpha beta (stored (now (low .entry)) (now (high .entry))) j r ⌝ }
 {
