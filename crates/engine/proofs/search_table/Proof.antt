@@ -202,15 +202,14 @@ returns-4 c =
     let t : Summary = summary-of K in
     let f : Found = W .search .result in
     let low = grains-back (t .lowest) (t .grain) (f .low) (c .before .before .before .in-grains .result) (s .lowest) (s .grain) (small W .0) (c .before .before .before .in-grains .ensures) in
-    let high = grains-back (t .lowest) (t .grain) (f .high) (c .before .in-grains2 .result) (s .lowest) (s .grain) (small W .1) (c .before .in-grains2 .ensures) in (
-      (λ i. Given (record { low = low i; high = high i; play = (c .play-at .ensures) i; leaves = f .used; grain = t .grain }))
-          ∙ given-at (text-of R) t (accepted K) (margin-of R) (good L) (replicate 1024 0) (replicate 1024 0) (replicate 1024 0) (replicate 1024 0)
-          (x .0) (x .1 .0) (x .1 .1 .0) (x .1 .1 .1 .0) refl refl refl refl (y .0) (y .1 .0) (y .1 .1 .0) (y .1 .1 .1) (L .rule-of .result) (rule-is L)
-          f (list-of R) (W .search .last .1 .1 .1 .1 .0) (room-of L .if2 .left) (W .search .ensures),
-      reads-at (text-of R) (summary-of K) (accepted K) (margin-of R) (good L) (replicate 1024 0) (replicate 1024 0) (replicate 1024 0) (replicate 1024 0)
-          (x .0) (x .1 .0) (x .1 .1 .0) (x .1 .1 .1 .0) refl refl refl refl (y .0) (y .1 .0) (y .1 .1 .0) (y .1 .1 .1) (L .rule-of .result) (rule-is L)
-          (W .search .result) (list-of R) (W .search .last .1 .1 .1 .1 .0) (room-of L .if2 .left) (W .search .ensures),
-    )
+    let high = grains-back (t .lowest) (t .grain) (f .high) (c .before .in-grains2 .result) (s .lowest) (s .grain) (small W .1) (c .before .in-grains2 .ensures) in
+    ((λ i. Given (record { low = low i; high = high i; play = (c .play-at .ensures) i; leaves = f .used; grain = t .grain }))
+    ∙ given-at (text-of R) t (accepted K) (margin-of R) (good L) (replicate 1024 0) (replicate 1024 0) (replicate 1024 0) (replicate 1024 0)
+    (x .0) (x .1 .0) (x .1 .1 .0) (x .1 .1 .1 .0) refl refl refl refl (y .0) (y .1 .0) (y .1 .1 .0) (y .1 .1 .1) (L .rule-of .result) (rule-is L)
+    f (list-of R) (W .search .last .1 .1 .1 .1 .0) (room-of L .if2 .left) (W .search .ensures),
+    reads-at (text-of R) (summary-of K) (accepted K) (margin-of R) (good L) (replicate 1024 0) (replicate 1024 0) (replicate 1024 0) (replicate 1024 0)
+    (x .0) (x .1 .0) (x .1 .1 .0) (x .1 .1 .1 .0) refl refl refl refl (y .0) (y .1 .0) (y .1 .1 .0) (y .1 .1 .1) (L .rule-of .result) (rule-is L)
+    (W .search .result) (list-of R) (W .search .last .1 .1 .1 .1 .0) (room-of L .if2 .left) (W .search .ensures))
 
 pub search-table-spec : {M : Type 1} → statement M
 search-table-spec =
