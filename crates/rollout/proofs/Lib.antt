@@ -15,3 +15,4 @@ pub mod Worked
 pub mod Rows
 pub mod Walks
 pub mod Looped
+pub mod Filling

@@ -7,3 +7,4 @@ pub mod Store
 pub mod Sound
 pub mod Lists
 pub mod Inside
+pub mod Filled

@@ -6,6 +6,7 @@ ghost use lib.ListN.{length, getD, set, drop};
 ghost use Rattle.table.specs.Tree.{kindOf};
 ghost use Rattle.rollout.specs.Rollout.{pick, spend, joined, candidate};
 ghost use Rattle.rollout.specs.Heights.{natural};
+ghost use Rattle.rollout.specs.Filled.{filled};
 ghost use Rattle.rollout.specs.Inside.{stored, Children, Counted, Choice, Chosen, Extreme, Updated, Ready, Walked, ReadyRoll, WellRolled};
 
 // What a walk gives: the leaf that it read, and how many policy bytes are used.
@@ -263,5 +264,26 @@ pub fn rollouts(
         list_leaf(leaves, used, r.leaf);
         used = used + 1;
         at = r.used;
+    }
+}
+
+// One node's bounds, in grains.
+pub struct Record {
+    pub low: i64,
+    pub high: i64,
+}
+
+// The first n records of the lent store get the bounds; the others stay. A function over a slice of structs is proved by hand.
+pub fn fill(store: &mut [Record], lows: &[i64], highs: &[i64], n: usize)
+    requires { ⌜ (n ≤ length (now store)) × (n ≤ length (now lows)) × (n ≤ length (now highs)) ⌝ }
+    ensures { λ _. ⌜ now (store .exit) ≡ filled n (now (lows .entry)) (now (highs .entry)) (now (store .entry)) ⌝ }
+{
+    let mut i = 0;
+    while i < n {
+        store[i] = Record {
+            low: lows[i],
+            high: highs[i],
+        };
+        i += 1;
     }
 }

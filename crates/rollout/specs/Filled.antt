@@ -1,0 +1,18 @@
+-- The lent store, a slice of records, filled from two lists of numbers. Document 01, 'Rollouts': "kept in a lent slice of records, one record
+-- for each node". Assumes nothing: these are definitions.
+use Prim.Native.Nat.{ℕ, zero, suc}
+use mathlib.Core.List.{List, [], _∷_, _++_}
+use lib.IntN.{ℤ}
+use lib.ListN.{drop}
+use Rattle.rollout.specs.declared.Record.{Record}
+
+-- the first n numbers of the two lists, as records
+unfoldable pub recordsOf : ℕ → List ℤ → List ℤ → List Record
+recordsOf zero ls hs = []
+recordsOf (suc n) [] hs = []
+recordsOf (suc n) (l ∷ ls) [] = []
+recordsOf (suc n) (l ∷ ls) (h ∷ hs) = record { low = l; high = h } ∷ recordsOf n ls hs
+
+-- "records past the nodes .. stay unchanged"
+abbrev pub filled : ℕ → List ℤ → List ℤ → List Record → List Record
+filled n ls hs st = recordsOf n ls hs ++ drop n st
