@@ -1,6 +1,8 @@
 -- What the contracts of private functions cite; no public promise names these.
-use Prim.Native.Nat.{ℕ, _*_, _≤_}
-use lib.IntN.{ℤ, _-ℤ_}
+use Prim.Native.Nat.{ℕ, _*_, _≤_, _<_}
+use mathlib.Core.List.{List, _++_, map}
+use lib.IntN.{ℤ, pos, _+ℤ_, _*ℤ_, _-ℤ_}
+use lib.ListN.{length, getD, drop}
 use lib.Signed.{mag}
 use Rattle.line.specs.Line.{toNat}
 use Rattle.table.specs.declared.Summary.{Summary}
@@ -20,3 +22,21 @@ scaleFor t = record { total = t .total; lowest = t .lowest; grain = t .grain; to
 -- the numbers that its search goes by
 abbrev pub ruleFor : Scale → ℤ → Rule
 ruleFor g margin = record { margin = toNat margin; top = g .top; total = g .total; grain = g .grain }
+
+-- ---- rollouts
+
+-- a slice with the numbers xs at its front
+abbrev pub laidOn : List ℤ → List ℤ → List ℤ
+laidOn xs a = xs ++ drop (length xs) a
+
+-- heights above the lowest end, in grains
+abbrev pub raised : ℤ → ℕ → List ℕ → List ℤ
+raised lowest grain hs = map (λ (h : ℕ). lowest *ℤ pos grain +ℤ pos h) hs
+
+-- the first n heights can be raised
+pub record Raising (lowest : ℤ) (grain n : ℕ) (from : List ℕ) (to : List ℤ) : Type 0 where
+  pub lowest-small : mag lowest ≤ 1000000
+  pub grain-small : grain ≤ 16777216
+  pub room : n ≤ length from
+  pub place : n ≤ length to
+  pub small : (i : ℕ) → i < n → getD from i 0 ≤ 35184372088832

@@ -16,3 +16,4 @@ pub mod Rows
 pub mod Walks
 pub mod Looped
 pub mod Filling
+pub mod Given
