@@ -1,3 +1,5 @@
 pub mod Sums
 pub mod Known
 pub mod Searching
+pub mod Raised
+pub mod Rolling
