@@ -3,3 +3,4 @@ pub mod Known
 pub mod Searching
 pub mod Raised
 pub mod Rolling
+pub mod Lent

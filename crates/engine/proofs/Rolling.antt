@@ -24,7 +24,7 @@ use Rattle.rollout.specs.Inside.{stored, ReadyRoll, WellRolled}
 use Rattle.rollout.proofs.Given.{Given, accepted-roll-ready, accepted-rolled}
 use Rattle.engine.specs.declared.Rolled.the-variants.{Done, Refused}
 use Rattle.engine.specs.Calls.{rolls, rollAnswer, rollList, rollRecords, rollCall, rollReads, rollStore}
-use Rattle.engine.specs.Inside.{scaleFor, raised, laidOn}
+use Rattle.engine.specs.Inside.{scaleFor, raised, laidOn, RollsTo}
 
 -- ---- the call's own refusals
 
@@ -144,18 +144,15 @@ module _ (s : List ℕ) (t : Summary) (e : answer (readText s) ≡ Accepted t) (
 -- ---- a refused call: nothing is written
 
 pub refuses : (s P : List ℕ) (room : ℕ) (r : Refusal) (came : List ℕ) (lows highs : List ℤ) → rolls (readText s) (length came) room ≡ refused r
-    → (Refused r ≡ rollCall (readText s) P (length came) room)
-    × ((0 ≡ length (rollStore (readText s) P (length came) room))
-    × ((came ≡ laid (rollReads (readText s) P (length came) room) came)
-    × ((lows ≡ laidOn (lowsOf (rollStore (readText s) P (length came) room)) lows)
-    × (highs ≡ laidOn (highsOf (rollStore (readText s) P (length came) room)) highs))))
-refuses s P room r came lows highs e = (
-  sym (ap (rollAnswer P) e),
-  (sym (ap (λ (v : Verdict Table). length (rollRecords P v)) e),
-  (sym (ap (λ (v : Verdict Table). laid (rollList P v) came) e),
-  (sym (ap (λ (v : Verdict Table). laidOn (lowsOf (rollRecords P v)) lows) e),
-  sym (ap (λ (v : Verdict Table). laidOn (highsOf (rollRecords P v)) highs) e)))),
-)
+    → RollsTo (readText s) P room (record { answer = Refused r; nodes = 0 }) came came lows lows highs highs
+refuses s P room r came lows highs e =
+    record {
+      answers = sym (ap (rollAnswer P) e);
+      nodes = sym (ap (λ (v : Verdict Table). length (rollRecords P v)) e);
+      lists = sym (ap (λ (v : Verdict Table). laid (rollList P v) came) e);
+      lows-are = sym (ap (λ (v : Verdict Table). laidOn (lowsOf (rollRecords P v)) lows) e);
+      highs-are = sym (ap (λ (v : Verdict Table). laidOn (highsOf (rollRecords P v)) highs) e);
+    }
 
 -- ---- the heights, raised to the front of a list
 

@@ -1,6 +1,7 @@
 -- What the contracts of private functions cite; no public promise names these.
 use Prim.Native.Nat.{ℕ, _*_, _≤_, _<_}
 use mathlib.Core.List.{List, _++_, map}
+use mathlib.Core.Path.{_≡_}
 use lib.IntN.{ℤ, pos, _+ℤ_, _*ℤ_, _-ℤ_}
 use lib.ListN.{length, getD, drop}
 use lib.Signed.{mag}
@@ -8,6 +9,12 @@ use Rattle.line.specs.Line.{toNat}
 use Rattle.table.specs.declared.Summary.{Summary}
 use Rattle.worth.specs.declared.Scale.{Scale}
 use Rattle.search.specs.declared.Rule.{Rule}
+use Rattle.table.specs.Table.{Table}
+use Rattle.table.specs.Slices.{laid}
+use Rattle.line.specs.Refusal.{Verdict}
+use Rattle.rollout.specs.Filled.{lowsOf, highsOf}
+use Rattle.engine.specs.declared.Outcome.{Outcome}
+use Rattle.engine.specs.Calls.{rollCall, rollReads, rollStore}
 
 -- an accepted table's ends and grains
 pub record Spread (t : Summary) : Type 0 where
@@ -40,3 +47,11 @@ pub record Raising (lowest : ℤ) (grain n : ℕ) (from : List ℕ) (to : List �
   pub room : n ≤ length from
   pub place : n ≤ length to
   pub small : (i : ℕ) → i < n → getD from i 0 ≤ 35184372088832
+
+-- the outcome o, the leaf list, the lows and the highs, as they came and as they are now, are those of the call
+pub record RollsTo (v : Verdict Table) (p : List ℕ) (room : ℕ) (o : Outcome) (came now : List ℕ) (lows lows′ highs highs′ : List ℤ) : Type 0 where
+  pub answers : o .answer ≡ rollCall v p (length came) room
+  pub nodes : o .nodes ≡ length (rollStore v p (length came) room)
+  pub lists : now ≡ laid (rollReads v p (length came) room) came
+  pub lows-are : lows′ ≡ laidOn (lowsOf (rollStore v p (length came) room)) lows
+  pub highs-are : highs′ ≡ laidOn (highsOf (rollStore v p (length came) room)) highs

@@ -9,8 +9,7 @@ ghost use Rattle.engine.specs.Calls.{exactCall, judgeCall, badMargin, se
 ghost use Rattle.table.specs.Slices.{laid};
 ghost use Rattle.judge.specs.Inside.{playOf};
 ghost use Rattle.search.specs.Inside.{playAt};
-ghost use Rattle.rollout.specs.Filled.{lowsOf, highsOf};
-ghost use Rattle.engine.specs.Inside.{Spread, scaleFor, ruleFor, laidOn, raised, Raising};
+ghost use Rattle.engine.specs.Inside.{Spread, scaleFor, ruleFor, laidOn, raised, Raising, RollsTo};
 use judge::Judged;
 use judge::Play;
 use line::Refusal;
@@ -199,11 +198,7 @@ fn roll(
     highs: &mut [i64],
 ) -> Outcome
     requires { ⌜ (1024 ≤ length (now lows)) × (1024 ≤ length (now highs)) ⌝ }
-    ensures answers { λ r. ⌜ r .answer ≡ rollCall (readText (now (text .entry))) (now (policy .entry)) (length (now (leaves .entry))) room ⌝ }
-    ensures nodes { λ r. ⌜ r .nodes ≡ length (rollStore (readText (now (text .entry))) (now (policy .entry)) (length (now (leaves .entry))) room) ⌝ }
-    ensures lists { λ _. ⌜ now (leaves .exit) ≡ laid (rollReads (readText (now (text .entry))) (now (policy .entry)) (length (now (leaves .entry))) room) (now (leaves .entry)) ⌝ }
-    ensures lows { λ _. ⌜ now (lows .exit) ≡ laidOn (lowsOf (rollStore (readText (now (text .entry))) (now (policy .entry)) (length (now (leaves .entry))) room)) (now (lows .entry)) ⌝ }
-    ensures highs { λ _. ⌜ now (highs .exit) ≡ laidOn (highsOf (rollStore (readText (now (text .entry))) (now (policy .entry)) (length (now (leaves .entry))) room)) (now (highs .entry)) ⌝ }
+    ensures { λ r. ⌜ RollsTo (readText (now (text .entry))) (now (policy .entry)) room r (now (leaves .entry)) (now (leaves .exit)) (now (lows .entry)) (now (lows .exit)) (now (highs .entry)) (now (highs .exit)) ⌝ }
 {
     let mut kind = [0u8; 1024];
     let mut stop = [0u16; 1024];

@@ -245,13 +245,14 @@ returns-4 c =
     let t : Summary = summary-of K in
     let s = spread (text-of R) t (accepted K) in
     let F = facts W in
-    let worth = grains-back (t .lowest) (t .grain) _ (c .in-grains .result) (s .lowest) (s .grain) (F .small-low 0 (F .some)) (c .in-grains .ensures) in (
-      (λ i. Done (worth i) (W .rollouts .result)) ∙ F .answers,
-      (F .nodes,
-      (F .lists,
-      (raised-laid _ _ (t .grain) (t .nodes) (low-of W) (now (a .lows)) _ _ (c .before .before .before .before .before .before .before .before .raise .ensures) (back K) (F .lows),
-      raised-laid _ _ (t .grain) (t .nodes) (high-of W) (now (a .highs)) _ _ (c .before .before .before .raise2 .ensures) (back K) (F .highs)))),
-    )
+    let worth = grains-back (t .lowest) (t .grain) _ (c .in-grains .result) (s .lowest) (s .grain) (F .small-low 0 (F .some)) (c .in-grains .ensures) in
+    record {
+      answers = (λ i. Done (worth i) (W .rollouts .result)) ∙ F .answers;
+      nodes = F .nodes;
+      lists = F .lists;
+      lows-are = raised-laid _ _ (t .grain) (t .nodes) (low-of W) (now (a .lows)) _ _ (c .before .before .before .before .before .before .before .before .raise .ensures) (back K) (F .lows);
+      highs-are = raised-laid _ _ (t .grain) (t .nodes) (high-of W) (now (a .highs)) _ _ (c .before .before .before .raise2 .ensures) (back K) (F .highs);
+    }
 
 pub roll-spec : {M : Type 1} → statement M
 roll-spec =
