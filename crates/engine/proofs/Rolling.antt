@@ -2,11 +2,11 @@
 use Prim.Native.Nat.{ℕ, _*_, _≤_, _<_}
 use mathlib.Core.Path.{_≡_, refl, sym, ap, ap₂, subst, _∙_}
 use mathlib.Core.Bool.{true, false, not, _||_}
-use mathlib.Core.List.{List}
+use mathlib.Core.List.{List, [], _∷_, _++_, map}
 use native.Mathlib.Omega.{arith}
 use borrow.Author.Tests.{eq-eqb, ne-eqb}
 use lib.Dec.{eqb, ltb}
-use lib.ListN.{length, getD, take, replicate}
+use lib.ListN.{length, getD, take, drop, replicate}
 use lib.IntN.{ℤ, pos, _+ℤ_, _*ℤ_}
 use Rattle.line.specs.declared.Refusal.{Refusal}
 use Rattle.line.specs.declared.Refusal.the-variants.{NoRoom, HasChance}
@@ -19,11 +19,13 @@ use Rattle.table.specs.Slices.{kindsOf, stopsOf, weightsOf, heightsOf, fitted, 
 use Rattle.table.proofs.Accepted.{answer-accepted, accepted-size, accepted-leaves}
 use Rattle.worth.proofs.Worth.{span-grains}
 use Rattle.rollout.specs.Whole.{hasChance}
-use Rattle.rollout.specs.Filled.{lowsOf, highsOf}
+use Rattle.rollout.specs.declared.Record.{Record}
+use Rattle.rollout.specs.Rollout.{Pair}
+use Rattle.rollout.specs.Filled.{lowsOf, highsOf, recordsOf, filled}
 use Rattle.rollout.specs.Inside.{stored, ReadyRoll, WellRolled}
 use Rattle.rollout.proofs.Given.{Given, accepted-roll-ready, accepted-rolled}
 use Rattle.engine.specs.declared.Rolled.the-variants.{Done, Refused}
-use Rattle.engine.specs.Calls.{rolls, rollAnswer, rollList, rollRecords, rollCall, rollReads, rollStore}
+use Rattle.engine.specs.Calls.{rolls, rollAnswer, rollList, rollRecords, rollCall, rollReads, rollStore, recordOf, recorded}
 use Rattle.engine.specs.Inside.{scaleFor, raised, laidOn, RollsTo}
 
 -- ---- the call's own refusals
@@ -149,6 +151,8 @@ refuses s P room r came lows highs e =
     record {
       answers = sym (ap (rollAnswer P) e);
       nodes = sym (ap (λ (v : Verdict Table). length (rollRecords P v)) e);
+      fits = omega arith;
+      few = omega arith;
       lists = sym (ap (λ (v : Verdict Table). laid (rollList P v) came) e);
       lows-are = sym (ap (λ (v : Verdict Table). laidOn (lowsOf (rollRecords P v)) lows) e);
       highs-are = sym (ap (λ (v : Verdict Table). laidOn (highsOf (rollRecords P v)) highs) e);
@@ -158,3 +162,16 @@ refuses s P room r came lows highs e =
 
 pub raised-laid : (z z′ : ℤ) (g n : ℕ) (h : List ℕ) (to now L : List ℤ) → now ≡ laidOn (raised z g (take n h)) to → z ≡ z′ → raised z′ g (take n h) ≡ L → now ≡ laidOn L to
 raised-laid z z′ g n h to now L e q r = e ∙ ap (λ (y : ℤ). laidOn (raised y g (take n h)) to) q ∙ ap (λ (l : List ℤ). laidOn l to) r
+
+-- ---- the records
+
+recorded-all : (rs : List (Pair ℤ)) (x y : List ℤ) → recordsOf (length rs) (lowsOf rs ++ x) (highsOf rs ++ y) ≡ map recordOf rs
+unfolding recordsOf
+recorded-all [] x y = refl
+recorded-all (r ∷ rs) x y = ap (λ (l : List Record). recordOf r ∷ l) (recorded-all rs x y)
+
+-- what `fill` writes from the lows and the highs of the nodes
+pub filled-recorded : (rs : List (Pair ℤ)) (zl zh ls hs : List ℤ) (ys : List Record) (n : ℕ) → n ≡ length rs → ls ≡ laidOn (lowsOf rs) zl → hs ≡ laidOn (highsOf rs) zh
+    → filled n ls hs ys ≡ recorded rs ys
+filled-recorded rs zl zh ls hs ys n e el eh =
+    rw (e, el, eh) (ap (λ (l : List Record). l ++ drop (length rs) ys) (recorded-all rs (drop (length (lowsOf rs)) zl) (drop (length (highsOf rs)) zh)))

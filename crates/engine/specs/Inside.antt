@@ -52,6 +52,8 @@ pub record Raising (lowest : ℤ) (grain n : ℕ) (from : List ℕ) (to : List �
 pub record RollsTo (v : Verdict Table) (p : List ℕ) (room : ℕ) (o : Outcome) (came now : List ℕ) (lows lows′ highs highs′ : List ℤ) : Type 0 where
   pub answers : o .answer ≡ rollCall v p (length came) room
   pub nodes : o .nodes ≡ length (rollStore v p (length came) room)
+  pub fits : o .nodes ≤ room
+  pub few : o .nodes ≤ 1024
   pub lists : now ≡ laid (rollReads v p (length came) room) came
   pub lows-are : lows′ ≡ laidOn (lowsOf (rollStore v p (length came) room)) lows
   pub highs-are : highs′ ≡ laidOn (highsOf (rollStore v p (length came) room)) highs

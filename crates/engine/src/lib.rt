@@ -205,19 +205,38 @@ fn roll(
     let mut weight = [0u8; 1024];
     let mut height = [0u32; 1024];
     match table::read(text, &mut kind, &mut stop, &mut weight, &mut height) {
-        Reading::Refused(r) => Outcome { answer: Rolled::Refused(r), nodes: 0 },
+        Reading::Refused(r) => Outcome {
+            answer: Rolled::Refused(r),
+            nodes: 0,
+        },
         Reading::Accepted(t) => {
             if 0 < t.chances {
-                return Outcome { answer: Rolled::Refused(Refusal::HasChance), nodes: 0 };
+                return Outcome {
+                    answer: Rolled::Refused(Refusal::HasChance),
+                    nodes: 0,
+                };
             }
             if (leaves.len() < t.leaves) | (room < t.nodes) {
-                return Outcome { answer: Rolled::Refused(Refusal::NoRoom), nodes: 0 };
+                return Outcome {
+                    answer: Rolled::Refused(Refusal::NoRoom),
+                    nodes: 0,
+                };
             }
             let g = scale_of(t);
             let top = g.top;
             let mut low = [0u64; 1024];
             let mut high = [top; 1024];
-            let used = rollout::rollouts(&kind, &stop, &height, &mut low, &mut high, policy, leaves, t.nodes, t.grain);
+            let used = rollout::rollouts(
+                &kind,
+                &stop,
+                &height,
+                &mut low,
+                &mut high,
+                policy,
+                leaves,
+                t.nodes,
+                t.grain,
+            );
             raise(&low, t.nodes, t.lowest, t.grain, lows);
             raise(&high, t.nodes, t.lowest, t.grain, highs);
             Outcome {

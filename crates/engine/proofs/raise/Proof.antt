@@ -65,7 +65,7 @@ loop-again c =
       omega (arith, lt),
       length-set (l .to) (l .i) z ∙ l .inv .1,
       ap (λ (y : List ℤ). set y (l .i) z) (l .inv .2)
-      ∙ raised-more (toZ w64 (ofZ w64 (a .lowest))) (a .grain) (now (a .from)) (now (a .to)) (l .i) (omega (arith, lt, s .pre .room)) (omega (arith, lt, s .pre .place)) z is,
+          ∙ raised-more (toZ w64 (ofZ w64 (a .lowest))) (a .grain) (now (a .from)) (now (a .to)) (l .i) (omega (arith, lt, s .pre .room)) (omega (arith, lt, s .pre .place)) z is,
     )
 
 same-length : tie.Need-same-length Inv-loop μ-loop

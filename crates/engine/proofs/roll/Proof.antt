@@ -12,6 +12,7 @@ use lib.ListN.{length, replicate}
 use mir.Syntax.{w64}
 use mir.Val.{toZ, ofZ}
 use Rattle.line.specs.Refusal.{Verdict, refused}
+use Rattle.line.proofs.Checks.{or-right}
 use Rattle.table.specs.declared.Summary.{Summary}
 use Rattle.table.specs.declared.Reading.{Reading}
 use Rattle.table.specs.declared.Reading.the-variants.{Accepted, Refused}
@@ -103,6 +104,13 @@ enough E =
     let R = read-of K in
     let t : Summary = summary-of K in
     ltb-false (length (list-of R)) (t .leaves) (or-false (ltb (length (list-of R)) (t .leaves)) (ltb (start-of R .args .room) (t .nodes)) (E .if2 .left))
+
+fitting : (E : tie.Else2) → summary-of (known-of E) .nodes ≤ start-of (read-of (known-of E)) .args .room
+fitting E =
+    let K = known-of E in
+    let R = read-of K in
+    let t : Summary = summary-of K in
+    ltb-false (start-of R .args .room) (t .nodes) (or-right (ltb (length (list-of R)) (t .leaves)) (ltb (start-of R .args .room) (t .nodes)) (E .if2 .left))
 
 scale-of-requires : tie.Need-scale-of-requires
 scale-of-requires c κs =
@@ -249,6 +257,8 @@ returns-4 c =
     record {
       answers = (λ i. Done (worth i) (W .rollouts .result)) ∙ F .answers;
       nodes = F .nodes;
+      fits = fitting (scaled W .before);
+      few = F .few;
       lists = F .lists;
       lows-are = raised-laid _ _ (t .grain) (t .nodes) (low-of W) (now (a .lows)) _ _ (c .before .before .before .before .before .before .before .before .raise .ensures) (back K) (F .lows);
       highs-are = raised-laid _ _ (t .grain) (t .nodes) (high-of W) (now (a .highs)) _ _ (c .before .before .before .raise2 .ensures) (back K) (F .highs);
