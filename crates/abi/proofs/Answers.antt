@@ -6,7 +6,7 @@ use native.Mathlib.Omega.{arith}
 use lib.ListN.{set}
 use lib.IntN.{ℤ}
 use Rattle.line.specs.declared.Refusal.{Refusal}
-use Rattle.line.specs.declared.Refusal.the-variants.{Length, IllWritten, OutOfRange, Misnumbered, UnknownKind, WrongParent, Misfilled, Childless, WrongSum, TooDeep, NoRoom, BadMargin}
+use Rattle.line.specs.declared.Refusal.the-variants.{Length, IllWritten, OutOfRange, Misnumbered, UnknownKind, WrongParent, Misfilled, Childless, WrongSum, TooDeep, NoRoom, BadMargin, HasChance}
 use Rattle.line.specs.Refusal.{Verdict, refused, fine, numberOf}
 use Rattle.table.specs.declared.Summary.{Summary}
 use Rattle.table.specs.declared.Reading.the-variants.{Accepted}
@@ -32,7 +32,7 @@ small s t e =
       leaves = omega (arith, accepted-leaf-lines s T p, accepted-size s T p);
     })
 
-pub number-small : (r : Refusal) → numberOf r ≤ 12
+pub number-small : (r : Refusal) → numberOf r ≤ 13
 number-small Length = omega arith
 number-small (IllWritten n) = omega arith
 number-small (OutOfRange n) = omega arith
@@ -45,6 +45,7 @@ number-small (WrongSum n) = omega arith
 number-small (TooDeep n) = omega arith
 number-small NoRoom = omega arith
 number-small BadMargin = omega arith
+number-small HasChance = omega arith
 
 pub exact-refused : (v : Verdict Table) (r : Refusal) → exactCall v ≡ Refused r → v ≡ refused r
 exact-refused (refused x) r e = cc

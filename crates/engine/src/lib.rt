@@ -1,18 +1,19 @@
 // The public calls. Each takes any input, and ends with an answer or a refusal.
 ghost use mathlib.Core.Path.{_≡_};
 ghost use Prim.Native.Nat.{_≤_};
-ghost use lib.ListN.{length};
+ghost use lib.ListN.{length, take};
 ghost use lib.IntN.{pos, _+ℤ_, _*ℤ_};
 ghost use lib.Signed.{mag};
 ghost use Rattle.judge.specs.Judge.{playOf};
 ghost use Rattle.table.specs.Table.{readText};
-ghost use Rattle.engine.specs.Calls.{exactCall, judgeCall, badMargin, searchCall, searchReads, turnCall, turnBytes};
+ghost use Rattle.engine.specs.Calls.{exactCall, judgeCall, badMargin, searchCall, searchReads, rollCall, rollReads, rollStore, recorded, turnCall, turnBytes};
 ghost use Rattle.table.specs.Slices.{laid};
 ghost use Rattle.search.specs.Inside.{playAt};
-ghost use Rattle.engine.specs.Inside.{Spread, scaleFor, ruleFor};
+ghost use Rattle.engine.specs.Inside.{Spread, scaleFor, ruleFor, laidOn, raised, Raising, RollsTo};
 use judge::Judged;
 use judge::Play;
 use line::Refusal;
+use rollout::Record;
 use search::Rule;
 use table::Reading;
 use table::Summary;
@@ -49,6 +50,18 @@ pub enum Turned {
 pub enum Bounded {
     Found(Bounds),
     Refused(Refusal),
+}
+
+// The worth in grains and how many leaves were read, or a refusal.
+pub enum Rolled {
+    Done(i64, usize),
+    Refused(Refusal),
+}
+
+// What rollouts answer, and how many nodes have bounds: none where the call is refused.
+struct Outcome {
+    pub answer: Rolled,
+    pub nodes: usize,
 }
 
 fn scale_of(t: Summary) -> Scale
@@ -189,4 +202,101 @@ pub fn turn_table(text: &[u8], buffer: &mut [u8]) -> Turned
             Turned::Written(text.len())
         }
     }
+}
+
+// The first n heights in grains, to the front of `to`.
+fn raise(from: &[u64], n: usize, lowest: i64, grain: u64, to: &mut [i64])
+    requires { ⌜ Raising lowest grain n (now from) (now to) ⌝ }
+    ensures { λ _. ⌜ now (to .exit) ≡ laidOn (raised lowest grain (take n (now (from .entry)))) (now (to .entry)) ⌝ }
+{
+    let mut i = 0;
+    while i < n {
+        to[i] = in_grains(lowest, grain, from[i]);
+        i += 1;
+    }
+}
+
+// The rollouts, for a store of `room` records: the lows and highs of the nodes go to two lists of numbers.
+fn roll(
+    text: &[u8],
+    policy: &[u8],
+    room: usize,
+    leaves: &mut [u16],
+    lows: &mut [i64],
+    highs: &mut [i64],
+) -> Outcome
+    requires { ⌜ (1024 ≤ length (now lows)) × (1024 ≤ length (now highs)) ⌝ }
+    ensures { λ r. ⌜ RollsTo (readText (now (text .entry))) (now (policy .entry)) room r (now (leaves .entry)) (now (leaves .exit)) (now (lows .entry)) (now (lows .exit)) (now (highs .entry)) (now (highs .exit)) ⌝ }
+{
+    let mut kind = [0u8; 1024];
+    let mut stop = [0u16; 1024];
+    let mut weight = [0u8; 1024];
+    let mut height = [0u32; 1024];
+    match table::read(text, &mut kind, &mut stop, &mut weight, &mut height) {
+        Reading::Refused(r) => Outcome {
+            answer: Rolled::Refused(r),
+            nodes: 0,
+        },
+        Reading::Accepted(t) => {
+            if 0 < t.chances {
+                return Outcome {
+                    answer: Rolled::Refused(Refusal::HasChance),
+                    nodes: 0,
+                };
+            }
+            if (leaves.len() < t.leaves) | (room < t.nodes) {
+                return Outcome {
+                    answer: Rolled::Refused(Refusal::NoRoom),
+                    nodes: 0,
+                };
+            }
+            let g = scale_of(t);
+            let top = g.top;
+            let mut low = [0u64; 1024];
+            let mut high = [top; 1024];
+            let used = rollout::rollouts(
+                &kind,
+                &stop,
+                &height,
+                &mut low,
+                &mut high,
+                policy,
+                leaves,
+                t.nodes,
+                t.grain,
+            );
+            raise(&low, t.nodes, t.lowest, t.grain, lows);
+            raise(&high, t.nodes, t.lowest, t.grain, highs);
+            Outcome {
+                answer: Rolled::Done(in_grains(t.lowest, t.grain, low[0]), used),
+                nodes: t.nodes,
+            }
+        }
+    }
+}
+
+fn nodes_of(o: Outcome) -> usize
+    ensures { λ r. ⌜ r ≡ o .nodes ⌝ }
+{
+    o.nodes
+}
+
+fn answer_of(o: Outcome) -> Rolled
+    ensures { λ r. ⌜ r ≡ o .answer ⌝ }
+{
+    o.answer
+}
+
+// Rollouts under a policy list: for any text, any lists and any store. The list gets the leaves read in reading sequence, and keeps its
+// other entries; the store gets the bounds of the nodes as last updated, and keeps its other records; a refused call writes nothing.
+pub fn rollouts(text: &[u8], policy: &[u8], store: &mut [Record], leaves: &mut [u16]) -> Rolled
+    ensures answers { λ r. ⌜ r ≡ rollCall (readText (now (text .entry))) (now (policy .entry)) (length (now (leaves .entry))) (length (now (store .entry))) ⌝ }
+    ensures lists { λ _. ⌜ now (leaves .exit) ≡ laid (rollReads (readText (now (text .entry))) (now (policy .entry)) (length (now (leaves .entry))) (length (now (store .entry)))) (now (leaves .entry)) ⌝ }
+    ensures store { λ _. ⌜ now (store .exit) ≡ recorded (rollStore (readText (now (text .entry))) (now (policy .entry)) (length (now (leaves .entry))) (length (now (store .entry)))) (now (store .entry)) ⌝ }
+{
+    let mut lows = [0i64; 1024];
+    let mut highs = [0i64; 1024];
+    let o = roll(text, policy, store.len(), leaves, &mut lows, &mut highs);
+    rollout::fill(store, &lows, &highs, nodes_of(o));
+    answer_of(o)
 }

@@ -1,9 +1,10 @@
--- Refusals of a table, 1 to 10, and of a call on an accepted one, 11 and 12; 14 is a case of judging's answer (engine/specs/Calls). Document 01, 'Refused tables and calls'.
+-- Refusals of a table, 1 to 10, and of a call on an accepted one, 11 to 13; 14 is a case of judging's answer (engine/specs/Calls). Document 01,
+-- 'Refused tables and calls'.
 use Prim.Native.Nat.{ℕ}
 use mathlib.Core.Bool.{Bool, cond}
 use mathlib.Core.List.{List, [], _∷_}
 use Rattle.line.specs.declared.Refusal.{Refusal}
-use Rattle.line.specs.declared.Refusal.the-variants.{Length, IllWritten, OutOfRange, Misnumbered, UnknownKind, WrongParent, Misfilled, Childless, WrongSum, TooDeep, NoRoom, BadMargin}
+use Rattle.line.specs.declared.Refusal.the-variants.{Length, IllWritten, OutOfRange, Misnumbered, UnknownKind, WrongParent, Misfilled, Childless, WrongSum, TooDeep, NoRoom, BadMargin, HasChance}
 
 -- "Returned": the number and the line of every refusal
 abbrev pub numberOf : Refusal → ℕ
@@ -19,6 +20,7 @@ numberOf (WrongSum line) = 9
 numberOf (TooDeep line) = 10
 numberOf NoRoom = 11
 numberOf BadMargin = 12
+numberOf HasChance = 13
 
 abbrev pub lineOf : Refusal → ℕ
 lineOf Length = 0
@@ -33,6 +35,7 @@ lineOf (WrongSum line) = line
 lineOf (TooDeep line) = line
 lineOf NoRoom = 0
 lineOf BadMargin = 0
+lineOf HasChance = 0
 
 -- what a step of the reading gives: a refusal, or what it read
 pub data Verdict (A : Type 0) : Type 0 where

@@ -25,6 +25,7 @@ pub enum Refusal {
     TooDeep(usize),
     NoRoom,
     BadMargin,
+    HasChance,
 }
 
 // The header's fields, and what they say.
@@ -94,6 +95,7 @@ pub fn refusal_number(r: Refusal) -> u64
         Refusal::TooDeep(_) => 10,
         Refusal::NoRoom => 11,
         Refusal::BadMargin => 12,
+        Refusal::HasChance => 13,
     }
 }
 
@@ -114,6 +116,7 @@ pub fn refusal_line(r: Refusal) -> usize
         Refusal::TooDeep(n) => n,
         Refusal::NoRoom => 0,
         Refusal::BadMargin => 0,
+        Refusal::HasChance => 0,
     }
 }
 

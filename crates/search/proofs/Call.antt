@@ -31,7 +31,7 @@ put-laid (y ∷ l) (x ∷ xs) h = put-later x l 0 xs ∙ ap (λ (z : List ℕ). 
 
 -- ---- the root
 
-root-stop : (t : Slices) (n : ℕ) (F : Forest ℕ) → Spans t 0 n F → Rooted F → stopOf t 0 ≡ n
+pub root-stop : (t : Slices) (n : ℕ) (F : Forest ℕ) → Spans t 0 n F → Rooted F → stopOf t 0 ≡ n
 unfolding Spans
 root-stop t n end s r = absurd r
 root-stop t n (leaf i w h rest) s r =
@@ -39,7 +39,7 @@ root-stop t n (leaf i w h rest) s r =
     s .2 ∙ x
 root-stop t n (inner i w k under rest) s r = subst (λ (F : Forest ℕ). Spans t (stopOf t 0) n F) (r .2) (s .4)
 
-root-some : (t : Slices) (n : ℕ) (F : Forest ℕ) → Spans t 0 n F → Rooted F → 0 < n
+pub root-some : (t : Slices) (n : ℕ) (F : Forest ℕ) → Spans t 0 n F → Rooted F → 0 < n
 unfolding Spans
 root-some t n end s r = absurd r
 root-some t n (leaf i w h rest) s r = let x = spans-le t 1 n rest (s .5) in omega arith

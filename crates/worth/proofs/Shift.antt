@@ -41,7 +41,7 @@ Some [] = ⊥
 Some (x ∷ xs) = Unit {0}
 
 module _ (b : ℤ) where
-  max-shift : (x y : ℕ) → maxZ (b +ℤ pos x) (b +ℤ pos y) ≡ b +ℤ pos (max x y)
+  pub max-shift : (x y : ℕ) → maxZ (b +ℤ pos x) (b +ℤ pos y) ≡ b +ℤ pos (max x y)
   max-shift x y =
       let p : ℕ = plus b in
       let q : ℕ = minus b in
@@ -50,7 +50,7 @@ module _ (b : ℤ) where
       (is-max (b +ℤ pos x) (b +ℤ pos y) (p + x) q (p + y) q (lift b p q x (parts b)) (lift b p q y (parts b))) (omega arith))
       (lift b p q (max x y) (parts b))
 
-  min-shift : (x y : ℕ) → minZ (b +ℤ pos x) (b +ℤ pos y) ≡ b +ℤ pos (min x y)
+  pub min-shift : (x y : ℕ) → minZ (b +ℤ pos x) (b +ℤ pos y) ≡ b +ℤ pos (min x y)
   min-shift x y =
       let p : ℕ = plus b in
       let q : ℕ = minus b in

@@ -1,0 +1,297 @@
+-- `engine::roll` meets its contract. Assumes nothing.
+use Prim.Native.Nat.{ℕ, _≤_, _<_}
+use mathlib.Core.Path.{_≡_, refl, sym, ap, _∙_}
+use mathlib.Core.Bool.{Bool, true, false, _||_}
+use mathlib.Core.List.{List}
+use native.Mathlib.Omega.{arith}
+use borrow.Author.Needs.{needs}
+use borrow.Author.Tests.{ltb-false}
+use denote.Ref.{now}
+use lib.Dec.{ltb}
+use lib.ListN.{length, replicate}
+use mir.Syntax.{w64}
+use mir.Val.{toZ, ofZ}
+use Rattle.line.specs.Refusal.{Verdict, refused}
+use Rattle.line.proofs.Checks.{or-right}
+use Rattle.table.specs.declared.Summary.{Summary}
+use Rattle.table.specs.declared.Reading.{Reading}
+use Rattle.table.specs.declared.Reading.the-variants.{Accepted, Refused}
+use Rattle.table.specs.Table.{Table, readText, answer}
+use Rattle.table.proofs.Accepted.{answer-refused}
+use Rattle.worth.specs.declared.Scale.{Scale}
+use Rattle.engine.specs.declared.Rolled.the-variants.{Done}
+use Rattle.engine.specs.Calls.{rolls}
+use Rattle.engine.specs.Inside.{scaleFor}
+use Rattle.engine.proofs.Sums.{read-back, grains-back}
+use Rattle.engine.proofs.Known.{spread}
+use Rattle.engine.proofs.Rolling.{has-chance, too-short, refuses, roll-ready, Facts, roll-facts, raised-laid}
+use Rattle.engine.proofs.roll.Statement.{statement}
+use Rattle.engine.proofs.roll.Tie as tie
+
+abbrev start-of : tie.After-read → tie.Start
+start-of R = R .before .before .before .before .before .before .before .before
+
+abbrev text-of : tie.After-read → List ℕ
+text-of R = now (start-of R .args .text)
+
+abbrev list-of : tie.After-read → List ℕ
+list-of R = now (start-of R .args .leaves)
+
+-- what the reading gave
+said : (R : tie.After-read) (r : Reading) → R .read .result ≡ r → answer (readText (text-of R)) ≡ r
+said R r e = sym (R .read .ensures .0) ∙ e
+
+-- at an accepted table: the reading, and that its answer is the summary t
+abbrev read-of : tie.After-known-told2 → tie.After-read
+read-of c = c .before .before .before .before .before .before .before
+
+abbrev summary-of : tie.After-known-told2 → Summary
+summary-of c = c .before .t .given .0 .0
+
+accepted : (c : tie.After-known-told2) → answer (readText (text-of (read-of c))) ≡ Accepted (summary-of c)
+accepted c = said (read-of c) (Accepted (summary-of c)) (c .before .t .given .1)
+
+slice-aggregate-read : tie.Need-slice-aggregate-read
+slice-aggregate-read c = search needs
+
+slice-aggregate-read-2 : tie.Need-slice-aggregate-read-2
+slice-aggregate-read-2 c = search needs
+
+slice-aggregate-read-3 : tie.Need-slice-aggregate-read-3
+slice-aggregate-read-3 c = search needs
+
+slice-aggregate-read-4 : tie.Need-slice-aggregate-read-4
+slice-aggregate-read-4 c = search needs
+
+read-requires : tie.Need-read-requires
+read-requires c κs = search needs
+
+enum-known-r : tie.Need-enum-known-r
+enum-known-r c = search needs
+
+enum-known-t : tie.Need-enum-known-t
+enum-known-t c = search needs
+
+returns : tie.Need-returns
+returns c =
+    let K = c .before .before in
+    let R = read-of K in
+    let a = start-of R .args in
+    refuses (text-of R) (now (a .policy)) (a .room) _ (list-of R) (now (a .lows)) (now (a .highs))
+    (has-chance (text-of R) (summary-of K) (accepted K) (length (list-of R)) (a .room) (c .if1 .taken))
+
+returns-2 : tie.Need-returns-2
+returns-2 c =
+    let E = c .before .before .before in
+    let K = E .before .before in
+    let R = read-of K in
+    let a = start-of R .args in
+    refuses (text-of R) (now (a .policy)) (a .room) _ (list-of R) (now (a .lows)) (now (a .highs))
+    (too-short (text-of R) (summary-of K) (accepted K) (length (list-of R)) (a .room) (E .if1 .left) (c .if2 .taken))
+
+-- where the rollouts are called: at an accepted table without a C, with room for all
+
+abbrev known-of : tie.Else2 → tie.After-known-told2
+known-of E = E .before .before .before .before .before
+
+or-false : (a b : Bool) → (a || b) ≡ false → a ≡ false
+or-false true b e = e
+or-false false b e = refl
+
+enough : (E : tie.Else2) → summary-of (known-of E) .leaves ≤ length (list-of (read-of (known-of E)))
+enough E =
+    let K = known-of E in
+    let R = read-of K in
+    let t : Summary = summary-of K in
+    ltb-false (length (list-of R)) (t .leaves) (or-false (ltb (length (list-of R)) (t .leaves)) (ltb (start-of R .args .room) (t .nodes)) (E .if2 .left))
+
+fitting : (E : tie.Else2) → summary-of (known-of E) .nodes ≤ start-of (read-of (known-of E)) .args .room
+fitting E =
+    let K = known-of E in
+    let R = read-of K in
+    let t : Summary = summary-of K in
+    ltb-false (start-of R .args .room) (t .nodes) (or-right (ltb (length (list-of R)) (t .leaves)) (ltb (start-of R .args .room) (t .nodes)) (E .if2 .left))
+
+scale-of-requires : tie.Need-scale-of-requires
+scale-of-requires c κs =
+    let K = known-of c in
+    spread (text-of (read-of K)) (summary-of K) (accepted K)
+
+slice-aggregate-rollouts : tie.Need-slice-aggregate-rollouts
+slice-aggregate-rollouts c = search needs
+
+slice-aggregate-rollouts-2 : tie.Need-slice-aggregate-rollouts-2
+slice-aggregate-rollouts-2 c = search needs
+
+slice-aggregate-rollouts-3 : tie.Need-slice-aggregate-rollouts-3
+slice-aggregate-rollouts-3 c = search needs
+
+slice-aggregate-rollouts-4 : tie.Need-slice-aggregate-rollouts-4
+slice-aggregate-rollouts-4 c = search needs
+
+slice-aggregate-rollouts-5 : tie.Need-slice-aggregate-rollouts-5
+slice-aggregate-rollouts-5 c = search needs
+
+top-is : (c : tie.After-scale-of) → c .scale-of .result .top ≡ scaleFor (summary-of (known-of (c .before))) .top
+top-is c = ap (λ (g : Scale). g .top) (c .scale-of .ensures)
+
+rollouts-requires : tie.Need-rollouts-requires
+rollouts-requires c κs =
+    let G = c .before .before .before .before .before .before in
+    let E = G .before in
+    let K = known-of E in
+    let R = read-of K in
+    let x = R .read .last .1 in
+    let y = R .read .ensures .1 in
+    roll-ready (text-of R) (summary-of K) (accepted K) (replicate 1024 0) (replicate 1024 0) (replicate 1024 0) (replicate 1024 0)
+    (x .0) (x .1 .0) (x .1 .1 .1 .0) refl refl refl refl (y .0) (y .1 .0) (y .1 .1 .1) 1024 (omega arith) (G .scale-of .result .top) (top-is G) (length (list-of R)) (enough E)
+
+-- ---- what they left
+
+abbrev scaled : tie.After-rollouts → tie.After-scale-of
+scaled W = W .before .before .before .before .before .before .before
+
+abbrev known-at : tie.After-rollouts → tie.After-known-told2
+known-at W = known-of (scaled W .before)
+
+abbrev low-of : tie.After-rollouts → List ℕ
+low-of W = W .rollouts .last .1 .1 .1 .0
+
+abbrev high-of : tie.After-rollouts → List ℕ
+high-of W = W .rollouts .last .1 .1 .1 .1 .0
+
+facts : (W : tie.After-rollouts)
+    → let K = known-at W in
+    let R = read-of K in
+    let a = start-of R .args in
+    Facts (text-of R) (now (a .policy)) (a .room) (summary-of K) (low-of W) (high-of W) (W .rollouts .result) (list-of R) (W .rollouts .last .1 .1 .1 .1 .1 .1 .0)
+facts W =
+    let G = scaled W in
+    let E = G .before in
+    let K = known-of E in
+    let R = read-of K in
+    let a = start-of R .args in
+    let x = R .read .last .1 in
+    let y = R .read .ensures .1 in
+    roll-facts (text-of R) (summary-of K) (accepted K) (replicate 1024 0) (replicate 1024 0) (replicate 1024 0) (replicate 1024 0)
+    (x .0) (x .1 .0) (x .1 .1 .1 .0) refl refl refl refl (y .0) (y .1 .0) (y .1 .1 .1) 1024 (omega arith) (G .scale-of .result .top) (top-is G)
+    (now (a .policy)) (low-of W) (high-of W) (W .rollouts .result) (list-of R) (W .rollouts .last .1 .1 .1 .1 .1 .1 .0) (a .room) (E .before .before .before .if1 .left) (E .if2 .left) (enough E) (W .rollouts .ensures)
+
+-- the lowest end is handed on as bits
+back : (K : tie.After-known-told2) → toZ w64 (ofZ w64 (summary-of K .lowest)) ≡ summary-of K .lowest
+back K = let s = spread (text-of (read-of K)) (summary-of K) (accepted K) in read-back (summary-of K .lowest) (omega (arith, s .lowest))
+
+slice-aggregate-raise : tie.Need-slice-aggregate-raise
+slice-aggregate-raise c = search needs
+
+raise-requires : tie.Need-raise-requires
+raise-requires c κs =
+    let W = c .before .before .before .before .before .before .before in
+    let K = known-at W in
+    let s = spread (text-of (read-of K)) (summary-of K) (accepted K) in
+    let F = facts W in
+    record {
+      lowest-small = rw (back K) (s .lowest);
+      grain-small = s .grain;
+      room = F .room-low;
+      place = omega (arith, F .few, start-of (read-of K) .pre .0);
+      small = F .small-low;
+    }
+
+slice-aggregate-raise-2 : tie.Need-slice-aggregate-raise-2
+slice-aggregate-raise-2 c = search needs
+
+raise-requires-2 : tie.Need-raise-requires-2
+raise-requires-2 c κs =
+    let W = c .before .before .before .before .before .before .before .before .before .before .before .before in
+    let K = known-at W in
+    let s = spread (text-of (read-of K)) (summary-of K) (accepted K) in
+    let F = facts W in
+    record {
+      lowest-small = rw (back K) (s .lowest);
+      grain-small = s .grain;
+      room = F .room-high;
+      place = omega (arith, F .few, start-of (read-of K) .pre .1);
+      small = F .small-high;
+    }
+
+array-read-in-grains : tie.Need-array-read-in-grains
+array-read-in-grains c = search needs
+
+in-grains-requires : tie.Need-in-grains-requires
+in-grains-requires c κs =
+    let W = c .before .before .before .before .before .before .before .before .before .before .before .before .before .before .before in
+    let K = known-at W in
+    let s = spread (text-of (read-of K)) (summary-of K) (accepted K) in
+    let F = facts W in
+    (rw (back K) (s .lowest), s .grain, F .small-low 0 (F .some))
+
+returns-3 : tie.Need-returns-3
+returns-3 c =
+    let r = c .before .r .given in
+    let R = c .before .before .before .before .before .before .before in
+    let a = start-of R .args in
+    let v = answer-refused (readText (text-of R)) (r .0 .0) (said R (Refused (r .0 .0)) (r .1)) in
+    refuses (text-of R) (now (a .policy)) (a .room) (r .0 .0) (list-of R) (now (a .lows)) (now (a .highs))
+    (ap (λ (z : Verdict Table). rolls z (length (list-of R)) (a .room)) v)
+
+same-length : tie.Need-same-length
+same-length c = search needs
+
+same-length-2 : tie.Need-same-length-2
+same-length-2 c = search needs
+
+same-length-3 : tie.Need-same-length-3
+same-length-3 c = search needs
+
+returns-4 : tie.Need-returns-4
+returns-4 c =
+    let W = c .before .before .before .before .before .before .before .before .before .before .before .before .before .before .before .before in
+    let K = known-at W in
+    let R = read-of K in
+    let a = start-of R .args in
+    let t : Summary = summary-of K in
+    let s = spread (text-of R) t (accepted K) in
+    let F = facts W in
+    let worth = grains-back (t .lowest) (t .grain) _ (c .in-grains .result) (s .lowest) (s .grain) (F .small-low 0 (F .some)) (c .in-grains .ensures) in
+    record {
+      answers = (λ i. Done (worth i) (W .rollouts .result)) ∙ F .answers;
+      nodes = F .nodes;
+      fits = fitting (scaled W .before);
+      few = F .few;
+      lists = F .lists;
+      lows-are = raised-laid _ _ (t .grain) (t .nodes) (low-of W) (now (a .lows)) _ _ (c .before .before .before .before .before .before .before .before .raise .ensures) (back K) (F .lows);
+      highs-are = raised-laid _ _ (t .grain) (t .nodes) (high-of W) (now (a .highs)) _ _ (c .before .before .before .raise2 .ensures) (back K) (F .highs);
+    }
+
+pub roll-spec : {M : Type 1} → statement M
+roll-spec =
+    tie.close
+    (tie.spec
+    slice-aggregate-read
+    slice-aggregate-read-2
+    slice-aggregate-read-3
+    slice-aggregate-read-4
+    read-requires
+    enum-known-r
+    enum-known-t
+    returns
+    returns-2
+    scale-of-requires
+    slice-aggregate-rollouts
+    slice-aggregate-rollouts-2
+    slice-aggregate-rollouts-3
+    slice-aggregate-rollouts-4
+    slice-aggregate-rollouts-5
+    rollouts-requires
+    slice-aggregate-raise
+    raise-requires
+    slice-aggregate-raise-2
+    raise-requires-2
+    array-read-in-grains
+    in-grains-requires
+    returns-3
+    same-length
+    same-length-2
+    same-length-3
+    returns-4)

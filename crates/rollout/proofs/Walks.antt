@@ -1,0 +1,327 @@
+-- One walk: what it does at a leaf, at an inner node, and where it goes on. Assumes nothing.
+use Prim.Native.Nat.{ℕ, suc, pred, _+_, _-_, _*_, _≤_, _<_, _%_, min, max}
+use mathlib.Core.Path.{_≡_, refl, sym, ap, ap₂, subst, subst₂, _∙_}
+use mathlib.Core.Bool.{Bool, true, false, _&&_, cond}
+use mathlib.Core.List.{List, [], _∷_}
+use native.Mathlib.Nat.{mod-lt}
+use native.Mathlib.Omega.{arith}
+use lib.Dec.{eqb}
+use lib.ListN.{length, getD, set, drop}
+use Rattle.line.proofs.Signs.{true-ne-false}
+use Rattle.table.specs.Tree.{Kind, Forest, end, leaf, inner, codeOf, kindOf}
+use Rattle.table.specs.Slices.{Slices, Spans}
+use Rattle.search.specs.Inside.{slices}
+use Rattle.search.proofs.Forest.{stopOf, spans-le, step}
+use Rattle.search.proofs.Rules.{code-pos}
+use Rattle.worth.proofs.Codes.{kind-code}
+use Rattle.rollout.specs.declared.Step.{Step}
+use Rattle.rollout.specs.Rollout.{pick, spend, over, candidate}
+use Rattle.rollout.specs.Heights.{natural}
+use Rattle.rollout.specs.Sound.{Filled, Sound}
+use Rattle.rollout.specs.Lists.{Store, lowAt, highAt, put, lowsS, highsS, candidatesS, WalkS, keep, walkS}
+use Rattle.rollout.specs.Inside.{stored, Row, boundsIn, chosen, Children, Counted, Choice, Chosen, Updated, Ready, Leaves}
+use Rattle.rollout.proofs.Folds.{Some, over-any}
+use Rattle.rollout.proofs.Listed.{inner-candidate}
+use Rattle.rollout.proofs.Rows.{row-le, spans-row, one-more, live, down-is, down-some, candidates-some}
+
+-- ---- the definitions at a candidate
+
+lows-in : (F : Forest ℕ) (st : Store) → lowsS F st ≡ boundsIn F (st .low)
+unfolding lowsS boundsIn
+lows-in end st = refl
+lows-in (leaf n w x rest) st = ap (λ (l : List ℕ). lowAt st n ∷ l) (lows-in rest st)
+lows-in (inner n w k under rest) st = ap (λ (l : List ℕ). lowAt st n ∷ l) (lows-in rest st)
+
+highs-in : (F : Forest ℕ) (st : Store) → highsS F st ≡ boundsIn F (st .high)
+unfolding highsS boundsIn
+highs-in end st = refl
+highs-in (leaf n w x rest) st = ap (λ (l : List ℕ). highAt st n ∷ l) (highs-in rest st)
+highs-in (inner n w k under rest) st = ap (λ (l : List ℕ). highAt st n ∷ l) (highs-in rest st)
+
+bounds-some : (G : ℕ) (F : Forest ℕ) (st : Store) → Filled (keep G F st) → (b : List ℕ) → Some (boundsIn F b)
+unfolding keep boundsIn
+bounds-some G end st f b = absurd f
+bounds-some G (leaf n w x rest) st f b = tt
+bounds-some G (inner n w k under rest) st f b = tt
+
+-- what node c leaves after the walk r under it
+abbrev updated : Kind → Forest ℕ → ℕ → WalkS → WalkS
+updated k under c r =
+    record {
+      store = put (r .store) c (over natural k 0 (boundsIn under (r .store .low))) (over natural k 0 (boundsIn under (r .store .high)));
+      read = r .read;
+      policy = r .policy;
+    }
+
+module _ (G α β : ℕ) (p : List ℕ) (st : Store) where
+  leaf-now : (n w x : ℕ) (rest : Forest ℕ) → live α β st n ≡ true
+      → walkS G α β 0 p (leaf n w x rest) st ≡ record { store = put st n (x * G) (x * G); read = n ∷ []; policy = p }
+  unfolding walkS
+  leaf-now n w x rest e = rw e refl
+
+  inner-now : (n w : ℕ) (k : Kind) (under rest : Forest ℕ) → live α β st n ≡ true → Filled (keep G under st)
+      → let a : ℕ = max α (lowAt st n) in
+      let b : ℕ = min β (highAt st n) in
+      walkS G α β 0 p (inner n w k under rest) st ≡ updated k under n (walkS G a b (pick (candidatesS a b under st) p) (spend p) under st)
+  unfolding walkS
+  inner-now n w k under rest e f =
+      let l : ℕ = lowAt st n in
+      let h : ℕ = highAt st n in
+      let a : ℕ = max α l in
+      let b : ℕ = min β h in
+      let r : WalkS = walkS G a b (pick (candidatesS a b under st) p) (spend p) under st in
+      let lo : over natural k l (lowsS under (r .store)) ≡ over natural k 0 (boundsIn under (r .store .low)) =
+      ap (over natural k l) (lows-in under (r .store)) ∙ over-any k l 0 (boundsIn under (r .store .low)) (bounds-some G under st f (r .store .low)) in
+      let hi : over natural k h (highsS under (r .store)) ≡ over natural k 0 (boundsIn under (r .store .high)) =
+      ap (over natural k h) (highs-in under (r .store)) ∙ over-any k h 0 (boundsIn under (r .store .high)) (bounds-some G under st f (r .store .high)) in
+      rw e (ap₂ (λ (y z : ℕ). record { store = put (r .store) n y z; read = r .read; policy = r .policy }) lo hi)
+
+-- ---- candidate number j of some nodes
+
+by-test : (P : Bool → Type 0) (b : Bool) → (b ≡ true → P true) → (b ≡ false → P false) → P b
+by-test P true f g = f refl
+by-test P false f g = g refl
+
+and-true : (a b : Bool) → (a && b) ≡ true → a ≡ true
+and-true true b e = refl
+and-true false b e = e
+
+module _ (t : Slices) (G e α β : ℕ) (st : Store) where
+  -- it is at entry x, among the nodes from c up to e, and the walk w goes there
+  pub record Child (c x : ℕ) (w : List ℕ → WalkS) : Type 0 where
+    pub nodes : Forest ℕ
+    pub spans : Spans t x e nodes
+    pub from : c ≤ x
+    pub some : x < e
+    pub sound : Sound (keep G nodes st)
+    pub live : candidate natural α β (lowAt st x) (highAt st x) ≡ true
+    pub walk : (p : List ℕ) → w p ≡ walkS G α β 0 p nodes st
+
+  later : (c d x : ℕ) (w : List ℕ → WalkS) → c ≤ d → Child d x w → Child c x w
+  later c d x w h C =
+      record { nodes = C .nodes; spans = C .spans; from = omega (arith, C .from); some = C .some; sound = C .sound; live = C .live; walk = C .walk }
+
+  -- one fewer
+  less : (b : Bool) (j m : ℕ) → (b && eqb j 0) ≡ false → j < cond b (suc m) m → cond b (pred j) j < m
+  less b j m y l = omega (arith, down-is b j, down-some b j m y (omega (arith, one-more b m)) .1)
+
+  pub child-of : (c j : ℕ) (F : Forest ℕ) → Spans t c e F → Sound (keep G F st) → j < candidatesS α β F st
+      → Child c (chosen α β j F st) (λ (p : List ℕ). walkS G α β j p F st)
+  unfolding Spans keep candidatesS chosen walkS
+  child-of c j end s i l = absurd (omega arith)
+  child-of c j (leaf n w x rest) s i l =
+      let T : Bool = live α β st n in
+      let k : ℕ = cond T (pred j) j in
+      by-test
+      (λ (b : Bool). Child c (cond b n (chosen α β k rest st))
+      (λ (p : List ℕ). cond b (record { store = put st n (x * G) (x * G); read = n ∷ []; policy = p }) (walkS G α β k p rest st)))
+      (T && eqb j 0)
+      (λ y. record {
+        nodes = leaf n w x rest;
+        spans = subst (λ (m : ℕ). Spans t m e (leaf n w x rest)) (sym (s .0)) s;
+        from = omega (arith, s .0);
+        some = omega (arith, s .0, spans-le t (c + 1) e rest (s .5));
+        sound = i;
+        live = and-true T (eqb j 0) y;
+        walk = λ p. sym (leaf-now G α β p st n w x rest (and-true T (eqb j 0) y));
+      })
+      (λ y. later c (c + 1) (chosen α β k rest st) (λ (p : List ℕ). walkS G α β k p rest st) (omega arith)
+      (child-of (c + 1) k rest (s .5) (i .2) (less T j (candidatesS α β rest st) y l)))
+  child-of c j (inner n w kind under rest) s i l =
+      let T : Bool = live α β st n in
+      let k : ℕ = cond T (pred j) j in
+      let a : ℕ = max α (lowAt st n) in
+      let b : ℕ = min β (highAt st n) in
+      let up = spans-le t (c + 1) (stopOf t c) under (s .3) in
+      by-test
+      (λ (y : Bool). Child c (cond y n (chosen α β k rest st))
+      (λ (p : List ℕ).
+      let r : WalkS = walkS G a b (pick (candidatesS a b under st) p) (spend p) under st in
+      cond y
+      (record { store = put (r .store) n (over natural kind (lowAt st n) (lowsS under (r .store))) (over natural kind (highAt st n) (highsS under (r .store))); read = r .read; policy = r .policy })
+      (walkS G α β k p rest st)))
+      (T && eqb j 0)
+      (λ y. record {
+        nodes = inner n w kind under rest;
+        spans = subst (λ (m : ℕ). Spans t m e (inner n w kind under rest)) (sym (s .0)) s;
+        from = omega (arith, s .0);
+        some = omega (arith, s .0, up, spans-le t (stopOf t c) e rest (s .4));
+        sound = i;
+        live = and-true T (eqb j 0) y;
+        walk = λ p. rw (and-true T (eqb j 0) y) refl;
+      })
+      (λ y. later c (stopOf t c) (chosen α β k rest st) (λ (p : List ℕ). walkS G α β k p rest st) (omega (arith, up))
+      (child-of (stopOf t c) k rest (s .4) (i .4) (less T j (candidatesS α β rest st) y l)))
+
+-- ---- the node at entry c, a candidate in the window α, β
+
+module _ (t : Slices) (G α β c upto : ℕ) (st : Store) where
+  pub at-leaf : (F : Forest ℕ) → Spans t c upto F → c < upto → getD (t .kinds) c 0 ≡ 0 → live α β st c ≡ true → (p : List ℕ)
+      → let v : ℕ = getD (t .heights) c 0 * G in
+      walkS G α β 0 p F st ≡ record { store = put st c v v; read = c ∷ []; policy = p }
+  unfolding Spans
+  at-leaf end h lt z e p = absurd (omega arith)
+  at-leaf (leaf n w x rest) h lt z e p =
+      leaf-now G α β p st n w x rest (subst (λ (m : ℕ). live α β st m ≡ true) (sym (h .0)) e)
+      ∙ ap₂ (λ (m y : ℕ). record { store = put st m (y * G) (y * G); read = m ∷ []; policy = p }) (h .0) (sym (h .4))
+  at-leaf (inner n w k under rest) h lt z e p = absurd (omega (arith, code-pos k, h .1))
+
+  -- an inner node with the children `under`, in its own window a, b
+  pub record Inner (a b : ℕ) (F : Forest ℕ) : Type 0 where
+    pub kind : Kind
+    pub under : Forest ℕ
+    pub code : getD (t .kinds) c 0 ≡ codeOf kind
+    pub spans : Spans t (c + 1) (stopOf t c) under
+    pub within : stopOf t c ≤ upto
+    pub sound : Sound (keep G under st)
+    pub more : 0 < candidatesS a b under st
+    pub walk : (p : List ℕ) → walkS G α β 0 p F st ≡ updated kind under c (walkS G a b (pick (candidatesS a b under st) p) (spend p) under st)
+
+  pub at-inner : (F : Forest ℕ) → Spans t c upto F → c < upto → (getD (t .kinds) c 0 ≡ 0 → ⊥) → Sound (keep G F st) → live α β st c ≡ true
+      → Inner (max α (lowAt st c)) (min β (highAt st c)) F
+  unfolding Spans keep
+  at-inner end h lt z i e = absurd (omega arith)
+  at-inner (leaf n w x rest) h lt z i e = absurd (z (h .1))
+  at-inner (inner n w k under rest) h lt z i e =
+      let here : live α β st n ≡ true = subst (λ (m : ℕ). live α β st m ≡ true) (sym (h .0)) e in
+      record {
+        kind = k;
+        under = under;
+        code = h .1;
+        spans = h .3;
+        within = spans-le t (stopOf t c) upto rest (h .4);
+        sound = i .3;
+        more = subst (λ (m : ℕ). 0 < candidatesS (max α (lowAt st m)) (min β (highAt st m)) under st) (h .0) (inner-candidate G n w k under rest st α β i here);
+        walk = λ p.
+            subst (λ (m : ℕ). walkS G α β 0 p (inner n w k under rest) st
+            ≡ updated k under m (walkS G (max α (lowAt st m)) (min β (highAt st m)) (pick (candidatesS (max α (lowAt st m)) (min β (highAt st m)) under st) p) (spend p) under st))
+            (h .0) (inner-now G α β p st n w k under rest here (i .0));
+      }
+
+pick-less : (m : ℕ) (p : List ℕ) → 0 < m → pick m p < m
+pick-less m [] h = h
+pick-less m (b ∷ p) h = mod-lt b h
+
+-- ---- the calls of a walk
+
+module _ {K S H : List ℕ} {G c e α β : ℕ} {st : Store} (R : Ready K S H G c e α β st) where
+  abbrev at : Slices
+  at = slices K S (R .weights) H
+
+  -- y is the kind that was read
+  pub ready-leaf : (y : ℕ) → y ≡ getD K c 0 → y ≡ 0 → (P : List ℕ) (used : ℕ) (low high : List ℕ)
+      → low ≡ set (st .low) c (getD H c 0 * G) → high ≡ set (st .high) c (getD H c 0 * G)
+      → Leaves (walkS G α β 0 (drop used P) (R .nodes) st) (record { leaf = c; used = used }) P (stored low high)
+  ready-leaf y q z P used low high l h =
+      subst (λ (w : WalkS). Leaves w (record { leaf = c; used = used }) P (stored low high))
+      (sym (at-leaf at G α β c (R .upto) st (R .nodes) (R .spans) (R .some) (sym q ∙ z) (R .live) (drop used P)))
+      (record { store = ap₂ stored l h; read = refl; policy = refl; small = omega (arith, R .some, R .few) })
+
+  module _ (y : ℕ) (q : y ≡ getD K c 0) (z : y ≡ 0 → ⊥) (a b : ℕ) (ea : a ≡ max α (lowAt st c)) (eb : b ≡ min β (highAt st c)) where
+    pub ready-inner : Inner at G α β c (R .upto) st a b (R .nodes)
+    ready-inner =
+        subst₂ (λ (x v : ℕ). Inner at G α β c (R .upto) st x v (R .nodes)) (sym ea) (sym eb)
+        (at-inner at G α β c (R .upto) st (R .nodes) (R .spans) (R .some) (λ o. z (q ∙ o)) (R .sound) (R .live))
+
+    abbrev under : Forest ℕ
+    under = ready-inner .under
+
+    row : Row S (c + 1) e under
+    row = subst (λ (x : ℕ). Row S (c + 1) x under) (R .stop) (spans-row at (c + 1) (stopOf at c) under (ready-inner .spans))
+
+    pub inner-within : e ≤ R .upto
+    inner-within = omega (arith, R .stop, ready-inner .within)
+
+    pub inner-children : Children S (c + 1) e
+    inner-children = record { nodes = under; row = row; room = omega (arith, inner-within, R .stops); few = omega (arith, inner-within, R .few) }
+
+    pub inner-some : c + 1 < e
+    inner-some = candidates-some a b st S (c + 1) e under row (ready-inner .more)
+
+    module _ (m : ℕ) (em : Counted S (c + 1) e a b st m) where
+      counts : m ≡ candidatesS a b under st
+      counts = em under row
+
+      pub inner-more : 0 < m
+      inner-more = omega (arith, counts, ready-inner .more)
+
+      module _ (p : List ℕ) (j : ℕ) (ej : j ≡ pick m p) where
+        few : j < candidatesS a b under st
+        few = omega (arith, ej, counts, pick-less m p inner-more)
+
+        pub inner-choice : Choice S (c + 1) e a b st j
+        inner-choice =
+            record {
+              nodes = under;
+              row = row;
+              some = few;
+              room = omega (arith, inner-within, R .stops);
+              low = omega (arith, inner-within, R .low);
+              high = omega (arith, inner-within, R .high);
+            }
+
+        module _ (i : ℕ) (ei : Chosen S (c + 1) e a b st j i) where
+          pub inner-child : Child at G e a b st (c + 1) i (λ (s : List ℕ). walkS G a b j s under st)
+          inner-child =
+              subst (λ (x : ℕ). Child at G e a b st (c + 1) x (λ (s : List ℕ). walkS G a b j s under st)) (sym (ei under row few))
+              (child-of at G e a b st (c + 1) j under (subst (λ (x : ℕ). Spans at (c + 1) x under) (R .stop) (ready-inner .spans)) (ready-inner .sound) few)
+
+          module _ (x : ℕ) (ex : x ≡ getD S i 0) where
+            pub child-ready : Ready K S H G i x a b st
+            child-ready =
+                let C = inner-child in
+                let up = inner-within in
+                record {
+                  weights = R .weights;
+                  nodes = C .nodes;
+                  upto = e;
+                  spans = C .spans;
+                  some = C .some;
+                  stop = sym ex;
+                  sound = C .sound;
+                  live = C .live;
+                  grain = R .grain;
+                  kinds = omega (arith, R .kinds, up);
+                  stops = omega (arith, R .stops, up);
+                  heights = omega (arith, R .heights, up);
+                  low = omega (arith, R .low, up);
+                  high = omega (arith, R .high, up);
+                  few = omega (arith, R .few, up);
+                }
+
+            pub child-less : x - i < e - c
+            child-less =
+                let C = inner-child in
+                let s = step at i e (C .nodes) (C .spans) (C .some) in
+                omega (arith, ex, s .within, C .from, C .some)
+
+            -- r and st2 are what the walk under it left, and the node is updated
+            module _ (P : List ℕ) (u : ℕ) (eu : drop u P ≡ spend p) (r : Step) (st2 : Store) (told : Leaves (walkS G a b 0 (drop u P) (child-ready .nodes) st) r P st2)
+                (low high : List ℕ) (el : Updated (kindOf y) S c e (st2 .low) low) (eh : Updated (kindOf y) S c e (st2 .high) high) where
+              abbrev far : WalkS
+              far = walkS G a b 0 (drop u P) (child-ready .nodes) st
+
+              kind-is : kindOf y ≡ ready-inner .kind
+              kind-is = ap kindOf (q ∙ ready-inner .code) ∙ kind-code (ready-inner .kind)
+
+              set-is : (came now : List ℕ) → Updated (kindOf y) S c e came now → now ≡ set came c (over natural (ready-inner .kind) 0 (boundsIn under came))
+              set-is came now h = h under row ∙ ap (λ (k : Kind). set came c (over natural k 0 (boundsIn under came))) kind-is
+
+              whole : walkS G α β 0 p (R .nodes) st ≡ updated (ready-inner .kind) under c far
+              unfolding child-ready
+              whole =
+                  ready-inner .walk p
+                  ∙ ap (λ (n : ℕ). updated (ready-inner .kind) under c (walkS G a b n (spend p) under st)) (sym (ej ∙ ap (λ (n : ℕ). pick n p) counts))
+                  ∙ ap (updated (ready-inner .kind) under c) (ap (λ (s : List ℕ). walkS G a b j s under st) (sym eu) ∙ inner-child .walk (drop u P))
+
+              pub inner-done : Leaves (walkS G α β 0 p (R .nodes) st) r P (stored low high)
+              inner-done =
+                  subst (λ (w : WalkS). Leaves w r P (stored low high)) (sym whole)
+                  (record {
+                    store =
+                        ap₂ stored (set-is (st2 .low) low el) (set-is (st2 .high) high eh)
+                        ∙ ap (λ (s : Store). put s c (over natural (ready-inner .kind) 0 (boundsIn under (s .low))) (over natural (ready-inner .kind) 0 (boundsIn under (s .high)))) (told .store);
+                    read = told .read;
+                    policy = told .policy;
+                    small = told .small;
+                  })

@@ -1,0 +1,26 @@
+-- The lent store, a slice of records, filled from two lists of numbers. Document 01, 'Rollouts': "kept in a lent slice of records, one record
+-- for each node". Assumes nothing: these are definitions.
+use Prim.Native.Nat.{ℕ, zero, suc}
+use mathlib.Core.List.{List, [], _∷_, _++_, map}
+use lib.IntN.{ℤ}
+use lib.ListN.{drop}
+use Rattle.rollout.specs.declared.Record.{Record}
+use Rattle.rollout.specs.Rollout.{Pair}
+
+-- the lows and the highs of records
+abbrev pub lowsOf : List (Pair ℤ) → List ℤ
+lowsOf rs = map (λ (r : Pair ℤ). r .low) rs
+
+abbrev pub highsOf : List (Pair ℤ) → List ℤ
+highsOf rs = map (λ (r : Pair ℤ). r .high) rs
+
+-- the first n numbers of the two lists, as records
+unfoldable pub recordsOf : ℕ → List ℤ → List ℤ → List Record
+recordsOf zero ls hs = []
+recordsOf (suc n) [] hs = []
+recordsOf (suc n) (l ∷ ls) [] = []
+recordsOf (suc n) (l ∷ ls) (h ∷ hs) = record { low = l; high = h } ∷ recordsOf n ls hs
+
+-- "records past the nodes .. stay unchanged"
+abbrev pub filled : ℕ → List ℤ → List ℤ → List Record → List Record
+filled n ls hs st = recordsOf n ls hs ++ drop n st

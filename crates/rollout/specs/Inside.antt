@@ -1,0 +1,134 @@
+-- What the contracts of the code cite. Assumes nothing: these are definitions.
+use Prim.Native.Nat.{ℕ, pred, _+_, _*_, _≤_, _<_}
+use mathlib.Core.Path.{_≡_}
+use mathlib.Core.Bool.{Bool, true, _&&_, cond}
+use mathlib.Core.List.{List, [], _∷_}
+use lib.Dec.{eqb}
+use lib.ListN.{length, getD, set, drop}
+use Rattle.line.specs.Refusal.{fine}
+use Rattle.table.specs.Tree.{Kind, Forest, end, leaf, inner, leaves}
+use Rattle.table.specs.Table.{Table, readText, grain}
+use Rattle.table.specs.Slices.{Spans, heightTree, laid}
+use Rattle.table.specs.Accepted.{span}
+use Rattle.search.specs.Inside.{slices}
+use Rattle.rollout.specs.declared.Step.{Step}
+use Rattle.rollout.specs.Rollout.{over, candidate}
+use Rattle.rollout.specs.Heights.{natural}
+use Rattle.rollout.specs.Sound.{Sound}
+use Rattle.rollout.specs.Lists.{Store, lowAt, highAt, candidatesS, WalkS, RolledS, keep, walkS, rollS}
+use Rattle.rollout.specs.Lists as lists
+
+abbrev pub stored : (low high : List ℕ) → Store
+stored low high = record { low = low; high = high }
+
+-- ---- the children of a node
+
+-- the entries of these nodes with one parent: c, where its run stops, and so on up to e
+unfoldable pub Row : List ℕ → ℕ → ℕ → Forest ℕ → Type 0
+Row S c e end = c ≡ e
+Row S c e (leaf n w x rest) = (n ≡ c) × (c < getD S c 0) × Row S (getD S c 0) e rest
+Row S c e (inner n w k under rest) = (n ≡ c) × (c < getD S c 0) × Row S (getD S c 0) e rest
+
+-- the bounds of these nodes in one of the two lists
+unfoldable pub boundsIn : Forest ℕ → List ℕ → List ℕ
+boundsIn end b = []
+boundsIn (leaf n w x rest) b = getD b n 0 ∷ boundsIn rest b
+boundsIn (inner n w k under rest) b = getD b n 0 ∷ boundsIn rest b
+
+-- the node of candidate number j
+unfoldable pub chosen : (α β j : ℕ) → Forest ℕ → Store → ℕ
+chosen α β j end st = 0
+chosen α β j (leaf n w x rest) st =
+    let t : Bool = candidate natural α β (lowAt st n) (highAt st n) in
+    cond (t && eqb j 0) n (chosen α β (cond t (pred j) j) rest st)
+chosen α β j (inner n w k under rest) st =
+    let t : Bool = candidate natural α β (lowAt st n) (highAt st n) in
+    cond (t && eqb j 0) n (chosen α β (cond t (pred j) j) rest st)
+
+-- there are nodes with one parent in the entries from c up to e
+pub record Children (S : List ℕ) (c e : ℕ) : Type 0 where
+  pub nodes : Forest ℕ
+  pub row : Row S c e nodes
+  pub room : e ≤ length S
+  pub few : e ≤ 1024
+
+abbrev pub Counted : (S : List ℕ) (c e α β : ℕ) → Store → ℕ → Type 0
+Counted S c e α β st r = (F : Forest ℕ) → Row S c e F → r ≡ candidatesS α β F st
+
+-- more than j of them are candidates
+pub record Choice (S : List ℕ) (c e α β : ℕ) (st : Store) (j : ℕ) : Type 0 where
+  pub nodes : Forest ℕ
+  pub row : Row S c e nodes
+  pub some : j < candidatesS α β nodes st
+  pub room : e ≤ length S
+  pub low : e ≤ length (st .low)
+  pub high : e ≤ length (st .high)
+
+abbrev pub Chosen : (S : List ℕ) (c e α β : ℕ) → Store → (j r : ℕ) → Type 0
+Chosen S c e α β st j r = (F : Forest ℕ) → Row S c e F → j < candidatesS α β F st → r ≡ chosen α β j F st
+
+abbrev pub Extreme : Kind → (S : List ℕ) (c e : ℕ) → List ℕ → ℕ → Type 0
+Extreme k S c e b r = (F : Forest ℕ) → Row S c e F → r ≡ over natural k 0 (boundsIn F b)
+
+-- the bound of node c is the extreme of its children's
+abbrev pub Updated : Kind → (S : List ℕ) (c e : ℕ) → (came now : List ℕ) → Type 0
+Updated k S c e came now = (F : Forest ℕ) → Row S (c + 1) e F → now ≡ set came c (over natural k 0 (boundsIn F came))
+
+-- ---- a walk
+
+-- node c, whose run goes up to e, is a candidate in the window α, β
+pub record Ready (K S H : List ℕ) (G c e α β : ℕ) (st : Store) : Type 0 where
+  pub weights : List ℕ
+  pub nodes : Forest ℕ
+  pub upto : ℕ
+  pub spans : Spans (slices K S weights H) c upto nodes
+  pub some : c < upto
+  pub stop : getD S c 0 ≡ e
+  pub sound : Sound (keep G nodes st)
+  pub live : candidate natural α β (lowAt st c) (highAt st c) ≡ true
+  pub grain : G ≤ 16777216
+  pub kinds : upto ≤ length K
+  pub stops : upto ≤ length S
+  pub heights : upto ≤ length H
+  pub low : upto ≤ length (st .low)
+  pub high : upto ≤ length (st .high)
+  pub few : upto ≤ 1024
+
+-- the step r, the policy list P and the store are what the walk w leaves
+pub record Leaves (w : WalkS) (r : Step) (P : List ℕ) (st : Store) : Type 0 where
+  pub store : st ≡ w .store
+  pub read : w .read ≡ r .leaf ∷ []
+  pub policy : w .policy ≡ drop (r .used) P
+  pub small : r .leaf < 1024
+
+-- a walk from the store st with the policy bytes p left gives r and the store `now`
+abbrev pub Walked : (K S H : List ℕ) (G c e α β : ℕ) (p : List ℕ) → Store → Step → List ℕ → Store → Type 0
+Walked K S H G c e α β p st r P now = (R : Ready K S H G c e α β st) → Leaves (walkS G α β 0 p (R .nodes) st) r P now
+
+-- ---- walks while the root is open
+
+-- an accepted table, before the first walk, and room for its leaves
+pub record ReadyRoll (K S H : List ℕ) (G n : ℕ) (st : Store) (room : ℕ) : Type 0 where
+  pub text : List ℕ
+  pub table : Table
+  pub accepted : readText text ≡ fine table
+  pub weights : List ℕ
+  pub spans : Spans (slices K S weights H) 0 n (heightTree table)
+  pub grained : G ≡ grain table
+  pub size : n ≡ length (table .lines)
+  pub ready : lists.Ready n (span (table .head) * grain table) st
+  pub kinds : n ≤ length K
+  pub stops : n ≤ length S
+  pub heights : n ≤ length H
+  pub space : leaves (heightTree table) ≤ room
+
+-- the number r, the store and the list are what rollouts leave
+pub record RolledIn (d : RolledS) (st : Store) (r : ℕ) (came now : List ℕ) : Type 0 where
+  pub store : st ≡ d .store
+  pub used : r ≡ length (d .read)
+  pub leaves : now ≡ laid (d .read) came
+
+abbrev pub WellRolled : (K S H : List ℕ) (G n : ℕ) (P : List ℕ) → (st last : Store) → ℕ → (came now : List ℕ) → Type 0
+WellRolled K S H G n P st last r came now =
+    (R : ReadyRoll K S H G n st (length came))
+    → RolledIn (rollS (grain (R .table)) (leaves (heightTree (R .table))) P (heightTree (R .table)) st) last r came now

@@ -1,0 +1,289 @@
+// Rollouts over the decoded table: Algorithm 4 of document 003, whose lines are named here, in grains above the lowest end.
+ghost use mathlib.Core.Path.{_≡_};
+ghost use mathlib.Core.Bool.{cond};
+ghost use Prim.Native.Nat.{_+_, _*_, _<_, _≤_, min, max};
+ghost use lib.ListN.{length, getD, set, drop};
+ghost use Rattle.table.specs.Tree.{kindOf};
+ghost use Rattle.rollout.specs.Rollout.{pick, spend, joined, candidate};
+ghost use Rattle.rollout.specs.Heights.{natural};
+ghost use Rattle.rollout.specs.Filled.{filled};
+ghost use Rattle.rollout.specs.Inside.{stored, Children, Counted, Choice, Chosen, Extreme, Updated, Ready, Walked, ReadyRoll, WellRolled};
+
+// What a walk gives: the leaf that it read, and how many policy bytes are used.
+struct Step {
+    pub leaf: usize,
+    pub used: usize,
+}
+
+fn max_of(a: u64, b: u64) -> u64
+    ensures { λ r. ⌜ r ≡ max a b ⌝ }
+{
+    if a < b { b } else { a }
+}
+
+fn min_of(a: u64, b: u64) -> u64
+    ensures { λ r. ⌜ r ≡ min a b ⌝ }
+{
+    if b < a { b } else { a }
+}
+
+fn one_if(b: bool) -> usize
+    ensures { λ r. ⌜ r ≡ cond b 1 0 ⌝ }
+{
+    if b { 1 } else { 0 }
+}
+
+fn wide32(x: u32) -> u64
+    ensures { λ r. ⌜ (r ≡ x) × (r < 4294967296) ⌝ }
+{
+    x as u64
+}
+
+fn index8(x: u8) -> usize
+    ensures { λ r. ⌜ r ≡ x ⌝ }
+{
+    x as usize
+}
+
+fn index16(x: u16) -> usize
+    ensures { λ r. ⌜ r ≡ x ⌝ }
+{
+    x as usize
+}
+
+fn kind_at(kind: &[u8], i: usize) -> u8
+    requires { ⌜ i < length (now kind) ⌝ }
+    ensures { λ r. ⌜ r ≡ getD (now (kind .entry)) i 0 ⌝ }
+{
+    kind[i]
+}
+
+fn stop_at(stop: &[u16], i: usize) -> usize
+    requires { ⌜ i < length (now stop) ⌝ }
+    ensures { λ r. ⌜ r ≡ getD (now (stop .entry)) i 0 ⌝ }
+{
+    index16(stop[i])
+}
+
+fn bound_at(bound: &[u64], i: usize) -> u64
+    requires { ⌜ i < length (now bound) ⌝ }
+    ensures { λ r. ⌜ r ≡ getD (now (bound .entry)) i 0 ⌝ }
+{
+    bound[i]
+}
+
+// Lines 9 and 11: whether node i is a candidate in its parent's window.
+fn is_candidate(low: &[u64], high: &[u64], i: usize, alpha: u64, beta: u64) -> bool
+    requires { ⌜ (i < length (now low)) × (i < length (now high)) ⌝ }
+    ensures { λ r. ⌜ r ≡ candidate natural alpha beta (getD (now (low .entry)) i 0) (getD (now (high .entry)) i 0) ⌝ }
+{
+    max_of(alpha, low[i]) < min_of(beta, high[i])
+}
+
+// How many of the children, entries c up to e, are candidates.
+fn count(
+    stop: &[u16],
+    low: &[u64],
+    high: &[u64],
+    c: usize,
+    e: usize,
+    alpha: u64,
+    beta: u64,
+) -> usize
+    requires { ⌜ Children (now stop) c e × (e ≤ length (now low)) × (e ≤ length (now high)) ⌝ }
+    ensures { λ r. ⌜ Counted (now (stop .entry)) c e alpha beta (stored (now (low .entry)) (now (high .entry))) r ⌝ }
+{
+    let mut m: usize = 0;
+    let mut i = c;
+    while i < e {
+        m = m + one_if(is_candidate(low, high, i, alpha, beta));
+        i = stop_at(stop, i);
+    }
+    m
+}
+
+// Candidate number j of the children, counted from 0.
+fn find(
+    stop: &[u16],
+    low: &[u64],
+    high: &[u64],
+    c: usize,
+    e: usize,
+    alpha: u64,
+    beta: u64,
+    j: usize,
+) -> usize
+    requires { ⌜ Choice (now stop) c e alpha beta (stored (now low) (now high)) j ⌝ }
+    ensures { λ r. ⌜ Chosen (now (stop .entry)) c e alpha beta (stored (now (low .entry)) (now (high .entry))) j r ⌝ }
+{
+    let mut left = j;
+    let mut i = c;
+    loop {
+        let t = is_candidate(low, high, i, alpha, beta);
+        if t & (left == 0) {
+            return i;
+        }
+        left = left - one_if(t);
+        i = stop_at(stop, i);
+    }
+}
+
+fn join(kind: u8, x: u64, y: u64) -> u64
+    ensures { λ r. ⌜ r ≡ joined natural (kindOf kind) x y ⌝ }
+{
+    if kind == 2 {
+        return min_of(x, y);
+    }
+    max_of(x, y)
+}
+
+// Lines 15 and 16: the maximum or minimum over all children, unread ones included.
+fn extreme(kind: u8, stop: &[u16], bound: &[u64], c: usize, e: usize) -> u64
+    requires { ⌜ Children (now stop) c e × (c < e) × (e ≤ length (now bound)) ⌝ }
+    ensures { λ r. ⌜ Extreme (kindOf kind) (now (stop .entry)) c e (now (bound .entry)) r ⌝ }
+{
+    let mut x = bound_at(bound, c);
+    let mut i = stop_at(stop, c);
+    while i < e {
+        x = join(kind, x, bound_at(bound, i));
+        i = stop_at(stop, i);
+    }
+    x
+}
+
+// The node c, whose children are the entries after it up to e, gets the extremes of their bounds.
+fn update(kind: u8, stop: &[u16], low: &mut [u64], high: &mut [u64], c: usize, e: usize)
+    requires { ⌜ Children (now stop) (c + 1) e × (c + 1 < e) × (e ≤ length (now low)) × (e ≤ length (now high)) ⌝ }
+    ensures { λ _. ⌜ Updated (kindOf kind) (now (stop .entry)) c e (now (low .entry)) (now (low .exit)) × Updated (kindOf kind) (now (stop .entry)) c e (now (high .entry)) (now (high .exit)) ⌝ }
+{
+    let l = extreme(kind, stop, low, c + 1, e);
+    let h = extreme(kind, stop, high, c + 1, e);
+    low[c] = l;
+    high[c] = h;
+}
+
+// The leaf c is read: both bounds are its height in grains.
+fn read_leaf(height: &[u32], low: &mut [u64], high: &mut [u64], c: usize, grain: u64)
+    requires { ⌜ (c < length (now height)) × (c < length (now low)) × (c < length (now high)) × (grain ≤ 16777216) ⌝ }
+    ensures { λ _. ⌜ (now (low .exit) ≡ set (now (low .entry)) c (getD (now (height .entry)) c 0 * grain)) × (now (high .exit) ≡ set (now (high .entry)) c (getD (now (height .entry)) c 0 * grain)) ⌝ }
+{
+    let v = wide32(height[c]) * grain;
+    low[c] = v;
+    high[c] = v;
+}
+
+// Which of m candidates the policy byte at `at` names: past the list's end the first.
+fn choice(policy: &[u8], at: usize, m: usize) -> usize
+    requires { ⌜ 0 < m ⌝ }
+    ensures { λ r. ⌜ r ≡ pick m (drop at (now (policy .entry))) ⌝ }
+{
+    if at < policy.len() {
+        return index8(policy[at]) % m;
+    }
+    0
+}
+
+// How many bytes are used after one more inner node.
+fn consume(policy: &[u8], at: usize) -> usize
+    ensures { λ r. ⌜ drop r (now (policy .entry)) ≡ spend (drop at (now (policy .entry))) ⌝ }
+{
+    if at < policy.len() {
+        return at + 1;
+    }
+    at
+}
+
+// Lines 6 to 17: from node c, a candidate in the window alpha, beta whose run goes up to e, down to a leaf, and up again.
+fn walk(
+    kind: &[u8],
+    stop: &[u16],
+    height: &[u32],
+    low: &mut [u64],
+    high: &mut [u64],
+    policy: &[u8],
+    at: usize,
+    grain: u64,
+    c: usize,
+    e: usize,
+    alpha: u64,
+    beta: u64,
+) -> Step
+    requires { ⌜ Ready (now kind) (now stop) (now height) grain c e alpha beta (stored (now low) (now high)) ⌝ }
+    ensures { λ r. ⌜ Walked (now (kind .entry)) (now (stop .entry)) (now (height .entry)) grain c e alpha beta (drop at (now (policy .entry))) (stored (now (low .entry)) (now (high .entry))) r (now (policy .entry)) (stored (now (low .exit)) (now (high .exit))) ⌝ }
+{
+    let k = kind_at(kind, c);
+    if k == 0 {
+        read_leaf(height, low, high, c, grain);
+        return Step { leaf: c, used: at };
+    }
+    let a = max_of(alpha, bound_at(low, c));
+    let b = min_of(beta, bound_at(high, c));
+    let m = count(stop, low, high, c + 1, e, a, b);
+    let j = choice(policy, at, m);
+    let i = find(stop, low, high, c + 1, e, a, b, j);
+    let x = stop_at(stop, i);
+    let u = consume(policy, at);
+    let r = walk(kind, stop, height, low, high, policy, u, grain, i, x, a, b);
+    update(k, stop, low, high, c, e);
+    r
+}
+
+// The leaf goes to its place in the list.
+fn list_leaf(leaves: &mut [u16], used: usize, leaf: usize)
+    requires { ⌜ (used < length (now leaves)) × (leaf < 1024) ⌝ }
+    ensures { λ _. ⌜ now (leaves .exit) ≡ set (now (leaves .entry)) used leaf ⌝ }
+{
+    leaves[used] = leaf as u16;
+}
+
+// The rollouts of the table whose nodes are the entries up to n, from a store where every node has the ends as bounds: lines 2 to 4. The
+// leaves read are listed in reading sequence; the rest of the list stays. It gives their number.
+pub fn rollouts(
+    kind: &[u8],
+    stop: &[u16],
+    height: &[u32],
+    low: &mut [u64],
+    high: &mut [u64],
+    policy: &[u8],
+    leaves: &mut [u16],
+    n: usize,
+    grain: u64,
+) -> usize
+    requires { ⌜ ReadyRoll (now kind) (now stop) (now height) grain n (stored (now low) (now high)) (length (now leaves)) ⌝ }
+    ensures { λ r. ⌜ WellRolled (now (kind .entry)) (now (stop .entry)) (now (height .entry)) grain n (now (policy .entry)) (stored (now (low .entry)) (now (high .entry))) (stored (now (low .exit)) (now (high .exit))) r (now (leaves .entry)) (now (leaves .exit)) ⌝ }
+{
+    let mut used: usize = 0;
+    let mut at: usize = 0;
+    loop {
+        let a = bound_at(low, 0);
+        let b = bound_at(high, 0);
+        if b <= a {
+            return used;
+        }
+        let r = walk(kind, stop, height, low, high, policy, at, grain, 0, n, a, b);
+        list_leaf(leaves, used, r.leaf);
+        used = used + 1;
+        at = r.used;
+    }
+}
+
+// One node's bounds, in grains.
+pub struct Record {
+    pub low: i64,
+    pub high: i64,
+}
+
+// The first n records of the lent store get the bounds; the others stay. A function over a slice of structs is proved by hand.
+pub fn fill(store: &mut [Record], lows: &[i64], highs: &[i64], n: usize)
+    requires { ⌜ (n ≤ length (now store)) × (n ≤ length (now lows)) × (n ≤ length (now highs)) ⌝ }
+    ensures { λ _. ⌜ now (store .exit) ≡ filled n (now (lows .entry)) (now (highs .entry)) (now (store .entry)) ⌝ }
+{
+    let mut i = 0;
+    while i < n {
+        store[i] = Record {
+            low: lows[i],
+            high: highs[i],
+        };
+        i += 1;
+    }
+}
