@@ -1,11 +1,11 @@
 -- Demand 3 at the public calls. Assumes nothing.
 use Prim.Native.Nat.{ℕ, zero, suc, _≤_}
 use mathlib.Core.Path.{_≡_, refl, sym, ap, ap₂, subst, _∙_}
-use mathlib.Core.Bool.{Bool, true, false, cond}
+use mathlib.Core.Bool.{Bool, true, false, _||_, cond}
 use mathlib.Core.List.{List, [], _∷_, List·Memᴰ}
 use mathlib.Core.Option.{Option, none, some}
 use native.Mathlib.Omega.{arith}
-use borrow.Author.Tests.{ltb-false}
+use borrow.Author.Tests.{ltb-false, le-ltb}
 use lib.Dec.{eqb, leb, ltb}
 use lib.ListN.{length}
 use lib.IntN.{ℤ, pos, negsuc, negℤ, _+ℤ_}
@@ -13,7 +13,7 @@ use lib.Signed.{leZ, ltZ}
 use Rattle.line.specs.declared.Line.{Line}
 use Rattle.line.specs.declared.Head.{Head}
 use Rattle.line.specs.declared.Refusal.{Refusal}
-use Rattle.line.specs.declared.Refusal.the-variants.{NoRoom}
+use Rattle.line.specs.declared.Refusal.the-variants.{NoRoom, HasChance}
 use Rattle.line.specs.Refusal.{Verdict, refused, fine, unless}
 use Rattle.line.specs.Line.{toNat}
 use Rattle.line.proofs.Checks.{or-left}
@@ -34,12 +34,19 @@ use Rattle.search.specs.Turned.{Turns}
 use Rattle.search.proofs.Demand.{contains, width, play-near}
 use Rattle.search.proofs.Changed as changed
 use Rattle.search.proofs.Turned as mirror
+use Rattle.rollout.specs.declared.Record.{Record}
+use Rattle.rollout.specs.Leaves.{Distinct}
+use Rattle.rollout.specs.Rollout.{Rolled}
+use Rattle.rollout.specs.Whole.{hasChance, rolled, rolledWorth}
+use Rattle.rollout.proofs.Demand.{ends-on-worth, no-leaf-twice}
 use Rattle.engine.specs.declared.Bounds.{Bounds}
 use Rattle.engine.specs.declared.Bounded.the-variants.{Found, Refused}
+use Rattle.engine.specs.declared.Rolled
+use Rattle.engine.specs.declared.Rolled.the-variants.{Done}
 use Rattle.engine.specs.declared.Turned
 use Rattle.engine.specs.declared.Exact.the-variants.{Grains}
-use Rattle.engine.specs.Calls.{exactCall, badMargin, Sought, sought, boundsOf, searchAnswer, searchList, searchCall, searchReads, turnOf, turnAnswer, turnWritten}
-use Rattle.engine.specs.Demands.{childWorth, Promised, LongEnough, withUtility, SameLines, same-none, same-more, Differ, Mirrors, Answers, Sentence1, Sentence2, Sentence3, TurnAnswers, TurningTwice, SearchUntouched, TurnUntouched}
+use Rattle.engine.specs.Calls.{exactCall, badMargin, Sought, sought, boundsOf, searchAnswer, searchList, searchCall, searchReads, rolls, rollAnswer, rollList, rollRecords, rollCall, recorded, turnOf, turnAnswer, turnWritten}
+use Rattle.engine.specs.Demands.{childWorth, Promised, LongEnough, withUtility, SameLines, same-none, same-more, Differ, Mirrors, Answers, Sentence1, Sentence2, Sentence3, TurnAnswers, TurningTwice, RolloutsEnd, RollAnswers, SearchUntouched, TurnUntouched, RollUntouched}
 use Rattle.engine.proofs.Answered.{answered, answers, reads}
 use Rattle.engine.proofs.Turning.{turn-fine}
 
@@ -222,6 +229,44 @@ turning-twice s size u w other long =
 pub turn-answers : TurnAnswers
 turn-answers s t size p long = (turnedText t, turn-fine s t size p long, turned-length s t p)
 
+-- ---- rollouts
+
+no-roll : {P : Type 0} (r : Refusal) (w : ℤ) (n : ℕ) → Rolled.the-variants.Refused r ≡ Done w n → P
+no-roll r w n e = let z : _≡_ {A = ℕ} 0 1 = cc in absurd (omega arith)
+
+same-done : (y z : ℤ) (a b : ℕ) → Done y a ≡ Done z b → y ≡ z
+same-done y z a b e = cc
+
+-- a call that was not refused
+rolled-of : (s p : List ℕ) (list room : ℕ) (w : ℤ) (n : ℕ) (v : Verdict Table) → readText s ≡ v → rollCall v p list room ≡ Done w n
+    → (t : Table) × (readText s ≡ fine t) × (hasChance t ≡ false) × (rolls (readText s) list room ≡ fine t) × (w ≡ rolledWorth t p)
+unfolding unless
+rolled-of s p list room w n (refused r) q e = no-roll r w n e
+rolled-of s p list room w n (fine t) q e = go (hasChance t) (ltb list (leaves (tree t)) || ltb room (length (t .lines))) refl refl e
+  where
+    go : (x y : Bool) → hasChance t ≡ x → (ltb list (leaves (tree t)) || ltb room (length (t .lines))) ≡ y
+        → rollAnswer p (cond x (refused HasChance) (cond y (refused NoRoom) (fine t))) ≡ Done w n
+        → (t : Table) × (readText s ≡ fine t) × (hasChance t ≡ false) × (rolls (readText s) list room ≡ fine t) × (w ≡ rolledWorth t p)
+    go true y c d e = no-roll HasChance w n e
+    go false true c d e = no-roll NoRoom w n e
+    go false false c d e =
+        (t, q, c, ap (λ (v : Verdict Table). rolls v list room) q ∙ rw (c, d) refl, sym (same-done (rolledWorth t p) w (length (rolled t p .read)) n e))
+
+pub rollouts-end : RolloutsEnd
+rollouts-end s p list room w n e =
+    let (t, q, c, f, worth) = rolled-of s p list room w n (readText s) refl e in (
+      (grain t, ap exactCall q ∙ ap (λ (z : ℤ). Grains z (grain t)) (sym (ends-on-worth s t q c p) ∙ sym worth)),
+      subst Distinct (sym (ap (rollList p) f)) (no-leaf-twice s t q c p),
+    )
+
+pub roll-answers : RollAnswers
+unfolding unless
+roll-answers s t p list room q c long wide = (
+  rolledWorth t p,
+  length (rolled t p .read),
+  ap (λ (v : Verdict Table). rollCall v p list room) q ∙ rw (c, le-ltb list (leaves (tree t)) long, le-ltb room (length (t .lines)) wide) refl,
+)
+
 -- ---- refused calls
 
 nothing-sought : (v : Verdict Sought) (list : List ℕ) (r : Refusal) → searchAnswer v ≡ Refused r → laid (searchList v) list ≡ list
@@ -237,3 +282,11 @@ nothing-turned (fine s) buffer r e = let z : _≡_ {A = ℕ} 0 1 = cc in absurd 
 
 pub turn-untouched : TurnUntouched
 turn-untouched s buffer r e = nothing-turned (turnOf (readText s) (length buffer)) buffer r e
+
+nothing-rolled : (p : List ℕ) (v : Verdict Table) (list : List ℕ) (store : List Record) (r : Refusal) → rollAnswer p v ≡ Rolled.the-variants.Refused r
+    → (laid (rollList p v) list ≡ list) × (recorded (rollRecords p v) store ≡ store)
+nothing-rolled p (refused x) list store r e = (refl, refl)
+nothing-rolled p (fine t) list store r e = let z : _≡_ {A = ℕ} 0 1 = cc in absurd (omega arith)
+
+pub roll-untouched : RollUntouched
+roll-untouched s p list store r e = nothing-rolled p (rolls (readText s) (length list) (length store)) list store r e

@@ -9,8 +9,9 @@ use Rattle.worth.specs.Worth.{maxZ, minZ, floorZ, largest, smallest, weighted, 
 use Rattle.judge.specs.Judge.{levels}
 use Rattle.search.specs.Search.{begin, finish, cut, point, lower, upper, beats, take, stop, scan, search, searchRoot}
 use Rattle.search.specs.Whole.{ceilZ, downZ, upZ, gainZ, lossZ, inGrains}
+use Rattle.rollout.specs.Rollout.{fresh, lows, highs, candidates, over, walk, roll}
 use Rattle.engine.specs.Rows.{rows, AllTell}
 
 pub all-rows : AllTell rows
-unfolding strip digits wholeField signed unless unlessAt climb run afterRun forest weigh nodesWhere leaves nodeLines complete readText greatest maxZ minZ floorZ largest smallest weighted value shares levels begin finish cut point lower upper beats take stop scan search searchRoot ceilZ downZ upZ gainZ lossZ inGrains
-all-rows = (refl, (refl, (refl, (refl, (refl, (refl, (refl, (refl, (refl, (refl, (refl, (refl, tt))))))))))))
+unfolding strip digits wholeField signed unless unlessAt climb run afterRun forest weigh nodesWhere leaves nodeLines complete readText greatest maxZ minZ floorZ largest smallest weighted value shares levels begin finish cut point lower upper beats take stop scan search searchRoot ceilZ downZ upZ gainZ lossZ inGrains fresh lows highs candidates over walk roll
+all-rows = (refl, (refl, (refl, (refl, (refl, (refl, (refl, (refl, (refl, (refl, (refl, (refl, (refl, (refl, tt))))))))))))))

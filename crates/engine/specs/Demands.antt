@@ -16,12 +16,17 @@ use Rattle.table.specs.Table.{Table, tree, readText}
 use Rattle.table.specs.Slices.{laid}
 use Rattle.judge.specs.declared.Play.the-variants.{Child}
 use Rattle.search.specs.Whole.{playWorth}
+use Rattle.rollout.specs.declared.Record.{Record}
+use Rattle.rollout.specs.Leaves.{Distinct}
+use Rattle.rollout.specs.Whole.{hasChance}
 use Rattle.engine.specs.declared.Bounds.{Bounds}
 use Rattle.engine.specs.declared.Bounded
 use Rattle.engine.specs.declared.Bounded.the-variants.{Found}
+use Rattle.engine.specs.declared.Rolled
+use Rattle.engine.specs.declared.Rolled.the-variants.{Done}
 use Rattle.engine.specs.declared.Turned
 use Rattle.engine.specs.declared.Exact.the-variants.{Grains}
-use Rattle.engine.specs.Calls.{exactCall, badMargin, searchCall, searchReads, turnOf, turnCall, turnBytes}
+use Rattle.engine.specs.Calls.{exactCall, badMargin, searchCall, searchReads, rollCall, rollReads, rollStore, recorded, turnOf, turnCall, turnBytes}
 
 -- ---- the bounds and the play
 
@@ -121,6 +126,21 @@ TurningTwice =
     (s : List ℕ) (size : ℕ) (u : List ℕ) → turnOf (readText s) size ≡ fine u
     → (other : ℕ) → length u ≤ other → turnOf (readText u) other ≡ fine s
 
+-- ---- demand 2: "Rollouts on tables without dice end on the exact worth under every policy list and read no leaf twice."
+
+-- p is the policy list; the leaf list has `list` entries and the store `room` records
+abbrev pub RolloutsEnd : Type 0
+RolloutsEnd =
+    (s p : List ℕ) (list room : ℕ) (worth : ℤ) (count : ℕ) → rollCall (readText s) p list room ≡ Done worth count
+    → ((G : ℕ) × (exactCall (readText s) ≡ Grains worth G)) × Distinct (rollReads (readText s) p list room)
+
+-- every accepted table without C is rolled out, under every policy list, with a list and a store that are long enough
+abbrev pub RollAnswers : Type 0
+RollAnswers =
+    (s : List ℕ) (t : Table) (p : List ℕ) (list room : ℕ) → readText s ≡ fine t → hasChance t ≡ false
+    → leaves (tree t) ≤ list → length (t .lines) ≤ room
+    → (worth : ℤ) × (count : ℕ) × (rollCall (readText s) p list room ≡ Done worth count)
+
 -- ---- demand 1: "A refused call changes no byte of what it was lent."
 
 abbrev pub SearchUntouched : Type 0
@@ -132,3 +152,9 @@ abbrev pub TurnUntouched : Type 0
 TurnUntouched =
     (s : List ℕ) (buffer : List ℕ) (r : Refusal) → turnCall (readText s) (length buffer) ≡ Turned.the-variants.Refused r
     → laid (turnBytes (readText s) (length buffer)) buffer ≡ buffer
+
+abbrev pub RollUntouched : Type 0
+RollUntouched =
+    (s p list : List ℕ) (store : List Record) (r : Refusal) → rollCall (readText s) p (length list) (length store) ≡ Rolled.the-variants.Refused r
+    → (laid (rollReads (readText s) p (length list) (length store)) list ≡ list)
+    × (recorded (rollStore (readText s) p (length list) (length store)) store ≡ store)

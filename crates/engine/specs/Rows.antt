@@ -13,21 +13,26 @@ use Rattle.engine.specs.declared.Opinion.{Opinion}
 use Rattle.engine.specs.declared.Opinion.the-variants.{Given}
 use Rattle.engine.specs.declared.Bounded.{Bounded}
 use Rattle.engine.specs.declared.Bounded.the-variants.{Found}
-use Rattle.engine.specs.Calls.{searchCall, searchReads, judgeCall}
+use Rattle.engine.specs.declared.Rolled.{Rolled}
+use Rattle.engine.specs.declared.Rolled.the-variants.{Done}
+use Rattle.engine.specs.Calls.{searchCall, searchReads, judgeCall, rollCall, rollReads}
 
--- a call with its arguments; lists have 1,024 entries
+-- a call with its arguments; leaf lists have 1,024 entries and stores 1,024 records
 pub data Call : Type 0 where
   search : (margin : ℤ) → Call
   judge : (number : ℤ) → Call
+  roll : (policy : List ℕ) → Call
 
 -- what a call tells: its answer, and the entries of the leaf list that it fills
 pub data Told : Type 0 where
   sought : Bounded → List ℕ → Told
   opined : Opinion → Told
+  ended : Rolled → List ℕ → Told
 
 abbrev pub tells : Call → List ℕ → Told
 tells (search margin) text = sought (searchCall (readText text) margin 1024) (searchReads (readText text) margin 1024)
 tells (judge number) text = opined (judgeCall (readText text) number)
+tells (roll policy) text = ended (rollCall (readText text) policy 1024 1024) (rollReads (readText text) policy 1024 1024)
 
 pub record Row : Type 0 where
   pub call : Call
@@ -51,6 +56,8 @@ rows =
     ∷ record { call = search (pos 0); text = lone-leaf; told = bounds (pos 7) (pos 7) 1 NoPlay 1 (0 ∷ []) }
     ∷ record { call = search (pos 40000000000000); text = lone-leaf; told = bounds (pos 7) (pos 7) 1 NoPlay 1 (0 ∷ []) }
     ∷ record { call = judge (pos 2); text = table-b; told = opined (Given (Lost 6 1)) }
+    ∷ record { call = roll []; text = table-a; told = ended (Done (pos 3) 3) (2 ∷ 3 ∷ 5 ∷ []) }
+    ∷ record { call = roll (1 ∷ 1 ∷ []); text = table-a; told = ended (Done (pos 3) 4) (6 ∷ 2 ∷ 3 ∷ 5 ∷ []) }
     ∷ []
 
 -- every row's call on its text tells what the row has
