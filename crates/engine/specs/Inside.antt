@@ -6,12 +6,12 @@ use lib.IntN.{ℤ, pos, _+ℤ_, _*ℤ_, _-ℤ_}
 use lib.ListN.{length, getD, drop}
 use lib.Signed.{mag}
 use Rattle.line.specs.Line.{toNat}
+use Rattle.line.specs.Refusal.{Verdict}
 use Rattle.table.specs.declared.Summary.{Summary}
-use Rattle.worth.specs.declared.Scale.{Scale}
-use Rattle.search.specs.declared.Rule.{Rule}
 use Rattle.table.specs.Table.{Table}
 use Rattle.table.specs.Slices.{laid}
-use Rattle.line.specs.Refusal.{Verdict}
+use Rattle.worth.specs.declared.Scale.{Scale}
+use Rattle.search.specs.declared.Rule.{Rule}
 use Rattle.rollout.specs.Filled.{lowsOf, highsOf}
 use Rattle.engine.specs.declared.Outcome.{Outcome}
 use Rattle.engine.specs.Calls.{rollCall, rollReads, rollStore}

@@ -21,7 +21,7 @@ use Rattle.rollout.specs.Heights.{natural}
 use Rattle.rollout.specs.Sound.{Sound}
 use Rattle.rollout.specs.Lists.{Store, lowAt, highAt, WalkS, keep, walkS, rollS}
 use Rattle.rollout.specs.Lists as lists
-use Rattle.rollout.specs.Inside.{Ready, Leaves, Walked, ReadyRoll, RolledIn}
+use Rattle.rollout.specs.Inside.{Ready, WalkLeft, Walked, ReadyRoll, RolledIn}
 use Rattle.rollout.proofs.Table.{height-numbered}
 use Rattle.rollout.proofs.Listed.{Going, going-begin, going-sound, going-walk, going-end}
 
@@ -112,11 +112,11 @@ module _ {K S H : List ℕ} {G n : ℕ} {st0 : Store} (came P : List ℕ) (R : R
 
       -- r and st2 are what a walk left
       module _ (r : Step) (st2 : Store) (told : Walked K S H G 0 n a b (drop at P) st r P st2) where
-        walked : Leaves one r P st2
+        walked : WalkLeft one r P st2
         unfolding rolling-ready
         walked =
-            subst₂ (λ (x y : ℕ). Leaves (walkS (grain (R .table)) x y 0 (drop at P) F st) r P st2) ea eb
-            (subst (λ (g : ℕ). Leaves (walkS g a b 0 (drop at P) F st) r P st2) (R .grained) (told rolling-ready))
+            subst₂ (λ (x y : ℕ). WalkLeft (walkS (grain (R .table)) x y 0 (drop at P) F st) r P st2) ea eb
+            (subst (λ (g : ℕ). WalkLeft (walkS g a b 0 (drop at P) F st) r P st2) (R .grained) (told rolling-ready))
 
         next : (m : ℕ) × (one .read ≡ m ∷ []) × (length (L .read) < leaves F) × Going (R .text) (R .table) (R .accepted) P st0 (L .read ++ (m ∷ [])) (one .policy) (one .store)
         next = going-walk (R .text) (R .table) (R .accepted) P st0 (L .read) (drop at P) st (L .going) (lt-ltb (lowAt st 0) (highAt st 0) (omega (arith, ea, eb)))

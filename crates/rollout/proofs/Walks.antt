@@ -19,7 +19,7 @@ use Rattle.rollout.specs.Rollout.{pick, spend, over, candidate}
 use Rattle.rollout.specs.Heights.{natural}
 use Rattle.rollout.specs.Sound.{Filled, Sound}
 use Rattle.rollout.specs.Lists.{Store, lowAt, highAt, put, lowsS, highsS, candidatesS, WalkS, keep, walkS}
-use Rattle.rollout.specs.Inside.{stored, Row, boundsIn, chosen, Children, Counted, Choice, Chosen, Updated, Ready, Leaves}
+use Rattle.rollout.specs.Inside.{stored, Row, boundsIn, chosen, Children, Counted, Choice, Chosen, Updated, Ready, WalkLeft}
 use Rattle.rollout.proofs.Folds.{Some, over-any}
 use Rattle.rollout.proofs.Listed.{inner-candidate}
 use Rattle.rollout.proofs.Rows.{row-le, spans-row, one-more, live, down-is, down-some, candidates-some}
@@ -204,6 +204,19 @@ pick-less m (b ∷ p) h = mod-lt b h
 
 -- ---- the calls of a walk
 
+-- at an inner node c, whose kind was read as y: its own window a, b
+pub record Window (K : List ℕ) (st : Store) (c α β y a b : ℕ) : Type 0 where
+  pub kind : y ≡ getD K c 0
+  pub inside : y ≡ 0 → ⊥
+  pub alpha : a ≡ max α (lowAt st c)
+  pub beta : b ≡ min β (highAt st c)
+
+-- of the m candidates under it number j, which the policy bytes p name, is at entry i
+pub record Choosing (S : List ℕ) (c e a b : ℕ) (st : Store) (p : List ℕ) (m j i : ℕ) : Type 0 where
+  pub count : Counted S (c + 1) e a b st m
+  pub named : j ≡ pick m p
+  pub found : Chosen S (c + 1) e a b st j i
+
 module _ {K S H : List ℕ} {G c e α β : ℕ} {st : Store} (R : Ready K S H G c e α β st) where
   abbrev at : Slices
   at = slices K S (R .weights) H
@@ -211,117 +224,114 @@ module _ {K S H : List ℕ} {G c e α β : ℕ} {st : Store} (R : Ready K S H G 
   -- y is the kind that was read
   pub ready-leaf : (y : ℕ) → y ≡ getD K c 0 → y ≡ 0 → (P : List ℕ) (used : ℕ) (low high : List ℕ)
       → low ≡ set (st .low) c (getD H c 0 * G) → high ≡ set (st .high) c (getD H c 0 * G)
-      → Leaves (walkS G α β 0 (drop used P) (R .nodes) st) (record { leaf = c; used = used }) P (stored low high)
+      → WalkLeft (walkS G α β 0 (drop used P) (R .nodes) st) (record { leaf = c; used = used }) P (stored low high)
   ready-leaf y q z P used low high l h =
-      subst (λ (w : WalkS). Leaves w (record { leaf = c; used = used }) P (stored low high))
+      subst (λ (w : WalkS). WalkLeft w (record { leaf = c; used = used }) P (stored low high))
       (sym (at-leaf at G α β c (R .upto) st (R .nodes) (R .spans) (R .some) (sym q ∙ z) (R .live) (drop used P)))
       (record { store = ap₂ stored l h; read = refl; policy = refl; small = omega (arith, R .some, R .few) })
 
-  module _ (y : ℕ) (q : y ≡ getD K c 0) (z : y ≡ 0 → ⊥) (a b : ℕ) (ea : a ≡ max α (lowAt st c)) (eb : b ≡ min β (highAt st c)) where
-    pub ready-inner : Inner at G α β c (R .upto) st a b (R .nodes)
-    ready-inner =
-        subst₂ (λ (x v : ℕ). Inner at G α β c (R .upto) st x v (R .nodes)) (sym ea) (sym eb)
-        (at-inner at G α β c (R .upto) st (R .nodes) (R .spans) (R .some) (λ o. z (q ∙ o)) (R .sound) (R .live))
+  module _ {y a b : ℕ} (w : Window K st c α β y a b) where
+    pub node : Inner at G α β c (R .upto) st a b (R .nodes)
+    node =
+        subst₂ (λ (x v : ℕ). Inner at G α β c (R .upto) st x v (R .nodes)) (sym (w .alpha)) (sym (w .beta))
+        (at-inner at G α β c (R .upto) st (R .nodes) (R .spans) (R .some) (λ o. w .inside (w .kind ∙ o)) (R .sound) (R .live))
 
     abbrev under : Forest ℕ
-    under = ready-inner .under
+    under = node .under
 
     row : Row S (c + 1) e under
-    row = subst (λ (x : ℕ). Row S (c + 1) x under) (R .stop) (spans-row at (c + 1) (stopOf at c) under (ready-inner .spans))
+    row = subst (λ (x : ℕ). Row S (c + 1) x under) (R .stop) (spans-row at (c + 1) (stopOf at c) under (node .spans))
 
     pub inner-within : e ≤ R .upto
-    inner-within = omega (arith, R .stop, ready-inner .within)
+    inner-within = omega (arith, R .stop, node .within)
 
     pub inner-children : Children S (c + 1) e
     inner-children = record { nodes = under; row = row; room = omega (arith, inner-within, R .stops); few = omega (arith, inner-within, R .few) }
 
     pub inner-some : c + 1 < e
-    inner-some = candidates-some a b st S (c + 1) e under row (ready-inner .more)
+    inner-some = candidates-some a b st S (c + 1) e under row (node .more)
 
-    module _ (m : ℕ) (em : Counted S (c + 1) e a b st m) where
-      counts : m ≡ candidatesS a b under st
-      counts = em under row
+    pub inner-more : (m : ℕ) → Counted S (c + 1) e a b st m → 0 < m
+    inner-more m n = omega (arith, n under row, node .more)
 
-      pub inner-more : 0 < m
-      inner-more = omega (arith, counts, ready-inner .more)
+    few : (p : List ℕ) (m j : ℕ) → Counted S (c + 1) e a b st m → j ≡ pick m p → j < candidatesS a b under st
+    few p m j n q = omega (arith, q, n under row, pick-less m p (inner-more m n))
 
-      module _ (p : List ℕ) (j : ℕ) (ej : j ≡ pick m p) where
-        few : j < candidatesS a b under st
-        few = omega (arith, ej, counts, pick-less m p inner-more)
+    pub inner-choice : (p : List ℕ) (m j : ℕ) → Counted S (c + 1) e a b st m → j ≡ pick m p → Choice S (c + 1) e a b st j
+    inner-choice p m j n q =
+        record {
+          nodes = under;
+          row = row;
+          some = few p m j n q;
+          room = omega (arith, inner-within, R .stops);
+          low = omega (arith, inner-within, R .low);
+          high = omega (arith, inner-within, R .high);
+        }
 
-        pub inner-choice : Choice S (c + 1) e a b st j
-        inner-choice =
+    module _ {p : List ℕ} {m j i : ℕ} (g : Choosing S c e a b st p m j i) where
+      pub inner-child : Child at G e a b st (c + 1) i (λ (s : List ℕ). walkS G a b j s under st)
+      inner-child =
+          let l : j < candidatesS a b under st = few p m j (g .count) (g .named) in
+          subst (λ (x : ℕ). Child at G e a b st (c + 1) x (λ (s : List ℕ). walkS G a b j s under st)) (sym (g .found under row l))
+          (child-of at G e a b st (c + 1) j under (subst (λ (x : ℕ). Spans at (c + 1) x under) (R .stop) (node .spans)) (node .sound) l)
+
+      -- its run goes up to x
+      module _ (x : ℕ) (ex : x ≡ getD S i 0) where
+        pub child-ready : Ready K S H G i x a b st
+        child-ready =
+            let C = inner-child in
+            let up = inner-within in
             record {
-              nodes = under;
-              row = row;
-              some = few;
-              room = omega (arith, inner-within, R .stops);
-              low = omega (arith, inner-within, R .low);
-              high = omega (arith, inner-within, R .high);
+              weights = R .weights;
+              nodes = C .nodes;
+              upto = e;
+              spans = C .spans;
+              some = C .some;
+              stop = sym ex;
+              sound = C .sound;
+              live = C .live;
+              grain = R .grain;
+              kinds = omega (arith, R .kinds, up);
+              stops = omega (arith, R .stops, up);
+              heights = omega (arith, R .heights, up);
+              low = omega (arith, R .low, up);
+              high = omega (arith, R .high, up);
+              few = omega (arith, R .few, up);
             }
 
-        module _ (i : ℕ) (ei : Chosen S (c + 1) e a b st j i) where
-          pub inner-child : Child at G e a b st (c + 1) i (λ (s : List ℕ). walkS G a b j s under st)
-          inner-child =
-              subst (λ (x : ℕ). Child at G e a b st (c + 1) x (λ (s : List ℕ). walkS G a b j s under st)) (sym (ei under row few))
-              (child-of at G e a b st (c + 1) j under (subst (λ (x : ℕ). Spans at (c + 1) x under) (R .stop) (ready-inner .spans)) (ready-inner .sound) few)
+        pub child-less : x - i < e - c
+        child-less =
+            let C = inner-child in
+            let s = step at i e (C .nodes) (C .spans) (C .some) in
+            omega (arith, ex, s .within, C .from, C .some)
 
-          module _ (x : ℕ) (ex : x ≡ getD S i 0) where
-            pub child-ready : Ready K S H G i x a b st
-            child-ready =
-                let C = inner-child in
-                let up = inner-within in
-                record {
-                  weights = R .weights;
-                  nodes = C .nodes;
-                  upto = e;
-                  spans = C .spans;
-                  some = C .some;
-                  stop = sym ex;
-                  sound = C .sound;
-                  live = C .live;
-                  grain = R .grain;
-                  kinds = omega (arith, R .kinds, up);
-                  stops = omega (arith, R .stops, up);
-                  heights = omega (arith, R .heights, up);
-                  low = omega (arith, R .low, up);
-                  high = omega (arith, R .high, up);
-                  few = omega (arith, R .few, up);
-                }
+        -- r and st2 are what the walk under it left, and the node is updated
+        module _ (P : List ℕ) (u : ℕ) (eu : drop u P ≡ spend p) (r : Step) (st2 : Store) (told : WalkLeft (walkS G a b 0 (drop u P) (child-ready .nodes) st) r P st2)
+            (low high : List ℕ) (el : Updated (kindOf y) S c e (st2 .low) low) (eh : Updated (kindOf y) S c e (st2 .high) high) where
+          abbrev far : WalkS
+          far = walkS G a b 0 (drop u P) (child-ready .nodes) st
 
-            pub child-less : x - i < e - c
-            child-less =
-                let C = inner-child in
-                let s = step at i e (C .nodes) (C .spans) (C .some) in
-                omega (arith, ex, s .within, C .from, C .some)
+          kind-is : kindOf y ≡ node .kind
+          kind-is = ap kindOf (w .kind ∙ node .code) ∙ kind-code (node .kind)
 
-            -- r and st2 are what the walk under it left, and the node is updated
-            module _ (P : List ℕ) (u : ℕ) (eu : drop u P ≡ spend p) (r : Step) (st2 : Store) (told : Leaves (walkS G a b 0 (drop u P) (child-ready .nodes) st) r P st2)
-                (low high : List ℕ) (el : Updated (kindOf y) S c e (st2 .low) low) (eh : Updated (kindOf y) S c e (st2 .high) high) where
-              abbrev far : WalkS
-              far = walkS G a b 0 (drop u P) (child-ready .nodes) st
+          set-is : (came now : List ℕ) → Updated (kindOf y) S c e came now → now ≡ set came c (over natural (node .kind) 0 (boundsIn under came))
+          set-is came now h = h under row ∙ ap (λ (k : Kind). set came c (over natural k 0 (boundsIn under came))) kind-is
 
-              kind-is : kindOf y ≡ ready-inner .kind
-              kind-is = ap kindOf (q ∙ ready-inner .code) ∙ kind-code (ready-inner .kind)
+          all : walkS G α β 0 p (R .nodes) st ≡ updated (node .kind) under c far
+          unfolding child-ready
+          all =
+              node .walk p
+              ∙ ap (λ (n : ℕ). updated (node .kind) under c (walkS G a b n (spend p) under st)) (sym (g .named ∙ ap (λ (n : ℕ). pick n p) (g .count under row)))
+              ∙ ap (updated (node .kind) under c) (ap (λ (s : List ℕ). walkS G a b j s under st) (sym eu) ∙ inner-child .walk (drop u P))
 
-              set-is : (came now : List ℕ) → Updated (kindOf y) S c e came now → now ≡ set came c (over natural (ready-inner .kind) 0 (boundsIn under came))
-              set-is came now h = h under row ∙ ap (λ (k : Kind). set came c (over natural k 0 (boundsIn under came))) kind-is
-
-              whole : walkS G α β 0 p (R .nodes) st ≡ updated (ready-inner .kind) under c far
-              unfolding child-ready
-              whole =
-                  ready-inner .walk p
-                  ∙ ap (λ (n : ℕ). updated (ready-inner .kind) under c (walkS G a b n (spend p) under st)) (sym (ej ∙ ap (λ (n : ℕ). pick n p) counts))
-                  ∙ ap (updated (ready-inner .kind) under c) (ap (λ (s : List ℕ). walkS G a b j s under st) (sym eu) ∙ inner-child .walk (drop u P))
-
-              pub inner-done : Leaves (walkS G α β 0 p (R .nodes) st) r P (stored low high)
-              inner-done =
-                  subst (λ (w : WalkS). Leaves w r P (stored low high)) (sym whole)
-                  (record {
-                    store =
-                        ap₂ stored (set-is (st2 .low) low el) (set-is (st2 .high) high eh)
-                        ∙ ap (λ (s : Store). put s c (over natural (ready-inner .kind) 0 (boundsIn under (s .low))) (over natural (ready-inner .kind) 0 (boundsIn under (s .high)))) (told .store);
-                    read = told .read;
-                    policy = told .policy;
-                    small = told .small;
-                  })
+          pub inner-done : WalkLeft (walkS G α β 0 p (R .nodes) st) r P (stored low high)
+          inner-done =
+              subst (λ (z : WalkS). WalkLeft z r P (stored low high)) (sym all)
+              (record {
+                store =
+                    ap₂ stored (set-is (st2 .low) low el) (set-is (st2 .high) high eh)
+                    ∙ ap (λ (s : Store). put s c (over natural (node .kind) 0 (boundsIn under (s .low))) (over natural (node .kind) 0 (boundsIn under (s .high)))) (told .store);
+                read = told .read;
+                policy = told .policy;
+                small = told .small;
+              })

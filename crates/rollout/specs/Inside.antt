@@ -95,7 +95,7 @@ pub record Ready (K S H : List ℕ) (G c e α β : ℕ) (st : Store) : Type 0 wh
   pub few : upto ≤ 1024
 
 -- the step r, the policy list P and the store are what the walk w leaves
-pub record Leaves (w : WalkS) (r : Step) (P : List ℕ) (st : Store) : Type 0 where
+pub record WalkLeft (w : WalkS) (r : Step) (P : List ℕ) (st : Store) : Type 0 where
   pub store : st ≡ w .store
   pub read : w .read ≡ r .leaf ∷ []
   pub policy : w .policy ≡ drop (r .used) P
@@ -103,7 +103,7 @@ pub record Leaves (w : WalkS) (r : Step) (P : List ℕ) (st : Store) : Type 0 wh
 
 -- a walk from the store st with the policy bytes p left gives r and the store `now`
 abbrev pub Walked : (K S H : List ℕ) (G c e α β : ℕ) (p : List ℕ) → Store → Step → List ℕ → Store → Type 0
-Walked K S H G c e α β p st r P now = (R : Ready K S H G c e α β st) → Leaves (walkS G α β 0 p (R .nodes) st) r P now
+Walked K S H G c e α β p st r P now = (R : Ready K S H G c e α β st) → WalkLeft (walkS G α β 0 p (R .nodes) st) r P now
 
 -- ---- walks while the root is open
 

@@ -1,14 +1,14 @@
 -- `rollout::walk`, which calls itself, meets its contract. Assumes nothing.
 use Prim.Native.Nat.{ℕ, _-_, _<_, min, max}
-use mathlib.Core.Path.{_≡_, ap, _∙_}
+use mathlib.Core.Path.{ap, _∙_}
 use native.Mathlib.Omega.{arith}
 use borrow.Author.Needs.{needs}
 use borrow.Fn.Kinds.{In}
 use borrow.Fn.PlainCycle.{Measures, is, falls, and}
 use denote.Ref.{now}
-use lib.ListN.{getD, drop}
-use Rattle.rollout.specs.Inside.{stored, Ready}
-use Rattle.rollout.proofs.Walks.{ready-leaf, inner-within, inner-children, inner-some, inner-more, inner-choice, inner-child, child-ready, child-less, inner-done}
+use lib.ListN.{drop}
+use Rattle.rollout.specs.Inside.{stored}
+use Rattle.rollout.proofs.Walks.{Window, Choosing, ready-leaf, inner-within, inner-children, inner-some, inner-more, inner-choice, inner-child, child-ready, child-less, inner-done}
 use Rattle.rollout.proofs.walk.Reads as walk
 use Rattle.rollout.proofs.walk.Kinds as walk-kinds
 use Rattle.rollout.proofs.+walk.Lts-walk as walk-lts
@@ -109,15 +109,17 @@ walk-min-of-requires t c κs = search needs
 abbrev start-of : (t : ℕ) → walk-lts.After-min-of (walk-claims t) (walk-at t) walk.Post → walk-lts.Start (walk-claims t) (walk-at t) walk.Post
 start-of t c = c .before .before .before .before .before .before .before .before .before .before .before .before .before .before
 
-alpha-is : (t : ℕ) (c : walk-lts.After-min-of (walk-claims t) (walk-at t) walk.Post)
+window : (t : ℕ) (c : walk-lts.After-min-of (walk-claims t) (walk-at t) walk.Post)
     → let a = start-of t c .args in
-    c .before .before .before .max-of .result ≡ max (a .alpha) (getD (now (a .low)) (a .c) 0)
-alpha-is t c = c .before .before .before .max-of .ensures ∙ ap (max (start-of t c .args .alpha)) (c .before .before .before .before .bound-at .ensures)
-
-beta-is : (t : ℕ) (c : walk-lts.After-min-of (walk-claims t) (walk-at t) walk.Post)
-    → let a = start-of t c .args in
-    c .min-of .result ≡ min (a .beta) (getD (now (a .high)) (a .c) 0)
-beta-is t c = c .min-of .ensures ∙ ap (min (start-of t c .args .beta)) (c .before .bound-at2 .ensures)
+    Window (now (a .kind)) (stored (now (a .low)) (now (a .high))) (a .c) (a .alpha) (a .beta) (c .before .before .before .before .before .before .before .kind-at .result) (c .before .before .before .max-of .result) (c .min-of .result)
+window t c =
+    let a = start-of t c .args in
+    record {
+      kind = c .before .before .before .before .before .before .before .kind-at .ensures;
+      inside = c .before .before .before .before .before .before .if1 .left;
+      alpha = c .before .before .before .max-of .ensures ∙ ap (max (a .alpha)) (c .before .before .before .before .bound-at .ensures);
+      beta = c .min-of .ensures ∙ ap (min (a .beta)) (c .before .bound-at2 .ensures);
+    }
 
 walk-add-count : (t : ℕ) → walk-lts.Need-add-count (walk-claims t) (walk-at t) walk.Post
 walk-add-count t c =
@@ -128,13 +130,13 @@ walk-count-requires : (t : ℕ) → walk-lts.Need-count-requires (walk-claims t)
 walk-count-requires t c κs =
     let w = c .before .before in
     let R = start-of t w .pre .1 in
-    let up = inner-within R (w .before .before .before .before .before .before .before .kind-at .result) (w .before .before .before .before .before .before .before .kind-at .ensures) (w .before .before .before .before .before .before .if1 .left) (w .before .before .before .max-of .result) (w .min-of .result) (alpha-is t w) (beta-is t w) in
-    (inner-children R (w .before .before .before .before .before .before .before .kind-at .result) (w .before .before .before .before .before .before .before .kind-at .ensures) (w .before .before .before .before .before .before .if1 .left) (w .before .before .before .max-of .result) (w .min-of .result) (alpha-is t w) (beta-is t w), omega (arith, up, R .low), omega (arith, up, R .high))
+    let up = inner-within R (window t w) in
+    (inner-children R (window t w), omega (arith, up, R .low), omega (arith, up, R .high))
 
 walk-choice-requires : (t : ℕ) → walk-lts.Need-choice-requires (walk-claims t) (walk-at t) walk.Post
 walk-choice-requires t c κs =
     let w = c .before .before .before in
-    inner-more (start-of t w .pre .1) (w .before .before .before .before .before .before .before .kind-at .result) (w .before .before .before .before .before .before .before .kind-at .ensures) (w .before .before .before .before .before .before .if1 .left) (w .before .before .before .max-of .result) (w .min-of .result) (alpha-is t w) (beta-is t w) (c .count .result) (c .count .ensures)
+    inner-more (start-of t w .pre .1) (window t w) (c .count .result) (c .count .ensures)
 
 walk-add-find : (t : ℕ) → walk-lts.Need-add-find (walk-claims t) (walk-at t) walk.Post
 walk-add-find t c =
@@ -147,34 +149,44 @@ walk-find-requires t c κs =
     let a = start-of t w .args in
     let m = c .before .before .before .count in
     let j = c .before .before .choice in
-    inner-choice (start-of t w .pre .1) (w .before .before .before .before .before .before .before .kind-at .result) (w .before .before .before .before .before .before .before .kind-at .ensures) (w .before .before .before .before .before .before .if1 .left) (w .before .before .before .max-of .result) (w .min-of .result) (alpha-is t w) (beta-is t w) (m .result) (m .ensures) (drop (a .at) (now (a .policy))) (j .result) (j .ensures)
+    inner-choice (start-of t w .pre .1) (window t w) (drop (a .at) (now (a .policy))) (m .result) (j .result) (m .ensures) (j .ensures)
+
+-- where the child was found
+
+abbrev window-of : (t : ℕ) → walk-lts.After-find (walk-claims t) (walk-at t) walk.Post → walk-lts.After-min-of (walk-claims t) (walk-at t) walk.Post
+window-of t c = c .before .before .before .before .before .before .before
+
+choosing : (t : ℕ) (c : walk-lts.After-find (walk-claims t) (walk-at t) walk.Post)
+    → let w = window-of t c in
+    let a = start-of t w .args in
+    Choosing (now (a .stop)) (a .c) (a .e) (w .before .before .before .max-of .result) (w .min-of .result) (stored (now (a .low)) (now (a .high))) (drop (a .at) (now (a .policy)))
+    (c .before .before .before .before .count .result) (c .before .before .before .choice .result) (c .find .result)
+choosing t c = record { count = c .before .before .before .before .count .ensures; named = c .before .before .before .choice .ensures; found = c .find .ensures }
 
 walk-stop-at-requires : (t : ℕ) → walk-lts.Need-stop-at-requires (walk-claims t) (walk-at t) walk.Post
 walk-stop-at-requires t c κs =
-    let w = c .before .before .before .before .before .before .before in
-    let a = start-of t w .args in
+    let w = window-of t c in
     let R = start-of t w .pre .1 in
-    omega (arith, inner-within R (w .before .before .before .before .before .before .before .kind-at .result) (w .before .before .before .before .before .before .before .kind-at .ensures) (w .before .before .before .before .before .before .if1 .left) (w .before .before .before .max-of .result) (w .min-of .result) (alpha-is t w) (beta-is t w), R .stops, inner-child R (w .before .before .before .before .before .before .before .kind-at .result) (w .before .before .before .before .before .before .before .kind-at .ensures) (w .before .before .before .before .before .before .if1 .left) (w .before .before .before .max-of .result) (w .min-of .result) (alpha-is t w) (beta-is t w) (c .before .before .before .before .count .result) (c .before .before .before .before .count .ensures) (drop (a .at) (now (a .policy))) (c .before .before .before .choice .result) (c .before .before .before .choice .ensures) (c .find .result) (c .find .ensures) .some)
+    omega (arith, inner-within R (window t w), R .stops, inner-child R (window t w) (choosing t c) .some)
 
 walk-consume-requires : (t : ℕ) → walk-lts.Need-consume-requires (walk-claims t) (walk-at t) walk.Post
 walk-consume-requires t c κs = search needs
 
 walk-walk-requires : (t : ℕ) → walk-lts.Need-walk-requires (walk-claims t) (walk-at t) walk.Post
 walk-walk-requires t c κs =
-    let w = c .before .before .before .before .before .before .before .before .before .before .before in
+    let f = c .before .before .before .before in
+    let w = window-of t f in
     let s = start-of t w in
-    let a = s .args in
     let x = c .before .before .before .stop-at in
-    let less = child-less (s .pre .1) (w .before .before .before .before .before .before .before .kind-at .result) (w .before .before .before .before .before .before .before .kind-at .ensures) (w .before .before .before .before .before .before .if1 .left) (w .before .before .before .max-of .result) (w .min-of .result) (alpha-is t w) (beta-is t w) (c .before .before .before .before .before .before .before .before .count .result) (c .before .before .before .before .before .before .before .before .count .ensures) (drop (a .at) (now (a .policy))) (c .before .before .before .before .before .before .before .choice .result) (c .before .before .before .before .before .before .before .choice .ensures) (c .before .before .before .before .find .result) (c .before .before .before .before .find .ensures) (x .result) (x .ensures) in
-    (omega (arith, s .pre .0, less), child-ready (s .pre .1) (w .before .before .before .before .before .before .before .kind-at .result) (w .before .before .before .before .before .before .before .kind-at .ensures) (w .before .before .before .before .before .before .if1 .left) (w .before .before .before .max-of .result) (w .min-of .result) (alpha-is t w) (beta-is t w) (c .before .before .before .before .before .before .before .before .count .result) (c .before .before .before .before .before .before .before .before .count .ensures) (drop (a .at) (now (a .policy))) (c .before .before .before .before .before .before .before .choice .result) (c .before .before .before .before .before .before .before .choice .ensures) (c .before .before .before .before .find .result) (c .before .before .before .before .find .ensures) (x .result) (x .ensures))
+    (omega (arith, s .pre .0, child-less (s .pre .1) (window t w) (choosing t f) (x .result) (x .ensures)), child-ready (s .pre .1) (window t w) (choosing t f) (x .result) (x .ensures))
 
 walk-update-requires : (t : ℕ) → walk-lts.Need-update-requires (walk-claims t) (walk-at t) walk.Post
 walk-update-requires t c κs =
-    let w = c .before .before .before .before .before .before .before .before .before .before .before .before .before .before .before .before .before .before in
+    let w = window-of t (c .before .before .before .before .before .before .before .before .before .before .before) in
     let R = start-of t w .pre .1 in
-    let up = inner-within R (w .before .before .before .before .before .before .before .kind-at .result) (w .before .before .before .before .before .before .before .kind-at .ensures) (w .before .before .before .before .before .before .if1 .left) (w .before .before .before .max-of .result) (w .min-of .result) (alpha-is t w) (beta-is t w) in
+    let up = inner-within R (window t w) in
     let k = c .before .before .before .before .before .before .walk .kept in
-    (inner-children R (w .before .before .before .before .before .before .before .kind-at .result) (w .before .before .before .before .before .before .before .kind-at .ensures) (w .before .before .before .before .before .before .if1 .left) (w .before .before .before .max-of .result) (w .min-of .result) (alpha-is t w) (beta-is t w), inner-some R (w .before .before .before .before .before .before .before .kind-at .result) (w .before .before .before .before .before .before .before .kind-at .ensures) (w .before .before .before .before .before .before .if1 .left) (w .before .before .before .max-of .result) (w .min-of .result) (alpha-is t w) (beta-is t w), omega (arith, up, R .low, k .1 .1 .1 .0), omega (arith, up, R .high, k .1 .1 .1 .1 .0))
+    (inner-children R (window t w), inner-some R (window t w), omega (arith, up, R .low, k .1 .1 .1 .0), omega (arith, up, R .high, k .1 .1 .1 .1 .0))
 
 walk-same-length-3 : (t : ℕ) → walk-lts.Need-same-length-3 (walk-claims t) (walk-at t) walk.Post
 walk-same-length-3 t c = c .before .before .before .before .update .kept .1 .1 .0 ∙ c .before .before .before .before .before .before .before .before .before .before .before .walk .kept .1 .1 .1 .0
@@ -184,14 +196,15 @@ walk-same-length-4 t c = c .before .before .before .before .update .kept .1 .1 .
 
 walk-returns-2 : (t : ℕ) → walk-lts.Need-returns-2 (walk-claims t) (walk-at t) walk.Post
 walk-returns-2 t c =
-    let w = c .before .before .before .before .before .before .before .before .before .before .before .before .before .before .before .before .before .before .before .before .before .before .before in
+    let U = c .before .before .before .before in
+    let D = U .before .before .before .before .before .before .before in
+    let f = D .before .before .before .before .before in
+    let w = window-of t f in
     let a = start-of t w .args in
-    let x = c .before .before .before .before .before .before .before .before .before .before .before .before .before .before .before .stop-at in
-    let u = c .before .before .before .before .before .before .before .before .before .before .before .before .before .before .consume in
-    let f = c .before .before .before .before .before .before .before .before .before .before .before .walk in
-    let g = c .before .before .before .before .update in
-    λ R. inner-done R (w .before .before .before .before .before .before .before .kind-at .result) (w .before .before .before .before .before .before .before .kind-at .ensures) (w .before .before .before .before .before .before .if1 .left) (w .before .before .before .max-of .result) (w .min-of .result) (alpha-is t w) (beta-is t w) (c .before .before .before .before .before .before .before .before .before .before .before .before .before .before .before .before .before .before .before .before .count .result) (c .before .before .before .before .before .before .before .before .before .before .before .before .before .before .before .before .before .before .before .before .count .ensures) (drop (a .at) (now (a .policy))) (c .before .before .before .before .before .before .before .before .before .before .before .before .before .before .before .before .before .before .before .choice .result) (c .before .before .before .before .before .before .before .before .before .before .before .before .before .before .before .before .before .before .before .choice .ensures) (c .before .before .before .before .before .before .before .before .before .before .before .before .before .before .before .before .find .result) (c .before .before .before .before .before .before .before .before .before .before .before .before .before .before .before .before .find .ensures) (x .result) (x .ensures) (now (a .policy)) (u .result) (u .ensures)
-    (f .result) (stored _ _) (f .ensures (child-ready R (w .before .before .before .before .before .before .before .kind-at .result) (w .before .before .before .before .before .before .before .kind-at .ensures) (w .before .before .before .before .before .before .if1 .left) (w .before .before .before .max-of .result) (w .min-of .result) (alpha-is t w) (beta-is t w) (c .before .before .before .before .before .before .before .before .before .before .before .before .before .before .before .before .before .before .before .before .count .result) (c .before .before .before .before .before .before .before .before .before .before .before .before .before .before .before .before .before .before .before .before .count .ensures) (drop (a .at) (now (a .policy))) (c .before .before .before .before .before .before .before .before .before .before .before .before .before .before .before .before .before .before .before .choice .result) (c .before .before .before .before .before .before .before .before .before .before .before .before .before .before .before .before .before .before .before .choice .ensures) (c .before .before .before .before .before .before .before .before .before .before .before .before .before .before .before .before .find .result) (c .before .before .before .before .before .before .before .before .before .before .before .before .before .before .before .before .find .ensures) (x .result) (x .ensures))) _ _ (g .ensures .0) (g .ensures .1)
+    let x = D .before .before .before .before .stop-at in
+    let u = D .before .before .before .consume in
+    λ R. inner-done R (window t w) (choosing t f) (x .result) (x .ensures) (now (a .policy)) (u .result) (u .ensures)
+    (D .walk .result) (stored _ _) (D .walk .ensures (child-ready R (window t w) (choosing t f) (x .result) (x .ensures))) _ _ (U .update .ensures .0) (U .update .ensures .1)
 
 pub +walk-spec : {M : Type 1} → statement M
 +walk-spec =

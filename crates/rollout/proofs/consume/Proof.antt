@@ -1,5 +1,5 @@
 -- `rollout::consume` meets its contract. Assumes nothing.
-use Prim.Native.Nat.{suc, _+_}
+use Prim.Native.Nat.{ℕ, suc, _+_}
 use mathlib.Core.Path.{_≡_, sym, ap, _∙_}
 use native.Mathlib.Omega.{arith}
 use denote.Ref.{now}
@@ -19,7 +19,7 @@ returns c =
     let p = now (s .args .policy) in
     let at = s .args .at in
     let up : at + 1 ≡ suc at = omega arith in
-    rw up (sym (ap spend (drop-cons p at 0 (c .if1 .taken))))
+    ap (λ (n : ℕ). drop n p) up ∙ sym (ap spend (drop-cons p at 0 (c .if1 .taken)))
 
 returns-2 : tie.Need-returns-2
 returns-2 c =
