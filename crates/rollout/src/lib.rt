@@ -268,6 +268,7 @@ pub fn rollouts(
 }
 
 // One node's bounds, in grains.
+#[repr(C)]
 pub struct Record {
     pub low: i64,
     pub high: i64,
