@@ -84,7 +84,7 @@ abbrev pub rollNumbers : Rolled → List ℤ
 rollNumbers (Rolled.the-variants.Done worth leaves) = worth ∷ pos leaves ∷ []
 rollNumbers (Rolled.the-variants.Refused r) = []
 
--- its count fits a signed number, its line is a table's
+-- its count fits a signed number, and its line is that of a refused table, or 0
 abbrev pub SmallRolled : Rolled → Type 0
 SmallRolled (Rolled.the-variants.Done worth leaves) = leaves < 2 ^ 63
 SmallRolled (Rolled.the-variants.Refused r) = lineOf r ≤ 1024

@@ -18,7 +18,7 @@ use Rattle.engine.specs.declared.Rolled.{Rolled}
 use Rattle.engine.specs.declared.Rolled.the-variants.{Done, Refused}
 use Rattle.engine.specs.Calls.{rolls, rollAnswer, rollCall}
 
--- at most 1024 leaves are read, and a refusal's line is one of the 1024
+-- at most 1024 leaves are read, and the line of a refusal is at most 1024
 abbrev pub RollSized : Rolled → Type 0
 RollSized (Done worth n) = n ≤ 1024
 RollSized (Refused r) = lineOf r ≤ 1024
