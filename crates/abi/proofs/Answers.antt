@@ -16,10 +16,13 @@ use Rattle.engine.specs.declared.Exact.the-variants.{Grains, Refused}
 use Rattle.engine.specs.declared.Opinion
 use Rattle.engine.specs.Calls.{exactCall, judgeCall}
 use Rattle.engine.specs.declared.Bounds.{Bounds}
+use Rattle.engine.specs.declared.Rolled
+use Rattle.engine.specs.declared.Rolled.{Rolled}
 use Rattle.engine.proofs.Answered.{Sizes, Below}
+use Rattle.engine.proofs.RollAnswered.{RollSized}
 use Rattle.judge.specs.declared.Play.{Play}
 use Rattle.judge.specs.declared.Play.the-variants.{Child, NoPlay}
-use Rattle.abi.specs.Numbers.{nodeNumber, Small, SmallBounds}
+use Rattle.abi.specs.Numbers.{nodeNumber, Small, SmallBounds, SmallRolled}
 
 pub small : (s : List ℕ) (t : Summary) → answer (readText s) ≡ Accepted t → Small t
 small s t e =
@@ -75,3 +78,7 @@ node-small NoPlay h = omega arith
 pub bounds-small : (b : Bounds) → Sizes b → SmallBounds b
 bounds-small b z =
     record { play = omega (arith, node-small (b .play) (z .play)); leaves = omega (arith, z .leaves); grain = omega (arith, z .grain) }
+
+pub rolled-small : (r : Rolled) → RollSized r → SmallRolled r
+rolled-small (Rolled.the-variants.Done worth n) h = omega (arith, h)
+rolled-small (Rolled.the-variants.Refused r) h = h

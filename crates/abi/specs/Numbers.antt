@@ -1,5 +1,5 @@
 -- Answers as numbers, for callers in other languages.
-use Prim.Native.Nat.{ℕ, suc, _+_, _*_, _<_, _^_}
+use Prim.Native.Nat.{ℕ, suc, _+_, _*_, _<_, _≤_, _^_}
 use mathlib.Core.List.{List, [], _∷_}
 use lib.ListN.{set}
 use lib.IntN.{ℤ, pos}
@@ -16,7 +16,9 @@ use Rattle.engine.specs.declared.Opinion.{Opinion}
 use Rattle.engine.specs.declared.Bounds.{Bounds}
 use Rattle.engine.specs.declared.Bounded
 use Rattle.engine.specs.declared.Bounded.{Bounded}
-use Rattle.engine.specs.Calls.{exactNumber, exactLine, judgeNumber, judgeLine, searchNumber, searchLine, turnedNumber, turnedLine}
+use Rattle.engine.specs.Calls.{exactNumber, exactLine, judgeNumber, judgeLine, searchNumber, searchLine, rollNumber, rollLine, turnedNumber, turnedLine}
+use Rattle.engine.specs.declared.Rolled
+use Rattle.engine.specs.declared.Rolled.{Rolled}
 use Rattle.engine.specs.declared.Turned.{Turned}
 use Rattle.engine.specs.declared.Exact
 use Rattle.engine.specs.declared.Exact.{Exact}
@@ -73,6 +75,19 @@ pub record SmallBounds (b : Bounds) : Type 0 where
   pub play : nodeNumber (b .play) < 2 ^ 63
   pub leaves : b .leaves < 2 ^ 63
   pub grain : b .grain < 2 ^ 63
+
+-- the same of rollouts: the worth and the number of leaves read
+abbrev pub rollCode : Rolled → ℕ
+rollCode r = 100 * rollLine r + rollNumber r
+
+abbrev pub rollNumbers : Rolled → List ℤ
+rollNumbers (Rolled.the-variants.Done worth leaves) = worth ∷ pos leaves ∷ []
+rollNumbers (Rolled.the-variants.Refused r) = []
+
+-- its count fits a signed number, and its line is that of a refused table, or 0
+abbrev pub SmallRolled : Rolled → Type 0
+SmallRolled (Rolled.the-variants.Done worth leaves) = leaves < 2 ^ 63
+SmallRolled (Rolled.the-variants.Refused r) = lineOf r ≤ 1024
 
 -- the same of turning
 abbrev pub turnedCode : Turned → ℕ

@@ -7,16 +7,18 @@ ghost use lib.IntN.{pos};
 ghost use Rattle.line.specs.Refusal.{lineOf};
 ghost use Rattle.table.specs.Table.{readText, answer};
 ghost use Rattle.table.specs.Slices.{laid, fitted, kindsOf, stopsOf, weightsOf, heightsOf, decoded};
-ghost use Rattle.engine.specs.Calls.{exactCall, judgeCall, searchCall, searchReads, turnCall, turnBytes};
-ghost use Rattle.abi.specs.Numbers.{codeOf, numbersOf, worthCode, worthNumbers, judgeCode, judgedNumbers, judgeNumbers, nodeNumber, searchCode, boundsNumbers, searchNumbers, turnedCode, put, Small, SmallBounds};
+ghost use Rattle.engine.specs.Calls.{exactCall, judgeCall, searchCall, searchReads, rollCall, rollReads, rollStore, recorded, turnCall, turnBytes};
+ghost use Rattle.abi.specs.Numbers.{codeOf, numbersOf, worthCode, worthNumbers, judgeCode, judgedNumbers, judgeNumbers, nodeNumber, searchCode, boundsNumbers, searchNumbers, rollCode, rollNumbers, turnedCode, put, Small, SmallBounds, SmallRolled};
 use engine::Bounded;
 use engine::Bounds;
 use engine::Exact;
 use engine::Opinion;
+use engine::Rolled;
 use engine::Turned;
 use judge::Judged;
 use judge::Play;
 use line::Refusal;
+use rollout::Record;
 use table::Reading;
 use table::Summary;
 
@@ -206,4 +208,45 @@ pub extern "C" fn margin_turn(text: &[u8], buffer: &mut [u8]) -> u64
         Turned::Refused(r) => refusal_code(r),
         Turned::Written(_) => 0,
     }
+}
+
+fn put_count(worth: i64, leaves: usize, numbers: &mut [i64])
+    requires { ⌜ leaves < 2 ^ 63 ⌝ }
+    ensures { λ _. ⌜ now (numbers .exit) ≡ put 0 (rollNumbers (Rolled.Done worth leaves)) (now (numbers .entry)) ⌝ }
+{
+    put_at(numbers, 0, worth);
+    put_at(numbers, 1, signed(leaves as u64));
+}
+
+// What rollouts answer, as a code and numbers.
+fn put_rolled(r: Rolled, numbers: &mut [i64]) -> u64
+    requires { ⌜ SmallRolled r ⌝ }
+    ensures code { λ n. ⌜ n ≡ rollCode r ⌝ }
+    ensures numbers { λ _. ⌜ now (numbers .exit) ≡ put 0 (rollNumbers r) (now (numbers .entry)) ⌝ }
+{
+    match r {
+        Rolled::Refused(r) => refusal_code(r),
+        Rolled::Done(worth, leaves) => {
+            put_count(worth, leaves, numbers);
+            0
+        }
+    }
+}
+
+// Rollouts under a policy list: the worth in grains and the number of leaves read go to `numbers`, the leaves read to `leaves`, in reading
+// sequence, and the bounds of the nodes as last updated to `store`, by node number. Where the call is refused, nothing is written.
+#[no_mangle]
+pub extern "C" fn margin_rollout(
+    text: &[u8],
+    policy: &[u8],
+    store: &mut [Record],
+    leaves: &mut [u16],
+    numbers: &mut [i64],
+) -> u64
+    ensures code { λ r. ⌜ r ≡ rollCode (rollCall (readText (now (text .entry))) (now (policy .entry)) (length (now (leaves .entry))) (length (now (store .entry)))) ⌝ }
+    ensures numbers { λ _. ⌜ now (numbers .exit) ≡ put 0 (rollNumbers (rollCall (readText (now (text .entry))) (now (policy .entry)) (length (now (leaves .entry))) (length (now (store .entry))))) (now (numbers .entry)) ⌝ }
+    ensures lists { λ _. ⌜ now (leaves .exit) ≡ laid (rollReads (readText (now (text .entry))) (now (policy .entry)) (length (now (leaves .entry))) (length (now (store .entry)))) (now (leaves .entry)) ⌝ }
+    ensures store { λ _. ⌜ now (store .exit) ≡ recorded (rollStore (readText (now (text .entry))) (now (policy .entry)) (length (now (leaves .entry))) (length (now (store .entry)))) (now (store .entry)) ⌝ }
+{
+    put_rolled(engine::rollouts(text, policy, store, leaves), numbers)
 }

@@ -8,3 +8,4 @@ pub mod Rows
 pub mod Raised
 pub mod Rolling
 pub mod Lent
+pub mod RollAnswered

@@ -267,7 +267,8 @@ pub fn rollouts(
     }
 }
 
-// One node's bounds, in grains.
+// One node's bounds, in grains, laid out as in C: a caller in C lends a store of them.
+#[repr(C)]
 pub struct Record {
     pub low: i64,
     pub high: i64,
