@@ -3,7 +3,6 @@ use Prim.Native.Nat.{ℕ, zero, suc, _+_, _-_, _*_, _≤_, _<_}
 use mathlib.Core.Path.{_≡_, refl, ap, sym, _∙_}
 use mathlib.Core.Bool.{Bool, true, false, cond, not, _||_, _&&_}
 use mathlib.Core.List.{List, [], _∷_}
-use native.Mathlib.Nat.{add-zero}
 use native.Mathlib.Omega.{arith}
 use borrow.Author.Tests.{ne-eqb, eqb-true, eqb-false, ltb-true, ltb-false, lt-ltb}
 use lib.Dec.{eqb, ltb, eqb·suc-zero}
@@ -11,7 +10,7 @@ use lib.ListN.{length, getD, take, drop, length-drop, drop-of-length-le}
 use lib.Seq.{drop-cons, getD-drop}
 use Rattle.field.specs.Field.{strip, digits, whole, plain, minus, signed}
 use Rattle.field.specs.Columns.{withSign}
-use Rattle.field.specs.Reader.{strange, beforeOf, Blanks, Starts, off}
+use Rattle.field.specs.Reader.{strange, beforeOf, Blanks, AllDigits, Starts, off}
 use Rattle.field.specs.declared.Whole.{Whole}
 use Rattle.field.specs.declared.Whole.the-variants.{Digits, Wrong}
 use Rattle.field.specs.declared.Field.{Field}
@@ -111,8 +110,16 @@ first-false : (x y : Bool) → x || y ≡ false → x ≡ false
 first-false true y h = h
 first-false false y h = refl
 
-low : (b : ℕ) → strange b ≡ false → 48 ≤ b
+second-false : (x y : Bool) → x || y ≡ false → y ≡ false
+second-false true true h = h
+second-false true false h = refl
+second-false false y h = h
+
+pub low : (b : ℕ) → strange b ≡ false → 48 ≤ b
 low b h = ltb-false b 48 (first-false (ltb b 48) (ltb 57 b) h)
+
+pub high : (b : ℕ) → strange b ≡ false → b ≤ 57
+high b h = ltb-false 57 b (second-false (ltb b 48) (ltb 57 b) h)
 
 -- a number with its sign
 abbrev pub told : Bool → Whole → Field
@@ -195,12 +202,26 @@ after c (b ∷ s) l g h =
     (λ p. let e : c ≡ 45 = eqb-true c 45 p in rw e (after-minus b s (low b h)))
     (λ p. rw (q, p))))
 
-module _ (c : ℕ) (t : List ℕ) (l : 0 < length t) (g : strange c ≡ true) (h : strange (getD t 0 0) ≡ false) (r : Bool) (e : r ≡ off c t) where
+module _ (c : ℕ) (t : List ℕ) (l : 0 < length t) (g : strange c ≡ true) (d : AllDigits t) (r : Bool) (e : r ≡ off c t) where
   pub off-by : r ≡ true → Ill ≡ signed (strip (c ∷ t))
-  off-by q = let o : off c t ≡ true = sym e ∙ q in sym (after c t l g h ∙ rw o)
+  off-by q = let o : off c t ≡ true = sym e ∙ q in sym (after c t l g (d 0 l) ∙ rw o)
 
   pub told-by : r ≡ false → (w : Whole) → digits 0 t ≡ w → told (eqb c 45) w ≡ signed (strip (c ∷ t))
-  told-by q w d = let o : off c t ≡ false = sym e ∙ q in sym (after c t l g h ∙ rw (o, d))
+  told-by q w m = let o : off c t ≡ false = sym e ∙ q in sym (after c t l g (d 0 l) ∙ rw (o, m))
+
+-- a digit more at the end
+pub one-more
+    : (t : List ℕ) (i : ℕ)
+    → strange (getD t (i - 1) 0) ≡ false
+    → ((j : ℕ) → i ≤ j → j < length t → strange (getD t j 0) ≡ false)
+    → (j : ℕ)
+    → i - 1 ≤ j
+    → j < length t
+    → strange (getD t j 0) ≡ false
+one-more t i e f j a b =
+    by-cases (eqb j (i - 1))
+    (λ q. rw (eqb-true j (i - 1) q) e)
+    (λ q. f j (omega (arith, near (i - 1) j a (λ z. eqb-false j (i - 1) q (sym z)))) b)
 
 -- columns with no digit at the end: blank where all are blanks, ill where not
 module _ (t : List ℕ) (k r : ℕ) (e : k ≡ length t) (b : Blanks t k r) where
@@ -224,11 +245,12 @@ module _ (t : List ℕ) (k c : ℕ) (e : c ≡ beforeOf t k) where
       → (0 < length (take (length t - k) (drop k t)))
       × (length (take (length t - k) (drop k t)) ≤ 18)
       × (strange c ≡ true)
-      × (strange (getD (take (length t - k) (drop k t)) 0 0) ≡ false)
+      × AllDigits (take (length t - k) (drop k t))
   cut-ready n l s =
       let less : k < length t = near k (length t) (s .0) n in
-      let first : getD (drop k t) 0 0 ≡ getD t k 0 = simp (getD-drop, add-zero) in
-      rw (from-on t k, e, first) (omega (arith, length-drop k t), omega (arith, length-drop k t), s .1, s .2 less)
+      let long : length (drop k t) ≡ length t - k = length-drop k t in
+      rw (from-on t k, e)
+      (omega arith, omega arith, s .1, λ i h. rw getD-drop (s .2 (k + i) (omega arith) (omega arith)))
 
   pub cut-read
       : (r : Bool)

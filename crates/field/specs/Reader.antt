@@ -19,9 +19,12 @@ beforeOf t k = cond (eqb k 0) 32 (getD t (k - 1) 0)
 abbrev pub Blanks : List ℕ → ℕ → ℕ → Type 0
 Blanks t k r = (r ≤ k) × (strip t ≡ strip (drop r t)) × ((r < k) → strip t ≡ drop r t)
 
+abbrev pub AllDigits : List ℕ → Type 0
+AllDigits t = (i : ℕ) → i < length t → strange (getD t i 0) ≡ false
+
 -- the digits at the end begin in column r
 abbrev pub Starts : List ℕ → ℕ → Type 0
-Starts t r = (r ≤ length t) × (strange (beforeOf t r) ≡ true) × ((r < length t) → strange (getD t r 0) ≡ false)
+Starts t r = (r ≤ length t) × (strange (beforeOf t r) ≡ true) × ((i : ℕ) → r ≤ i → i < length t → strange (getD t i 0) ≡ false)
 
 -- the digits t with c before them are no number: c is neither a blank nor a minus, or a zero comes first that does not stand alone
 abbrev pub off : ℕ → List ℕ → Bool

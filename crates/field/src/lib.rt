@@ -5,14 +5,15 @@ ghost use mathlib.Core.Bool.{cond, true, false};
 ghost use mathlib.Core.List.{_∷_};
 ghost use Prim.Native.Nat.{_+_, _-_, _*_, _≤_, _<_, _^_};
 ghost use lib.Dec.{eqb};
-ghost use lib.ListN.{length, getD, take, drop};
+ghost use lib.ListN.{length, take, drop};
 ghost use lib.IntN.{negℤ, pos, natAbs};
 ghost use Rattle.field.specs.Field.{strip, digits, signed, fieldOf, digit, textOf, written};
+ghost use Rattle.field.specs.declared.Whole.the-variants.{Digits};
 ghost use Rattle.field.specs.declared.Field.the-variants.{Ill};
-ghost use Rattle.field.specs.Reader.{Blanks, Starts, strange, beforeOf, off};
+ghost use Rattle.field.specs.Reader.{Blanks, Starts, AllDigits, strange, beforeOf, off};
 ghost use Rattle.field.specs.Columns.{gathered, hasMinus, withSign, knownOf};
 
-// The number that a run of digits means, or none.
+// The number that a run of digits means, or none; for the definitions alone.
 pub enum Whole {
     Digits(u64),
     Wrong,
@@ -48,25 +49,19 @@ fn value(b: u8) -> u64
     (b - b'0') as u64
 }
 
-// The digits of a number of at most 18 columns, which 64 bits hold.
-fn read_digits(t: &[u8]) -> Whole
-    requires { ⌜ length (now t) ≤ 18 ⌝ }
-    ensures { λ r. ⌜ r ≡ digits 0 (now (t .entry)) ⌝ }
+// The number that digits mean, at most 18 of them, which 64 bits hold.
+fn read_digits(t: &[u8]) -> u64
+    requires { ⌜ (length (now t) ≤ 18) × AllDigits (now t) ⌝ }
+    ensures { λ r. ⌜ digits 0 (now (t .entry)) ≡ Digits r ⌝ }
 {
     let mut n: u64 = 0;
     let mut i = 0;
     while i < t.len() {
         let b = t[i];
-        if b < b'0' {
-            return Whole::Wrong;
-        }
-        if b'9' < b {
-            return Whole::Wrong;
-        }
         n = n * 10 + value(b);
         i += 1;
     }
-    Whole::Digits(n)
+    n
 }
 
 fn is_strange(b: u8) -> bool
@@ -86,7 +81,7 @@ fn before(t: &[u8], k: usize) -> u8
     t[k - 1]
 }
 
-// Where the digits at the end begin. From the right, how long the number is does not depend on its sign, and the machine guesses better.
+// Where the digits at the end begin. Seen from the right, the sign does not move the digits, so that the machine guesses its branches better.
 fn start(t: &[u8]) -> usize
     ensures { λ r. ⌜ Starts (now (t .entry)) r ⌝ }
 {
@@ -120,21 +115,19 @@ fn is_off(c: u8, t: &[u8]) -> bool
     ((c != b' ') & (c != b'-')) | (zero & ((c == b'-') | (1 < t.len())))
 }
 
-// The columns from the first digit on, with c before them; no branch on the sign.
+// The number of the digits t with c before them; no branch on the sign.
 fn read_after(c: u8, t: &[u8]) -> Field
-    requires { ⌜ (0 < length (now t)) × (length (now t) ≤ 18) × (strange c ≡ true) × (strange (getD (now t) 0 0) ≡ false) ⌝ }
+    requires { ⌜ (0 < length (now t)) × (length (now t) ≤ 18) × (strange c ≡ true) × AllDigits (now t) ⌝ }
     ensures { λ r. ⌜ r ≡ signed (strip (c ∷ now (t .entry))) ⌝ }
 {
     if is_off(c, t) {
         return Field::Ill;
     }
     let n = read_digits(t);
-    match n {
-        Whole::Wrong => Field::Ill,
-        Whole::Digits(m) => Field::Number(with_sign(c == b'-', m)),
-    }
+    Field::Number(with_sign(c == b'-', n))
 }
 
+// All columns of a field. Small enough that the compiler puts a copy at each place where a field is read.
 fn read_columns(t: &[u8]) -> Field
     requires { ⌜ length (now t) ≤ 18 ⌝ }
     ensures { λ r. ⌜ r ≡ signed (strip (now (t .entry))) ⌝ }

@@ -4,7 +4,7 @@ use mathlib.Core.Path.{_≡_, refl, _∙_}
 use native.Mathlib.Omega.{arith}
 use borrow.Author.Tests.{eq-eqb, ne-eqb}
 use denote.Ref.{now}
-use lib.ListN.{length, drop, List·getD-eq-default}
+use lib.ListN.{drop}
 use Rattle.field.specs.Field.{strip}
 use Rattle.field.proofs.Reading.{strip-at}
 use Rattle.field.proofs.blanks.Statement.{statement}

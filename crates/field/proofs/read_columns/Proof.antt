@@ -1,6 +1,5 @@
 -- `field::read_columns` meets its contract: each return by the tests that led to it. Assumes nothing.
 use mathlib.Core.Path.{_≡_, sym, _∙_}
-use native.Mathlib.Omega.{arith}
 use borrow.Author.Needs.{needs}
 use denote.Ref.{now}
 use Rattle.field.specs.Field.{signed, strip}

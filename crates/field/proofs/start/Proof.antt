@@ -1,23 +1,25 @@
--- `field::start` meets its contract. The loop's invariant: a digit stands in column `i`, if there is one. Assumes nothing.
-use Prim.Native.Nat.{_≤_, _<_}
-use mathlib.Core.Path.{_≡_, refl, sym, _∙_}
+-- `field::start` meets its contract. The loop's invariant: digits stand from column `i` on. Assumes nothing.
+use Prim.Native.Nat.{ℕ, _≤_, _<_}
+use mathlib.Core.Path.{_≡_, sym, _∙_}
 use mathlib.Core.Bool.{false}
 use native.Mathlib.Omega.{arith}
 use borrow.Author.Needs.{needs}
 use borrow.Author.Tests.{eq-eqb, ne-eqb}
+use denote.Ref.{now}
 use lib.ListN.{length, getD}
 use Rattle.field.specs.Reader.{strange}
+use Rattle.field.proofs.Reader.{one-more}
 use Rattle.field.proofs.start.Statement.{statement}
 use Rattle.field.proofs.start.Tie as tie
 
 abbrev Inv-loop : tie.InvT-loop
-Inv-loop t i₀ i = (i ≤ length t) × ((i < length t) → strange (getD t i 0) ≡ false)
+Inv-loop t i₀ i = (i ≤ length t) × ((j : ℕ) → i ≤ j → j < length t → strange (getD t j 0) ≡ false)
 
 abbrev μ-loop : tie.MeasureT-loop
 μ-loop t i₀ i = i
 
 loop-holds : tie.Need-loop-holds Inv-loop μ-loop
-loop-holds c = (omega arith, λ h. absurd (omega arith))
+loop-holds c = (omega arith, λ j a b. absurd (omega arith))
 
 sub-is-strange : tie.Need-sub-is-strange Inv-loop μ-loop
 sub-is-strange c = omega arith
@@ -43,7 +45,7 @@ loop-less : tie.Need-loop-less Inv-loop μ-loop
 loop-less c = omega arith
 
 loop-again : tie.Need-loop-again Inv-loop μ-loop
-loop-again c = (omega arith, λ _. sym (c .before .is-strange .ensures) ∙ c .if1 .left)
+loop-again c = (omega arith, one-more (now (c .before .before .before .before .before .before .args .t)) (c .before .before .before .before .loop .i) (sym (c .before .is-strange .ensures) ∙ c .if1 .left) (c .before .before .before .before .loop .inv .1))
 
 returns-2 : tie.Need-returns-2 Inv-loop μ-loop
 returns-2 c =
