@@ -8,7 +8,7 @@ use native.Mathlib.Nat.{add-zero}
 use native.Mathlib.Omega.{arith}
 use lib.ListN.{length, getD, take, drop, length-drop, drop-of-length-le}
 use lib.Seq.{drop-cons, drop-drop, getD-drop, take-all}
-use lib.Dec.{eqb, ltb, eqb·suc-zero, eqb·suc-suc}
+use lib.Dec.{eqb, ltb, eqb·suc-zero}
 use Rattle.field.specs.Field.{strip, digits, whole, plain, minus, signed}
 use Rattle.field.specs.declared.Whole.the-variants.{Digits, Wrong}
 use Rattle.field.specs.declared.Field.the-variants.{Blank}
@@ -17,15 +17,6 @@ pub strip-first : (t : List ℕ) → strip t ≡ cond (eqb (getD t 0 0) 32) (str
 unfolding strip
 strip-first [] = refl
 strip-first (b ∷ s) = refl
-
-pub whole-tests
-    : (t : List ℕ)
-    → whole t
-    ≡ cond (eqb (length t) 0) Wrong (cond (eqb (length t) 1) (digits 0 t) (cond (eqb (getD t 0 0) 48) Wrong (digits 0 t)))
-unfolding whole
-whole-tests [] = refl
-whole-tests (b ∷ []) = refl
-whole-tests (b ∷ c ∷ s) = rw (eqb·suc-zero, eqb·suc-suc, eqb·suc-zero)
 
 pub signed-tests
     : (t : List ℕ)

@@ -58,8 +58,8 @@ whole-few k (b ∷ []) h = digits-few k (b ∷ []) 0 0 (lit< tt) (omega arith)
 whole-few k (b ∷ c ∷ s) h =
     choose (Few k) (eqb b 48) (λ _. tt) (λ _. digits-few k (b ∷ c ∷ s) 0 0 (lit< tt) (omega arith))
 
-pub whole-small : (s : List ℕ) (m : ℕ) → whole s ≡ Digits m → length s ≤ 18 → m < 10 ^ 18
-whole-small s m e h = rw e at (whole-few 18 s h)
+pub digits-small : (s : List ℕ) (m : ℕ) → digits 0 s ≡ Digits m → length s ≤ 18 → m < 10 ^ 18
+digits-small s m e h = rw e at (digits-few 18 s 0 0 (lit< tt) (omega arith))
 
 plain-near : (k : ℕ) (n : Whole) → Few k n → Near k (plain n)
 plain-near k (Digits m) h = h

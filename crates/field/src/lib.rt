@@ -2,14 +2,18 @@
 // What a well-written number is stands in specs/Field.antt alone.
 ghost use mathlib.Core.Path.{_≡_};
 ghost use mathlib.Core.Bool.{cond, true, false};
+ghost use mathlib.Core.List.{_∷_};
 ghost use Prim.Native.Nat.{_+_, _-_, _*_, _≤_, _<_, _^_};
 ghost use lib.Dec.{eqb};
 ghost use lib.ListN.{length, take, drop};
 ghost use lib.IntN.{negℤ, pos, natAbs};
-ghost use Rattle.field.specs.Field.{strip, digits, whole, plain, minus, signed, fieldOf, digit, textOf, written};
+ghost use Rattle.field.specs.Field.{strip, digits, signed, fieldOf, digit, textOf, written};
+ghost use Rattle.field.specs.declared.Whole.the-variants.{Digits};
+ghost use Rattle.field.specs.declared.Field.the-variants.{Ill};
+ghost use Rattle.field.specs.Reader.{Blanks, Starts, AllDigits, strange, beforeOf, off};
 ghost use Rattle.field.specs.Columns.{gathered, hasMinus, withSign, knownOf};
 
-// The number that a run of digits means, or none.
+// The number that a run of digits means, or none; for the definitions alone.
 pub enum Whole {
     Digits(u64),
     Wrong,
@@ -22,12 +26,13 @@ pub enum Field {
     Number(i64),
 }
 
-// How many blanks stand first.
-fn blanks(t: &[u8]) -> usize
-    ensures { λ r. ⌜ (r ≤ length (now (t .entry))) × (strip (now (t .entry)) ≡ drop r (now (t .entry))) ⌝ }
+// How many blanks stand first among the first k columns.
+fn blanks(t: &[u8], k: usize) -> usize
+    requires { ⌜ k ≤ length (now t) ⌝ }
+    ensures { λ r. ⌜ Blanks (now (t .entry)) k r ⌝ }
 {
     let mut i = 0;
-    while i < t.len() {
+    while i < k {
         if t[i] != b' ' {
             return i;
         }
@@ -44,91 +49,100 @@ fn value(b: u8) -> u64
     (b - b'0') as u64
 }
 
-// The digits of a number of at most 18 columns, which 64 bits hold.
-fn read_digits(t: &[u8]) -> Whole
-    requires { ⌜ length (now t) ≤ 18 ⌝ }
-    ensures { λ r. ⌜ r ≡ digits 0 (now (t .entry)) ⌝ }
+// The number that digits mean, at most 18 of them, which 64 bits hold.
+fn read_digits(t: &[u8]) -> u64
+    requires { ⌜ (length (now t) ≤ 18) × AllDigits (now t) ⌝ }
+    ensures { λ r. ⌜ digits 0 (now (t .entry)) ≡ Digits r ⌝ }
 {
     let mut n: u64 = 0;
     let mut i = 0;
     while i < t.len() {
         let b = t[i];
-        if b < b'0' {
-            return Whole::Wrong;
-        }
-        if b'9' < b {
-            return Whole::Wrong;
-        }
         n = n * 10 + value(b);
         i += 1;
     }
-    Whole::Digits(n)
+    n
 }
 
-fn read_whole(t: &[u8]) -> Whole
-    requires { ⌜ length (now t) ≤ 18 ⌝ }
-    ensures { λ r. ⌜ r ≡ whole (now (t .entry)) ⌝ }
+fn is_strange(b: u8) -> bool
+    ensures { λ r. ⌜ r ≡ strange b ⌝ }
 {
-    if t.len() == 0 {
-        return Whole::Wrong;
-    }
-    if t.len() == 1 {
-        return read_digits(t);
-    }
-    if t[0] == b'0' {
-        return Whole::Wrong;
-    }
-    read_digits(t)
+    (b < b'0') | (b'9' < b)
 }
 
-// What stands where there is no minus.
-fn read_plain(t: &[u8]) -> Field
-    requires { ⌜ length (now t) ≤ 18 ⌝ }
-    ensures { λ r. ⌜ r ≡ plain (whole (now (t .entry))) ⌝ }
+// The column before column k.
+fn before(t: &[u8], k: usize) -> u8
+    requires { ⌜ k ≤ length (now t) ⌝ }
+    ensures { λ r. ⌜ r ≡ beforeOf (now (t .entry)) k ⌝ }
 {
-    let n = read_whole(t);
-    match n {
-        Whole::Wrong => Field::Ill,
-        Whole::Digits(m) => Field::Number(m as i64),
+    if k == 0 {
+        return b' ';
     }
+    t[k - 1]
 }
 
-fn below_zero(m: u64) -> i64
-    requires { ⌜ m < 10 ^ 18 ⌝ }
-    ensures { λ r. ⌜ r ≡ negℤ (pos m) ⌝ }
+// Where the digits at the end begin. Seen from the right, the sign does not move the digits, so that the machine guesses its branches better.
+fn start(t: &[u8]) -> usize
+    ensures { λ r. ⌜ Starts (now (t .entry)) r ⌝ }
 {
-    -(m as i64)
-}
-
-// What stands after a minus.
-fn read_minus(t: &[u8]) -> Field
-    requires { ⌜ length (now t) ≤ 18 ⌝ }
-    ensures { λ r. ⌜ r ≡ minus (whole (now (t .entry))) ⌝ }
-{
-    let n = read_whole(t);
-    match n {
-        Whole::Wrong => Field::Ill,
-        Whole::Digits(m) => {
-            if m == 0 {
-                Field::Ill
-            } else {
-                Field::Number(below_zero(m))
-            }
+    let mut i = t.len();
+    while 0 < i {
+        if is_strange(t[i - 1]) {
+            return i;
         }
+        i -= 1;
     }
+    i
 }
 
-fn read_signed(t: &[u8]) -> Field
-    requires { ⌜ length (now t) ≤ 18 ⌝ }
-    ensures { λ r. ⌜ r ≡ signed (now (t .entry)) ⌝ }
+// Whether only blanks stand before the column that is before the digits, which begin in column k.
+fn is_clear(t: &[u8], k: usize) -> bool
+    requires { ⌜ (k ≤ length (now t)) × (strange (beforeOf (now t) k) ≡ true) ⌝ }
+    ensures { λ r. ⌜ signed (strip (now (t .entry))) ≡ cond r (signed (strip (drop (k - 1) (now (t .entry))))) Ill ⌝ }
 {
-    if t.len() == 0 {
-        return Field::Blank;
+    if k <= 1 {
+        return true;
     }
-    if t[0] == b'-' {
-        read_minus(&t[1..])
+    blanks(t, k - 1) == k - 1
+}
+
+// Whether the digits t with c before them are no number.
+fn is_off(c: u8, t: &[u8]) -> bool
+    requires { ⌜ 0 < length (now t) ⌝ }
+    ensures { λ r. ⌜ r ≡ off c (now (t .entry)) ⌝ }
+{
+    let zero = t[0] == b'0';
+    ((c != b' ') & (c != b'-')) | (zero & ((c == b'-') | (1 < t.len())))
+}
+
+// The number of the digits t with c before them; no branch on the sign.
+fn read_after(c: u8, t: &[u8]) -> Field
+    requires { ⌜ (0 < length (now t)) × (length (now t) ≤ 18) × (strange c ≡ true) × AllDigits (now t) ⌝ }
+    ensures { λ r. ⌜ r ≡ signed (strip (c ∷ now (t .entry))) ⌝ }
+{
+    if is_off(c, t) {
+        return Field::Ill;
+    }
+    let n = read_digits(t);
+    Field::Number(with_sign(c == b'-', n))
+}
+
+// All columns of a field. Small enough that the compiler puts a copy at each place where a field is read.
+fn read_columns(t: &[u8]) -> Field
+    requires { ⌜ length (now t) ≤ 18 ⌝ }
+    ensures { λ r. ⌜ r ≡ signed (strip (now (t .entry))) ⌝ }
+{
+    let k = start(t);
+    if k == t.len() {
+        if blanks(t, k) == k {
+            return Field::Blank;
+        }
+        return Field::Ill;
+    }
+    if is_clear(t, k) {
+        read_after(before(t, k), &t[k..])
     } else {
-        read_plain(t)
+        Field::Ill
     }
 }
 
@@ -137,9 +151,7 @@ pub fn read(s: &[u8], from: usize, width: usize) -> Field
     requires { ⌜ (from + width ≤ length (now s)) × (width ≤ 18) ⌝ }
     ensures { λ r. ⌜ r ≡ fieldOf (now (s .entry)) from width ⌝ }
 {
-    let t = &s[from..from + width];
-    let at = blanks(t);
-    read_signed(&t[at..])
+    read_columns(&s[from..from + width])
 }
 
 // What a column counts: blanks and the minus count 0. To widen the byte first takes fewer instructions.

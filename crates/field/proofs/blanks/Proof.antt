@@ -4,17 +4,17 @@ use mathlib.Core.Path.{_≡_, refl, _∙_}
 use native.Mathlib.Omega.{arith}
 use borrow.Author.Tests.{eq-eqb, ne-eqb}
 use denote.Ref.{now}
-use lib.ListN.{length, drop, List·getD-eq-default}
+use lib.ListN.{drop}
 use Rattle.field.specs.Field.{strip}
 use Rattle.field.proofs.Reading.{strip-at}
 use Rattle.field.proofs.blanks.Statement.{statement}
 use Rattle.field.proofs.blanks.Tie as tie
 
 abbrev Inv-loop : tie.InvT-loop
-Inv-loop t i₀ i = (i ≤ length t) × (strip t ≡ strip (drop i t))
+Inv-loop t k i₀ i = (i ≤ k) × (strip t ≡ strip (drop i t))
 
 abbrev μ-loop : tie.MeasureT-loop
-μ-loop t i₀ i = length t - i
+μ-loop t k i₀ i = k - i
 
 loop-holds : tie.Need-loop-holds Inv-loop μ-loop
 loop-holds c = (omega arith, refl)
@@ -24,8 +24,11 @@ shared-slice-read-if1 c = omega arith
 
 returns : tie.Need-returns Inv-loop μ-loop
 returns c =
-    let l = c .before .before .before in
-    (omega arith, l .loop .inv .1 ∙ strip-at (now (l .before .args .t)) (l .loop .i) ∙ simp (ne-eqb _ 32 (c .if1 .taken)))
+    let l = c .before .before .before in (
+      omega arith,
+      l .loop .inv .1,
+      λ _. l .loop .inv .1 ∙ strip-at (now (l .before .args .t)) (l .loop .i) ∙ simp (ne-eqb _ 32 (c .if1 .taken)),
+    )
 
 add-i : tie.Need-add-i Inv-loop μ-loop
 add-i c = omega arith
@@ -39,11 +42,7 @@ loop-again c =
     (omega arith, l .loop .inv .1 ∙ strip-at (now (l .before .args .t)) (l .loop .i) ∙ simp (eq-eqb _ 32 (c .if1 .left)))
 
 returns-2 : tie.Need-returns-2 Inv-loop μ-loop
-returns-2 c =
-    let l = c .before in
-    let t = now (l .before .args .t) in
-    let past : length t ≤ l .loop .i = omega arith in
-    (omega arith, l .loop .inv .1 ∙ strip-at t (l .loop .i) ∙ rw (List·getD-eq-default t 0 past))
+returns-2 c = (omega arith, c .before .loop .inv .1, λ h. absurd (omega arith))
 
 pub blanks-spec : {M : Type 1} → statement M
 blanks-spec =
