@@ -6,8 +6,7 @@ use native.Mathlib.Omega.{arith}
 use lib.ListN.{set}
 use lib.IntN.{ℤ}
 use Rattle.line.specs.declared.Refusal.{Refusal}
-use Rattle.line.specs.declared.Refusal.the-variants.{Length, IllWritten, OutOfRange, Misnumbered, UnknownKind, WrongParent, Misfilled, Childless, WrongSum, TooDeep, NoRoom, BadMargin, HasChance}
-use Rattle.line.specs.Refusal.{Verdict, refused, fine, numberOf}
+use Rattle.line.specs.Refusal.{Verdict, refused, fine}
 use Rattle.table.specs.declared.Summary.{Summary}
 use Rattle.table.specs.declared.Reading.the-variants.{Accepted}
 use Rattle.table.specs.Table.{Table, readText, answer, grain}
@@ -34,21 +33,6 @@ small s t e =
       grain = omega (arith, accepted-grain s T p);
       leaves = omega (arith, accepted-leaf-lines s T p, accepted-size s T p);
     })
-
-pub number-small : (r : Refusal) → numberOf r ≤ 13
-number-small Length = omega arith
-number-small (IllWritten n) = omega arith
-number-small (OutOfRange n) = omega arith
-number-small (Misnumbered n) = omega arith
-number-small (UnknownKind n) = omega arith
-number-small (WrongParent n) = omega arith
-number-small (Misfilled n) = omega arith
-number-small (Childless n) = omega arith
-number-small (WrongSum n) = omega arith
-number-small (TooDeep n) = omega arith
-number-small NoRoom = omega arith
-number-small BadMargin = omega arith
-number-small HasChance = omega arith
 
 pub exact-refused : (v : Verdict Table) (r : Refusal) → exactCall v ≡ Refused r → v ≡ refused r
 exact-refused (refused x) r e = cc

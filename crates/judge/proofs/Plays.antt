@@ -12,6 +12,7 @@ use Rattle.table.specs.Table.{Table, readText}
 use Rattle.table.specs.Accepted.{Rooted}
 use Rattle.table.specs.Slices.{Slices, Spans, stopsOf, slicesOf, fitted, heightTree}
 use Rattle.table.proofs.Accepted.{accepted-spans, heights-rooted}
+use Rattle.table.proofs.Spans.{spans-le}
 use Rattle.worth.proofs.Text.{ends-length}
 use Rattle.worth.proofs.Judged.{accepted-ready}
 use Rattle.judge.specs.declared.Play.{Play}
@@ -21,14 +22,6 @@ use Rattle.judge.proofs.Judge.{nodes-heights}
 use Rattle.judge.proofs.Walk.{chained-le}
 
 -- ---- the nodes in the slices
-
-spans-le : (t : Slices) (c e : ℕ) (f : Forest ℕ) → Spans t c e f → c ≤ e
-unfolding Spans
-spans-le t c e end x = omega (arith, x)
-spans-le t c e (leaf n w h rest) x = omega (arith, spans-le t (c + 1) e rest (x .5))
-spans-le t c e (inner n w k under rest) x =
-    let j : ℕ = getD (t .stops) c 0 in
-    omega (arith, spans-le t (c + 1) j under (x .3), spans-le t j e rest (x .4))
 
 spans-chained : (t : Slices) (c e : ℕ) (f : Forest ℕ) → Spans t c e f → Chained (t .stops) e c (nodes f)
 unfolding Spans nodes

@@ -7,27 +7,11 @@ use lib.ListN.{length, length-append}
 use Rattle.field.specs.Field.{textOf}
 use Rattle.field.proofs.Width.{few-columns}
 use Rattle.line.specs.declared.Refusal.{Refusal}
-use Rattle.line.specs.declared.Refusal.the-variants.{Length, IllWritten, OutOfRange, Misnumbered, UnknownKind, WrongParent, Misfilled, Childless, WrongSum, TooDeep, NoRoom, BadMargin, HasChance}
 use Rattle.line.specs.Refusal.{numberOf, lineOf}
 use Rattle.engine.specs.declared.Bounds.{Bounds}
 use Rattle.printing.specs.Program.{Word, Low, High, Grain, Play, Leaves, Leaf, Refuse, Line, Row, columns, rowOf, printed, leafRow}
 use Rattle.printing.specs.Inside.{Narrow, boundRows, refusalRows}
 use Rattle.printing.proofs.Stores.{count-columns, row-size, printed-append, leaves-size}
-
-pub number-few : (r : Refusal) → numberOf r ≤ 13
-number-few Length = omega arith
-number-few (IllWritten n) = omega arith
-number-few (OutOfRange n) = omega arith
-number-few (Misnumbered n) = omega arith
-number-few (UnknownKind n) = omega arith
-number-few (WrongParent n) = omega arith
-number-few (Misfilled n) = omega arith
-number-few (Childless n) = omega arith
-number-few (WrongSum n) = omega arith
-number-few (TooDeep n) = omega arith
-number-few NoRoom = omega arith
-number-few BadMargin = omega arith
-number-few HasChance = omega arith
 
 -- a word is 6 columns wide
 word-size : (w : Word) → length (columns w) ≡ 6

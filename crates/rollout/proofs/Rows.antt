@@ -9,7 +9,8 @@ use lib.ListN.{getD}
 use Rattle.line.proofs.Signs.{true-ne-false}
 use Rattle.table.specs.Tree.{Kind, Forest, end, leaf, inner}
 use Rattle.table.specs.Slices.{Slices, Spans}
-use Rattle.search.proofs.Forest.{restOf, stopOf, spans-le}
+use Rattle.table.proofs.Spans.{spans-le}
+use Rattle.search.proofs.Forest.{restOf, stopOf}
 use Rattle.rollout.specs.Rollout.{joined, over, candidate}
 use Rattle.rollout.specs.Heights.{natural}
 use Rattle.rollout.specs.Lists.{Store, lowAt, highAt, runs, candidatesS}

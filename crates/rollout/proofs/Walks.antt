@@ -11,7 +11,8 @@ use Rattle.line.proofs.Signs.{true-ne-false}
 use Rattle.table.specs.Tree.{Kind, Forest, end, leaf, inner, codeOf, kindOf}
 use Rattle.table.specs.Slices.{Slices, Spans}
 use Rattle.search.specs.Inside.{slices}
-use Rattle.search.proofs.Forest.{stopOf, spans-le, step}
+use Rattle.table.proofs.Spans.{spans-le}
+use Rattle.search.proofs.Forest.{stopOf, step}
 use Rattle.search.proofs.Rules.{code-pos}
 use Rattle.worth.proofs.Codes.{kind-code}
 use Rattle.rollout.specs.declared.Step.{Step}

@@ -15,7 +15,8 @@ use Rattle.search.specs.Search as alg
 use Rattle.search.specs.Search.{Play, noPlay, child, Seen, scan, take, prefer, beats, begin, cut, finish, point, lower, upper, stop, nodeOf}
 use Rattle.search.specs.Heights.{natural, grained, frameOf, heightRules}
 use Rattle.search.specs.Inside.{Answer, start, alphaFor, betaFor, preferred, after, stops, cutLow, cutHigh, join, over, Fit, OkRule, OkBounds, OkKind, playAt}
-use Rattle.search.proofs.Forest.{stopOf, spans-le, Within, alpha-ok, beta-ok, start-ok, start-kind, after-ok, after-kind, over-within}
+use Rattle.table.proofs.Spans.{spans-le}
+use Rattle.search.proofs.Forest.{stopOf, Within, alpha-ok, beta-ok, start-ok, start-kind, after-ok, after-kind, over-within}
 
 -- the code's state and answer, with the play p and the leaves l read before, as those of Algorithm 1
 abbrev lift : State → Play ℕ → List ℕ → alg.State ℕ

@@ -14,6 +14,7 @@ use Rattle.table.specs.Tree.{Kind, Forest, end, leaf, inner, isChance, leaves}
 use Rattle.table.specs.Slices.{Slices, Spans}
 use Rattle.table.specs.Accepted.{one, Filled, Balanced, Proper}
 use Rattle.table.proofs.Heights.{above, mapForest, map-end, map-filled}
+use Rattle.table.proofs.Spans.{spans-le}
 use Rattle.worth.specs.Heights.{Small}
 use Rattle.worth.proofs.Shift.{utility-shift, node-shift, shares-shift}
 use Rattle.judge.specs.Judge.{children, rootOf}
@@ -35,13 +36,6 @@ rising-from : (b c : ℕ) (f : Forest ℕ) → b ≤ c → Rising c f → Rising
 rising-from b c end h r = tt
 rising-from b c (leaf n w v rest) h r = (omega (arith, r .0), r .1)
 rising-from b c (inner n w k under rest) h r = (omega (arith, r .0), r .1)
-
-spans-le : (s : Slices) (c e : ℕ) (f : Forest ℕ) → Spans s c e f → c ≤ e
-unfolding Spans
-spans-le s c e end x = omega (arith, x)
-spans-le s c e (leaf n w h rest) x = omega (arith, spans-le s (c + 1) e rest (x .5))
-spans-le s c e (inner n w k under rest) x =
-    omega (arith, spans-le s (c + 1) (getD (s .stops) c 0) under (x .3), spans-le s (getD (s .stops) c 0) e rest (x .4))
 
 rising : (s : Slices) (c e : ℕ) (f : Forest ℕ) → Spans s c e f → Rising c f
 unfolding Spans

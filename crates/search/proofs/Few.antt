@@ -11,7 +11,7 @@ use Rattle.search.specs.Search.{Frame, Seen, State, Arith, Rules, begin,
 use Rattle.search.specs.Heights.{grained}
 use Rattle.search.proofs.Contain.{choose}
 use Rattle.search.proofs.Heights.{Child, here-leaf, here-inner, next-leaf, next-inner}
-use Rattle.search.proofs.Forest.{spans-le}
+use Rattle.table.proofs.Spans.{spans-le}
 
 -- ---- the leaves read
 

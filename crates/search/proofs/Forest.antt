@@ -11,6 +11,7 @@ use Rattle.line.proofs.Signs.{true-ne-false}
 use Rattle.table.specs.Tree.{Kind, MAX, MIN, CHANCE, Forest, end, leaf, inner, isEnd, weigh, leaves}
 use Rattle.table.specs.Slices.{Slices, Spans}
 use Rattle.table.specs.Accepted.{Sums}
+use Rattle.table.proofs.Spans.{spans-le}
 use Rattle.search.specs.declared.Rule.{Rule}
 use Rattle.search.specs.declared.State.{State}
 use Rattle.search.specs.Inside.{Answer, start, alphaFor, betaFor, after, stops, cutLow, cutHigh, join, over, first, put, WeighsIn, Fit, OkRule, OkBounds, OkChance, OkKind}
@@ -75,15 +76,6 @@ fit-weight k g (leaf i w h rest) q f = f .0
 fit-weight k g (inner i w j under rest) q f = f .0
 
 -- ---- nodes in slices
-
-pub spans-le : (t : Slices) (c e : ℕ) (F : Forest ℕ) → Spans t c e F → c ≤ e
-unfolding Spans
-spans-le t c e end h = omega arith
-spans-le t c e (leaf i w x rest) h = let r = spans-le t (c + 1) e rest (h .5) in omega arith
-spans-le t c e (inner i w k under rest) h =
-    let u = spans-le t (c + 1) (stopOf t c) under (h .3) in
-    let r = spans-le t (stopOf t c) e rest (h .4) in
-    omega arith
 
 -- there is a first node, and what is known of it
 pub record Step (t : Slices) (c e : ℕ) (F : Forest ℕ) : Type 0 where

@@ -1,5 +1,5 @@
 -- The decoded slices hold the tree: a node's stop is one past the last line of its run. Assumes nothing.
-use Prim.Native.Nat.{ℕ, zero, suc, _+_, _<_}
+use Prim.Native.Nat.{ℕ, zero, suc, _+_, _≤_, _<_}
 use mathlib.Core.Path.{_≡_, refl, sym, ap, _∙_}
 use mathlib.Core.List.{List, [], _∷_, _++_, map, append-assoc, append-nil}
 use native.Mathlib.Omega.{arith}
@@ -9,10 +9,19 @@ use lib.IntN.{ℤ, pos}
 use Rattle.line.specs.declared.Line.{Line}
 use Rattle.table.specs.Tree.{Kind, Forest, end, leaf, inner, codeOf, run}
 use Rattle.table.specs.Table.{Table}
-use Rattle.table.specs.Slices.{heightOf, ends, Spans, slicesOf}
+use Rattle.table.specs.Slices.{heightOf, ends, Slices, Spans, slicesOf}
 use Rattle.table.specs.Accepted.{flat, one, Rooted}
 use Rattle.table.proofs.Runs.{size, Numbered, flat-length, Outside, outside-more, flat-outside, run-outside, run-under}
 use Rattle.table.proofs.Heights.{mapForest, above}
+
+-- the entries of nodes go from c up to e
+pub spans-le : (t : Slices) (c e : ℕ) (f : Forest ℕ) → Spans t c e f → c ≤ e
+unfolding Spans
+spans-le t c e end x = omega (arith, x)
+spans-le t c e (leaf n w h rest) x = omega (arith, spans-le t (c + 1) e rest (x .5))
+spans-le t c e (inner n w k under rest) x =
+    let j : ℕ = getD (t .stops) c 0 in
+    omega (arith, spans-le t (c + 1) j under (x .3), spans-le t j e rest (x .4))
 
 -- ---- an entry of a slice, by the lines from there on
 

@@ -29,6 +29,7 @@ use Rattle.table.specs.Table.{Table, badLength, prefix, nodeLines, tree, comple
 use Rattle.table.specs.Slices.{heightOf, ends, stopsOf, fitted, Slices, Spans, heightTree, slicesOf}
 use Rattle.table.proofs.Accepted.{accepted-ranged, accepted-spans}
 use Rattle.table.proofs.Grown.{fine-refused, next-fine}
+use Rattle.table.proofs.Spans.{spans-le}
 use Rattle.worth.specs.Inside.{kindIn, weightIn, heightIn, Lays}
 use Rattle.worth.proofs.Run.{drop-take, line-within, lays-le}
 
@@ -75,14 +76,6 @@ module _ (lo : ℤ) (t : Slices) (c e : ℕ) (s : List ℕ) (told : Told lo t c 
       (subst (SaysAt lo t (c + (m + 1))) cut (told (m + 1) (omega arith)))
 
 -- ---- the tree in the slices is laid out in the text
-
-spans-le : (t : Slices) (c e : ℕ) (f : Forest ℕ) → Spans t c e f → c ≤ e
-unfolding Spans
-spans-le t c e end x = omega (arith, x)
-spans-le t c e (leaf n w h rest) x = omega (arith, spans-le t (c + 1) e rest (x .5))
-spans-le t c e (inner n w k under rest) x =
-    let j : ℕ = getD (t .stops) c 0 in
-    omega (arith, spans-le t (c + 1) j under (x .3), spans-le t j e rest (x .4))
 
 spans-lay : (lo : ℤ) (t : Slices) (c e : ℕ) (s : List ℕ) (f : Forest ℕ) → Spans t c e f → Told lo t c e s → Lays (t .stops) lo c e s f
 unfolding Spans Lays

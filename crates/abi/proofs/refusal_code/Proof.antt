@@ -1,7 +1,7 @@
 -- `abi::refusal_code` meets its contract. Assumes nothing.
 use native.Mathlib.Omega.{arith}
 use borrow.Author.Needs.{needs}
-use Rattle.abi.proofs.Answers.{number-small}
+use Rattle.line.proofs.Numbers.{number-small}
 use Rattle.abi.proofs.refusal_code.Statement.{statement}
 use Rattle.abi.proofs.refusal_code.Tie as tie
 

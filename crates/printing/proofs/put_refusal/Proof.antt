@@ -9,9 +9,10 @@ use lib.IntN.{pos}
 use lib.Seq.{sets}
 use Rattle.line.specs.declared.Refusal.{Refusal}
 use Rattle.line.specs.Refusal.{numberOf, lineOf}
+use Rattle.line.proofs.Numbers.{number-small}
 use Rattle.printing.specs.Program.{Refuse, Line, columns, rowOf, printed}
 use Rattle.printing.proofs.Stores.{count-columns, row-size, then, last-row}
-use Rattle.printing.proofs.Sizes.{number-few, refusal-size}
+use Rattle.printing.proofs.Sizes.{refusal-size}
 use Rattle.printing.proofs.put_refusal.Statement.{statement}
 use Rattle.printing.proofs.put_refusal.Tie as tie
 
@@ -24,7 +25,7 @@ refusal-number-requires c κs = search needs
 put-count-requires : tie.Need-put-count-requires
 put-count-requires c κs =
     let s = c .before .before .before .before in
-    (omega (arith, s .pre .0), refl, omega (arith, c .refusal-number .ensures, number-few (s .args .r)))
+    (omega (arith, s .pre .0), refl, omega (arith, c .refusal-number .ensures, number-small (s .args .r)))
 
 slice-aggregate-put-count-2 : tie.Need-slice-aggregate-put-count-2
 slice-aggregate-put-count-2 c = search needs
