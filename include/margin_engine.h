@@ -10,7 +10,7 @@
  *
  * A pointer is followed by its length: the number of entries that it points to, not of bytes. Each pointer must be valid for that many
  * entries and not null, also where the length is 0; the areas that a call may write (pointers without const) must lie apart from each
- * other and from the text. This is all that a caller must see to. Nothing is kept between calls.
+ * other and from those that it only reads, the text and the policy. This is all that a caller must see to. Nothing is kept between calls.
  *
  * `numbers` gets as many of an answer's numbers as it has room for. Entries past the answer keep what they held, in every area.
  *
@@ -58,7 +58,9 @@ uint64_t margin_worth(const uint8_t *text, size_t text_len, int64_t *numbers, si
 /*
  * Judges the play of root child `number`, counted from 1. Refuses 1 to 10, and 14 where an M or N root has no such child.
  *
- * numbers (3 or 1), without sign: at an M or N root 1, the loss, the number of children level with the best; at a C or L root 0 alone.
+ * numbers (3 or 1), without sign: at an M or N root 1, the loss, the number of level children; at a C or L root, where nobody chooses, 0
+ * alone. The loss is the root's worth minus the child's at M, the child's minus the root's at N. A child is level with the best where its
+ * loss is less than one point, G grains (margin_worth tells G).
  */
 uint64_t margin_judge(const uint8_t *text, size_t text_len, int64_t number, uint64_t *numbers, size_t numbers_len);
 
@@ -68,6 +70,10 @@ uint64_t margin_judge(const uint8_t *text, size_t text_len, int64_t number, uint
  *
  * leaves: the node numbers of the leaves read, in reading sequence.
  * numbers (5): low, high, the node number of the play (0 for none: the root is no play), the number of leaves read, G.
+ *
+ * The exact worth lies from low to high, which are at most the margin apart, and the play's worth is within the margin of it. margin_judge
+ * takes another number for a play, its place among the root's children, from 1: the first child is node 1, and the next after node i is
+ * stop[i] of margin_read.
  */
 uint64_t margin_search(const uint8_t *text, size_t text_len, int64_t margin, uint16_t *leaves, size_t leaves_len, int64_t *numbers,
                        size_t numbers_len);
@@ -89,9 +95,12 @@ struct margin_record {
  * Rollouts on a table without C, under a list of policy bytes. Refuses 1 to 10, 13 where the table has a C, and 11 where `leaves` has
  * fewer entries than the table has leaves or `store` fewer than it has nodes.
  *
+ * policy: which of its candidates a walk takes at each inner node that it comes to. A byte b is used up there, and of m candidates, counted
+ * from 0, number b mod m is taken; past the list's end the first. The list may be empty. The worth is the same under every list.
  * store: a record for each node, by node number, as last updated.
  * leaves: the node numbers of the leaves read, in reading sequence.
- * numbers (2): the worth, the number of leaves read.
+ * numbers (2): the worth, the number of leaves read. A grain is a point here, as there is no C. Where the two ends are equal, no leaf is
+ * read.
  */
 uint64_t margin_rollout(const uint8_t *text, size_t text_len, const uint8_t *policy, size_t policy_len, struct margin_record *store,
                         size_t store_len, uint16_t *leaves, size_t leaves_len, int64_t *numbers, size_t numbers_len);

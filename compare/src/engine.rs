@@ -168,11 +168,13 @@ pub fn worth(text: &[u8], numbers: &mut [i64]) -> u64 {
 /// 0 or the refusal as `read` does, where refusal 14 has line 0. At an M or N
 /// root 1, the loss in grains and the count of level children stand first in
 /// `numbers`, as far as there is room; at a C or L root a 0 does. All else in it
-/// is left as it was, and everything where the call is refused.
+/// is left as it was, and everything where the call is refused. The engine's
+/// numbers have no sign; none is so large that it would be read as negative.
 #[allow(unsafe_code)]
 pub fn judge(text: &[u8], number: i64, numbers: &mut [i64]) -> u64 {
     // Sound: each pointer stands with the length of what it points to, and the
-    // two slices are apart from each other and lent for the length of the call.
+    // two slices are apart from each other and lent for the length of the call;
+    // a u64 has the size and alignment of an i64.
     unsafe {
         abi::margin_judge(
             text.as_ptr(),

@@ -1,13 +1,12 @@
 //! Holds the proved engine to a second, independent engine.
 //!
 //! - `engine` calls the proved engine.
-//! - `second` is the second engine, written from document 01 alone.
+//! - `second` is the second engine, written from document 01 and the two
+//!   algorithms that it names, and from nothing of the proved engine.
 //! - `random` and `texts` make the texts that both are given.
 //!
 //! The comparisons are in `tests`, the benchmark in `src/bin/bench.rs`.
 //! `src/bin/expected.rs` prints what the margin program must print.
-
-#![deny(unsafe_code)]
 
 pub mod engine;
 pub mod random;

@@ -12,7 +12,7 @@ mod numbers;
 use common::{code, demand, Tally, OF_TABLES};
 use compare::engine;
 use compare::random::{number_from_environment, seed, Random};
-use compare::second::{self, Judgement, Kind, Refusal, Table, FARTHEST_END, MOST_NODES};
+use compare::second::{self, Judgement, Kind, Node, Refusal, Table, FARTHEST_END, MOST_NODES};
 use compare::texts::examples::*;
 use compare::texts::small::{for_each, six_nodes};
 use compare::texts::{self, largest};
@@ -378,7 +378,8 @@ fn second_engine_has_the_known_judgements() {
 }
 
 /// A play without loss is among those of every root where there is a choice,
-/// and the level plays are as many as the engine says.
+/// and the level plays are as many as the children whose worths are less than a
+/// point from the root's.
 #[test]
 fn second_engine_counts_the_level_plays() {
     let mut roots = 0;
@@ -400,10 +401,13 @@ fn second_engine_counts_the_level_plays() {
             continue;
         }
         roots += 1;
-        let below = losses.iter().filter(|(loss, _)| *loss < table.grains);
-        let below = below.count();
+        let worths = second::worths(&table);
+        let close = |(node, worth): &(&Node, &i64)| {
+            node.parent == Some(0) && (*worth - worths[0]).abs() < table.grains
+        };
+        let close = table.nodes.iter().zip(&worths).filter(close).count();
         assert!(losses.iter().any(|(loss, _)| *loss == 0));
-        assert!(losses.iter().all(|(_, level)| *level == below));
+        assert!(losses.iter().all(|(_, level)| *level == close));
     }
     assert!(roots >= 100, "only {roots} roots");
 }

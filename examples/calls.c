@@ -1,0 +1,139 @@
+/* Calls every function of the header on document 01's tables A and B, and says where an answer is not as it should be: calls B A, the files
+ * of both. What it expects is printed in document 01, or read off the two tables. */
+#include <stdio.h>
+#include <string.h>
+
+#include "margin_engine.h"
+
+static uint8_t b[MARGIN_MOST_BYTES], a[MARGIN_MOST_BYTES];
+static size_t b_len, a_len;
+static int bad;
+
+#define SAME(count, got, ...) same(__LINE__, count, sizeof (got)[0], (got), (const int64_t[]){__VA_ARGS__})
+
+/* Compares `count` entries of an array whose entries have `size` bytes; an entry past the answer must be as it was, all ones. */
+static void same(int line, size_t count, size_t size, const void *got, const int64_t *expected) {
+    const uint8_t *bytes = got;
+    for (size_t i = 0; i < count; i++) {
+        int64_t entry = 0;
+        memcpy(&entry, bytes + i * size, size);
+        if (entry != expected[i]) {
+            printf("calls.c:%d: entry %zu is %lld, not %lld\n", line, i, (long long)entry, (long long)expected[i]);
+            bad = 1;
+        }
+    }
+    for (size_t i = count * size; i < (count + 1) * size; i++) {
+        if (bytes[i] != 0xff) {
+            printf("calls.c:%d: the entry after the answer was written\n", line);
+            bad = 1;
+            return;
+        }
+    }
+}
+
+static void returned(const char *call, uint64_t code, uint64_t expected) {
+    if (code != expected) {
+        printf("calls.c: %s returned %llu, not %llu\n", call, (unsigned long long)code, (unsigned long long)expected);
+        bad = 1;
+    }
+}
+
+static size_t load(const char *path, uint8_t *text) {
+    FILE *file = fopen(path, "rb");
+    if (file == NULL) return 0;
+    size_t length = fread(text, 1, MARGIN_MOST_BYTES, file);
+    fclose(file);
+    return length;
+}
+
+static void reading(void) {
+    int64_t numbers[8];
+    uint8_t kind[6], weight[6];
+    uint16_t stop[6];
+    uint32_t height[6];
+    memset(numbers, 0xff, sizeof numbers);
+    memset(kind, 0xff, sizeof kind);
+    memset(stop, 0xff, sizeof stop);
+    memset(weight, 0xff, sizeof weight);
+    memset(height, 0xff, sizeof height);
+    returned("margin_read", margin_read(b, b_len, numbers, 8, kind, 6, stop, 6, weight, 6, height, 6), 0);
+    SAME(7, numbers, 5, 4, 0, 8, 1, 4, 3);
+    SAME(5, kind, 1, 0, 3, 0, 0);
+    SAME(5, stop, 5, 2, 5, 4, 5);
+    SAME(5, weight, 0, 0, 0, 3, 1);
+    SAME(5, height, 0, 5, 0, 2, 8);
+}
+
+static void worth(void) {
+    int64_t numbers[3];
+    memset(numbers, 0xff, sizeof numbers);
+    returned("margin_worth", margin_worth(b, b_len, numbers, 3), 0);
+    SAME(2, numbers, 20, 4);
+}
+
+static void judging(void) {
+    uint64_t numbers[4];
+    memset(numbers, 0xff, sizeof numbers);
+    returned("margin_judge of no child", margin_judge(b, b_len, 3, numbers, 4), 14);
+    SAME(0, numbers, 0);
+    returned("margin_judge", margin_judge(b, b_len, 2, numbers, 4), 0);
+    SAME(3, numbers, 1, 6, 1);
+}
+
+static void searching(void) {
+    int64_t numbers[6];
+    uint16_t leaves[3];
+    memset(numbers, 0xff, sizeof numbers);
+    memset(leaves, 0xff, sizeof leaves);
+    returned("margin_search in a short list", margin_search(b, b_len, 12, leaves, 2, numbers, 6), 11);
+    SAME(0, numbers, 0);
+    SAME(0, leaves, 0);
+    returned("margin_search", margin_search(b, b_len, 12, leaves, 3, numbers, 6), 0);
+    SAME(5, numbers, 20, 32, 1, 1, 4);
+    SAME(1, leaves, 1);
+}
+
+static void turning(void) {
+    static uint8_t turned[MARGIN_MOST_BYTES], twice[MARGIN_MOST_BYTES];
+    returned("margin_turn", margin_turn(b, b_len, turned, sizeof turned), 0);
+    returned("margin_turn of the turned", margin_turn(turned, b_len, twice, sizeof twice), 0);
+    if (memcmp(b, twice, b_len) != 0 || memcmp(b, turned, b_len) == 0) {
+        printf("calls.c: B turned twice is not B, or once is\n");
+        bad = 1;
+    }
+}
+
+static void rollouts(void) {
+    int64_t numbers[3];
+    uint16_t leaves[5];
+    struct margin_record store[8];
+    const uint8_t ones[2] = {1, 1};
+    memset(numbers, 0xff, sizeof numbers);
+    memset(leaves, 0xff, sizeof leaves);
+    memset(store, 0xff, sizeof store);
+    returned("margin_rollout of B", margin_rollout(b, b_len, ones, 0, store, 8, leaves, 5, numbers, 3), 13);
+    returned("margin_rollout", margin_rollout(a, a_len, ones, 0, store, 8, leaves, 5, numbers, 3), 0);
+    SAME(2, numbers, 3, 3);
+    SAME(3, leaves, 2, 3, 5);
+    if (store[0].low != 3 || store[0].high != 3 || store[4].low != 0 || store[4].high != 2 || store[6].high != 10 || store[7].low != -1) {
+        printf("calls.c: the store of A is not as its rollouts leave it\n");
+        bad = 1;
+    }
+    returned("margin_rollout with a policy", margin_rollout(a, a_len, ones, 2, store, 8, leaves, 5, numbers, 3), 0);
+    SAME(2, numbers, 3, 4);
+    SAME(4, leaves, 6, 2, 3, 5);
+}
+
+int main(int argc, char **argv) {
+    if (argc != 3 || (b_len = load(argv[1], b)) == 0 || (a_len = load(argv[2], a)) == 0) {
+        fprintf(stderr, "usage: calls B A\n");
+        return 2;
+    }
+    reading();
+    worth();
+    judging();
+    searching();
+    turning();
+    rollouts();
+    return bad;
+}
