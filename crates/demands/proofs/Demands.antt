@@ -1,4 +1,4 @@
--- Demand 3 at the public calls. Assumes nothing.
+-- The customer's demands at the public calls. Assumes nothing.
 use Prim.Native.Nat.{ℕ, zero, suc, _≤_}
 use mathlib.Core.Path.{_≡_, refl, sym, ap, ap₂, subst, _∙_}
 use mathlib.Core.Bool.{Bool, true, false, _||_, cond}
@@ -39,16 +39,16 @@ use Rattle.rollout.specs.Leaves.{Distinct}
 use Rattle.rollout.specs.Rollout.{Rolled}
 use Rattle.rollout.specs.Whole.{hasChance, rolled, rolledWorth}
 use Rattle.rollout.proofs.Demand.{ends-on-worth, no-leaf-twice}
 use Rattle.engine.specs.declared.Bounds.{Bounds}
 use Rattle.engine.specs.declared.Bounded.the-variants.{Found, Refused}
 use Rattle.engine.specs.declared.Rolled
 use Rattle.engine.specs.declared.Rolled.the-variants.{Done}
 use Rattle.engine.specs.declared.Turned
 use Rattle.engine.specs.declared.Exact.the-variants.{Grains}
 use Rattle.engine.specs.Calls.{exactCall, badMargin, Sought, sought, boundsOf, searchAnswer, searchList, searchCall, searchReads, rolls, rollAnswer, rollList, rollRecords, rollCall, recorded, turnOf, turnAnswer, turnWritten}
-use Rattle.engine.specs.Demands.{childWorth, Promised, LongEnough, withUtility, SameLines, same-none, same-more, Differ, Mirrors, Answers, Sentence1, Sentence2, Sentence3, TurnAnswers, TurningTwice, RolloutsEnd, RollAnswers, SearchUntouched, TurnUntouched, RollUntouched}
+use Rattle.demands.specs.Demands.{childWorth, Promised, LongEnough, withUtility, SameLines, same-none, same-more, Differ, Mirrors, Answers, Sentence1, Sentence2, Sentence3, TurnAnswers, TurningTwice, RolloutsEnd, RollAnswers, SearchUntouched, TurnUntouched, RollUntouched}
 use Rattle.engine.proofs.Answered.{answered, answers, reads}
 use Rattle.engine.proofs.Turning.{turn-fine}
 
 -- ---- the bounds and the play
 

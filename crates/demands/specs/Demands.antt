@@ -1,5 +1,5 @@
--- Demand 3 at the public calls, stated over texts. Document 01, 'The search', third paragraph, says what its words mean; what is quoted over the
--- sentences is the demand itself. proofs/Demands.antt has the theorems. Assumes nothing: these are definitions.
+-- The customer's demands at the public calls, stated over texts. Document 01, 'The search', third paragraph, says what the words of demand 3 mean; what
+-- is quoted over the sentences is the demand itself. proofs/Demands.antt has the theorems. Assumes nothing: these are definitions.
 use Prim.Native.Nat.{ℕ, _≤_}
 use mathlib.Core.Path.{_≡_}
 use mathlib.Core.Bool.{true, false}
