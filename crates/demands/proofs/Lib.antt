@@ -1,2 +1,3 @@
+pub mod Utilities
 pub mod Demands
 pub mod Rows
