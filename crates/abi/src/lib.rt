@@ -84,6 +84,7 @@ pub extern "C" fn margin_read(
     }
 }
 
+// A worth in grains, and a count: G, or the number of leaves that rollouts read.
 fn put_worth(z: i64, g: u64, numbers: &mut [i64])
     requires { ⌜ g < 2 ^ 63 ⌝ }
     ensures { λ _. ⌜ now (numbers .exit) ≡ put 0 (worthNumbers (Exact.Grains z g)) (now (numbers .entry)) ⌝ }
@@ -210,14 +211,6 @@ pub extern "C" fn margin_turn(text: &[u8], buffer: &mut [u8]) -> u64
     }
 }
 
-fn put_count(worth: i64, leaves: usize, numbers: &mut [i64])
-    requires { ⌜ leaves < 2 ^ 63 ⌝ }
-    ensures { λ _. ⌜ now (numbers .exit) ≡ put 0 (rollNumbers (Rolled.Done worth leaves)) (now (numbers .entry)) ⌝ }
-{
-    put_at(numbers, 0, worth);
-    put_at(numbers, 1, signed(leaves as u64));
-}
-
 // What rollouts answer, as a code and numbers.
 fn put_rolled(r: Rolled, numbers: &mut [i64]) -> u64
     requires { ⌜ SmallRolled r ⌝ }
@@ -227,7 +220,7 @@ fn put_rolled(r: Rolled, numbers: &mut [i64]) -> u64
     match r {
         Rolled::Refused(r) => refusal_code(r),
         Rolled::Done(worth, leaves) => {
-            put_count(worth, leaves, numbers);
+            put_worth(worth, leaves as u64, numbers);
             0
         }
     }

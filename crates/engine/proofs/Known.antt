@@ -1,35 +1,114 @@
--- What an accepted text's answer tells: its numbers are small, and its lines can be judged. Assumes nothing.
+-- What the reading of an accepted text leaves: its numbers are small, and its lines can be judged. Assumes nothing.
 use Prim.Native.Nat.{ℕ, _-_, _≤_}
 use mathlib.Core.Path.{_≡_, refl, sym, ap, subst, _∙_}
 use mathlib.Core.List.{List}
 use native.Mathlib.Nat.{le-trans}
 use native.Mathlib.Omega.{arith}
-use lib.ListN.{length, take, drop, length-drop}
+use lib.ListN.{length, take, drop, replicate, length-drop}
 use lib.Seq.{take-all}
 use lib.IntN.{ℤ, pos, _+ℤ_, _*ℤ_}
+use lib.Signed.{mag}
+use mir.Syntax.{w64}
+use mir.Val.{toZ, ofZ}
 use Rattle.line.specs.Refusal.{Verdict, fine}
 use Rattle.line.proofs.Signs.{mag-abs}
 use Rattle.table.specs.declared.Summary.{Summary}
+use Rattle.table.specs.declared.Reading.{Reading}
 use Rattle.table.specs.declared.Reading.the-variants.{Accepted}
 use Rattle.table.specs.Tree.{MAX}
 use Rattle.table.specs.Table.{Table, readText, summary, answer, grain}
-use Rattle.table.specs.Slices.{stopsOf, fitted, decoded}
+use Rattle.table.specs.Slices.{kindsOf, stopsOf, weightsOf, heightsOf, fitted, decoded}
 use Rattle.table.proofs.Accepted.{answer-accepted, accepted-ranged, accepted-size, accepted-grain}
 use Rattle.worth.specs.declared.Scale.{Scale}
 use Rattle.worth.specs.Inside.{Ready, Worthy}
-use Rattle.worth.specs.Worth.{worthOf}
 use Rattle.worth.specs.Heights.{heightWorth}
 use Rattle.worth.proofs.Worth.{shift, height-within, span-grains}
 use Rattle.worth.proofs.Judged.{accepted-ready, judged-worth}
 use Rattle.judge.specs.declared.Judged.{Judged}
 use Rattle.judge.specs.declared.Judged.the-variants.{NoDecision, Judged as Lost, NoChild}
-use Rattle.judge.specs.Judge.{judge}
 use Rattle.judge.specs.Inside.{judgedOf, Whole, WellJudged}
 use Rattle.judge.proofs.Answer.{accepted-whole, judged-table}
 use Rattle.engine.specs.declared.Exact.the-variants.{Grains}
 use Rattle.engine.specs.declared.Opinion.the-variants.{Given}
 use Rattle.engine.specs.Calls.{exactCall, told, judgeCall}
 use Rattle.engine.specs.Inside.{Spread, scaleFor}
+use Rattle.engine.proofs.Sums.{read-back, grains-back}
+
+-- t is the summary of an accepted text s
+pub spread : (s : List ℕ) (t : Summary) → answer (readText s) ≡ Accepted t → Spread t
+spread s t e =
+    let (T, p, q) = answer-accepted (readText s) t e in
+    let r = accepted-ranged s T p in
+    subst Spread q (record {
+      lowest = le-trans (mag-abs (T .head .lowest)) (r .lowest);
+      highest = le-trans (mag-abs (T .head .highest)) (r .highest);
+      grain = accepted-grain s T p;
+    })
+
+-- ---- from what the reading leaves to the table
+
+-- each of the four slices that a call lends to the reading
+abbrev pub zeros : List ℕ
+zeros = replicate 1024 0
+
+pub zeros-enough : (s : List ℕ) (T : Table) → readText s ≡ fine T → length (T .lines) ≤ length zeros
+zeros-enough s T p = accepted-size s T p .1
+
+-- the text s was accepted with the summary t, and K, S, W and H are the slices as they were left
+pub record Taken (s : List ℕ) (t : Summary) (K S W H : List ℕ) : Type 0 where
+  pub accepted : answer (readText s) ≡ Accepted t
+  pub kinds : K ≡ fitted (decoded kindsOf (readText s)) zeros
+  pub stops : S ≡ fitted (decoded stopsOf (readText s)) zeros
+  pub weights : W ≡ fitted (decoded weightsOf (readText s)) zeros
+  pub heights : H ≡ fitted (decoded heightsOf (readText s)) zeros
+
+-- from the reading's contract
+pub taken-by : (s : List ℕ) {r : Reading} {t : Summary} {K S W H : List ℕ}
+    → (r ≡ answer (readText s))
+    × ((K ≡ fitted (decoded kindsOf (readText s)) zeros)
+    × ((S ≡ fitted (decoded stopsOf (readText s)) zeros)
+    × ((W ≡ fitted (decoded weightsOf (readText s)) zeros)
+    × (H ≡ fitted (decoded heightsOf (readText s)) zeros))))
+    → r ≡ Accepted t → Taken s t K S W H
+taken-by s (a, (k, (st, (w, h)))) e = record { accepted = sym a ∙ e; kinds = k; stops = st; weights = w; heights = h }
+
+-- what holds of every accepted table and its slices holds of what was left
+pub of-table : {s : List ℕ} {t : Summary} {K S W H : List ℕ} → Taken s t K S W H → (C : Summary → (K S W H : List ℕ) → Type 0)
+    → ((T : Table) → readText s ≡ fine T → C (summary T) (fitted (kindsOf T) zeros) (fitted (stopsOf T) zeros) (fitted (weightsOf T) zeros) (fitted (heightsOf T) zeros))
+    → C t K S W H
+of-table {s} {t} {K} {S} {W} {H} G C show =
+    let (T, p, q) = answer-accepted (readText s) t (G .accepted) in
+    let k : fitted (kindsOf T) zeros ≡ K = ap (λ (v : Verdict Table). fitted (decoded kindsOf v) zeros) (sym p) ∙ sym (G .kinds) in
+    let st : fitted (stopsOf T) zeros ≡ S = ap (λ (v : Verdict Table). fitted (decoded stopsOf v) zeros) (sym p) ∙ sym (G .stops) in
+    let w : fitted (weightsOf T) zeros ≡ W = ap (λ (v : Verdict Table). fitted (decoded weightsOf v) zeros) (sym p) ∙ sym (G .weights) in
+    let h : fitted (heightsOf T) zeros ≡ H = ap (λ (v : Verdict Table). fitted (decoded heightsOf v) zeros) (sym p) ∙ sym (G .heights) in
+    let all : C (summary T) (fitted (kindsOf T) zeros) (fitted (stopsOf T) zeros) (fitted (weightsOf T) zeros) (fitted (heightsOf T) zeros) ≡ C t K S W H = λ j. C (q j) (k j) (st j) (w j) (h j) in
+    subst (λ (X : Type 0). X) all (show T p)
+
+-- ---- its numbers, as they are handed on
+
+module _ {s : List ℕ} {t : Summary} {K S W H : List ℕ} (G : Taken s t K S W H) where
+  pub spread-at : Spread t
+  spread-at = spread s t (G .accepted)
+
+  pub long : 25 ≤ length s
+  long = of-table G (λ t K S W H. 25 ≤ length s) (λ T p. omega (arith, accepted-size s T p .2))
+
+  pub lowest-back : toZ w64 (ofZ w64 (t .lowest)) ≡ t .lowest
+  lowest-back = read-back (t .lowest) (omega (arith, spread-at .lowest))
+
+  pub highest-back : toZ w64 (ofZ w64 (t .highest)) ≡ t .highest
+  highest-back = read-back (t .highest) (omega (arith, spread-at .highest))
+
+  -- the height h in grains
+  module _ {h : ℕ} (small : h ≤ 35184372088832) where
+    pub grains-ready : (mag (toZ w64 (ofZ w64 (t .lowest))) ≤ 1000000) × (t .grain ≤ 16777216) × (h ≤ 35184372088832)
+    grains-ready = (rw lowest-back (spread-at .lowest), spread-at .grain, small)
+
+    pub grains-at : {r : ℤ} → r ≡ toZ w64 (ofZ w64 (t .lowest)) *ℤ pos (t .grain) +ℤ pos h → toZ w64 (ofZ w64 r) ≡ t .lowest *ℤ pos (t .grain) +ℤ pos h
+    grains-at {r} e = grains-back (t .lowest) (t .grain) h r (spread-at .lowest) (spread-at .grain) small e
+
+-- ---- the exact worth and the judgement
 
 -- what is told of a judgement is the answer that means it
 told-back : (r : Judged) → r ≡ told (judgedOf r)
@@ -37,100 +116,42 @@ told-back NoDecision = refl
 told-back (Lost loss level) = refl
 told-back NoChild = refl
 
--- t is the summary of an accepted text s
-module _ (s : List ℕ) (t : Summary) (e : answer (readText s) ≡ Accepted t) where
-  pub spread : Spread t
-  spread =
-      let (T, p, q) = answer-accepted (readText s) t e in
-      let r = accepted-ranged s T p in
-      subst Spread q (record {
-        lowest = le-trans (mag-abs (T .head .lowest)) (r .lowest);
-        highest = le-trans (mag-abs (T .head .highest)) (r .highest);
-        grain = accepted-grain s T p;
-      })
+-- g is the scale; the text is handed on from byte 25
+module _ {s : List ℕ} {t : Summary} {K S W H : List ℕ} (G : Taken s t K S W H) {g : Scale} (q : g ≡ scaleFor t) where
+  abbrev lines : List ℕ
+  lines = take (length s - 25) (drop 25 s)
 
-  pub long : 25 ≤ length s
-  long =
-      let (T, p, q) = answer-accepted (readText s) t e in
-      omega (arith, accepted-size s T p .2)
-
-  -- a is the slice that was lent for the ends of the runs
-  module _ (a : List ℕ) (room : length a ≡ 1024) where
-    abbrev stops : List ℕ
-    stops = fitted (decoded stopsOf (readText s)) a
-
-    ready-of : (T : Table) → readText s ≡ fine T → Ready stops (scaleFor (summary T)) MAX 0 (summary T .nodes) (drop 25 s)
-    ready-of T p = rw p (accepted-ready s T p a (omega (arith, accepted-size s T p .1)))
-
-    pub ready : Ready stops (scaleFor t) MAX 0 (t .nodes) (drop 25 s)
-    ready =
-        let (T, p, q) = answer-accepted (readText s) t e in
-        subst (λ (x : Summary). Ready stops (scaleFor x) MAX 0 (x .nodes) (drop 25 s)) q (ready-of T p)
-
-    whole-of : (T : Table) → readText s ≡ fine T → Whole stops (scaleFor (summary T)) (summary T .nodes) (drop 25 s)
-    whole-of T p = rw p (accepted-whole s T p a (omega (arith, accepted-size s T p .1)))
-
-    whole : Whole stops (scaleFor t) (t .nodes) (drop 25 s)
-    whole =
-        let (T, p, q) = answer-accepted (readText s) t e in
-        subst (λ (x : Summary). Whole stops (scaleFor x) (x .nodes) (drop 25 s)) q (whole-of T p)
-
-    -- r is what `judge_table` gave
-    judged-of : (i : ℤ) (r : Judged) (T : Table) → readText s ≡ fine T → summary T ≡ t → WellJudged stops (scaleFor t) (t .nodes) (drop 25 s) i r → judgedOf r ≡ judge T i
-    judged-of i r T p q w =
-        let u : WellJudged stops (scaleFor (summary T)) (summary T .nodes) (drop 25 s) i r = subst (λ (x : Summary). WellJudged stops (scaleFor x) (x .nodes) (drop 25 s) i r) (sym q) w in
-        judged-table s T p a (omega (arith, accepted-size s T p .1)) i r (subst (λ (v : Verdict Table). WellJudged (fitted (decoded stopsOf v) a) (scaleFor (summary T)) (summary T .nodes) (drop 25 s) i r) p u)
-
-    given : (i : ℤ) (r : Judged) → WellJudged stops (scaleFor t) (t .nodes) (drop 25 s) i r → Given r ≡ judgeCall (readText s) i
-    given i r w =
-        let (T, p, q) = answer-accepted (readText s) t e in
-        ap Given (told-back r ∙ ap told (judged-of i r T p q w)) ∙ ap (λ (v : Verdict Table). judgeCall v i) (sym p)
-
-    -- h is what `worth_of` gave
-    module _ (h : ℕ) (w : Worthy stops (scaleFor t) MAX 0 (t .nodes) (drop 25 s) h) where
-      worth-of : (T : Table) → readText s ≡ fine T → summary T ≡ t → h ≡ heightWorth T
-      worth-of T p q =
-          let u : Worthy stops (scaleFor (summary T)) MAX 0 (summary T .nodes) (drop 25 s) h = subst (λ (x : Summary). Worthy stops (scaleFor x) MAX 0 (x .nodes) (drop 25 s) h) (sym q) w in
-          judged-worth s T p a (omega (arith, accepted-size s T p .1)) h (subst (λ (v : Verdict Table). Worthy (fitted (decoded stopsOf v) a) (scaleFor (summary T)) MAX 0 (summary T .nodes) (drop 25 s) h) p u)
-
-      pub low : h ≤ 35184372088832
-      low =
-          let (T, p, q) = answer-accepted (readText s) t e in
-          omega (arith, worth-of T p q, height-within s T p, span-grains s T p)
-
-      answered-of : (T : Table) → readText s ≡ fine T → h ≡ heightWorth T
-          → Grains (summary T .lowest *ℤ pos (summary T .grain) +ℤ pos h) (summary T .grain) ≡ exactCall (readText s)
-      answered-of T p v =
-          ap (λ (y : ℕ). Grains (T .head .lowest *ℤ pos (grain T) +ℤ pos y) (grain T)) v
-          ∙ ap (λ (z : ℤ). Grains z (grain T)) (sym (shift s T p))
-          ∙ ap exactCall (sym p)
-
-      pub answered : Grains (t .lowest *ℤ pos (t .grain) +ℤ pos h) (t .grain) ≡ exactCall (readText s)
-      answered =
-          let (T, p, q) = answer-accepted (readText s) t e in
-          subst (λ (x : Summary). Grains (x .lowest *ℤ pos (x .grain) +ℤ pos h) (x .grain) ≡ exactCall (readText s)) q (answered-of T p (worth-of T p q))
-
-  -- ---- as the call has it: the stops S, the scale g, and the text from byte 25 on
-
-  from-all : take (length s - 25) (drop 25 s) ≡ drop 25 s
+  from-all : lines ≡ drop 25 s
   from-all = take-all (length s - 25) (drop 25 s) (omega (arith, length-drop 25 s))
 
-  module _ (a S : List ℕ) (g : Scale) (room : length a ≡ 1024) (p : S ≡ fitted (decoded stopsOf (readText s)) a) (q : g ≡ scaleFor t) where
-    pub ready-at : Ready S g MAX 0 (t .nodes) (take (length s - 25) (drop 25 s))
-    ready-at = rw (p, q, from-all) (ready a room)
+  pub ready-at : Ready S g MAX 0 (t .nodes) lines
+  ready-at =
+      rw (q, from-all) (of-table G (λ t K S W H. Ready S (scaleFor t) MAX 0 (t .nodes) (drop 25 s)) (λ T p. accepted-ready s T p zeros (zeros-enough s T p)))
 
-    module _ (h : ℕ) (w : Worthy S g MAX 0 (t .nodes) (take (length s - 25) (drop 25 s)) h) where
-      worthy : Worthy (fitted (decoded stopsOf (readText s)) a) (scaleFor t) MAX 0 (t .nodes) (drop 25 s) h
-      worthy = rw (p, q, from-all) at w
+  pub whole-at : Whole S g (t .nodes) lines
+  whole-at =
+      rw (q, from-all) (of-table G (λ t K S W H. Whole S (scaleFor t) (t .nodes) (drop 25 s)) (λ T p. accepted-whole s T p zeros (zeros-enough s T p)))
 
-      pub low-at : h ≤ 35184372088832
-      low-at = low a room h worthy
+  -- h is what `worth_of` gave
+  module _ (h : ℕ) (w : Worthy S g MAX 0 (t .nodes) lines h) where
+    of-worth : (C : Summary → Type 0) → ((T : Table) → readText s ≡ fine T → h ≡ heightWorth T → C (summary T)) → C t
+    of-worth C show =
+        of-table G (λ t K S W H. Worthy S (scaleFor t) MAX 0 (t .nodes) (drop 25 s) h → C t)
+        (λ T p w. show T p (judged-worth s T p zeros (zeros-enough s T p) h w)) (rw (q, from-all) at w)
 
-      pub answered-at : Grains (t .lowest *ℤ pos (t .grain) +ℤ pos h) (t .grain) ≡ exactCall (readText s)
-      answered-at = answered a room h worthy
+    pub low-at : h ≤ 35184372088832
+    low-at = of-worth (λ t. h ≤ 35184372088832) (λ T p e. omega (arith, e, height-within s T p, span-grains s T p))
 
-    pub whole-at : Whole S g (t .nodes) (take (length s - 25) (drop 25 s))
-    whole-at = rw (p, q, from-all) (whole a room)
+    pub answered-at : Grains (t .lowest *ℤ pos (t .grain) +ℤ pos h) (t .grain) ≡ exactCall (readText s)
+    answered-at =
+        of-worth (λ t. Grains (t .lowest *ℤ pos (t .grain) +ℤ pos h) (t .grain) ≡ exactCall (readText s)) (λ T p e.
+        ap (λ (y : ℕ). Grains (T .head .lowest *ℤ pos (grain T) +ℤ pos y) (grain T)) e
+        ∙ ap (λ (z : ℤ). Grains z (grain T)) (sym (shift s T p))
+        ∙ ap exactCall (sym p))
 
-    pub given-at : (i : ℤ) (r : Judged) → WellJudged S g (t .nodes) (take (length s - 25) (drop 25 s)) i r → Given r ≡ judgeCall (readText s) i
-    given-at i r w = given a room i r (rw (p, q, from-all) at w)
+  -- r is what `judge_table` gave of the child i
+  pub given-at : (i : ℤ) (r : Judged) → WellJudged S g (t .nodes) lines i r → Given r ≡ judgeCall (readText s) i
+  given-at i r w =
+      of-table G (λ t K S W H. WellJudged S (scaleFor t) (t .nodes) (drop 25 s) i r → Given r ≡ judgeCall (readText s) i) (λ T p w.
+      ap Given (told-back r ∙ ap told (judged-table s T p zeros (zeros-enough s T p) i r w)) ∙ ap (λ (v : Verdict Table). judgeCall v i) (sym p))
+      (rw (q, from-all) at w)

@@ -3,8 +3,6 @@ pub mod Known
 pub mod Searching
 pub mod Answered
 pub mod Turning
-pub mod Demands
-pub mod Rows
 pub mod Raised
 pub mod Rolling
 pub mod Lent

@@ -12,10 +12,8 @@ use Rattle.line.specs.declared.Refusal.{Refusal}
 use Rattle.line.specs.declared.Refusal.the-variants.{NoRoom}
 use Rattle.line.specs.Refusal.{Verdict, refused, fine, unless, lineOf}
 use Rattle.table.specs.declared.Summary.{Summary}
-use Rattle.table.specs.declared.Reading.the-variants.{Accepted}
-use Rattle.table.specs.Table.{Table, readText, summary, answer}
-use Rattle.table.specs.Slices.{kindsOf, heightsOf, fitted, laid, decoded}
-use Rattle.table.proofs.Accepted.{answer-accepted, accepted-size}
+use Rattle.table.specs.Table.{Table, readText}
+use Rattle.table.specs.Slices.{laid}
 use Rattle.table.proofs.Places.{refused-line}
 use Rattle.turn.specs.Turn.{turnedText}
 use Rattle.turn.specs.Inside.{Ready, Turned}
@@ -24,6 +22,7 @@ use Rattle.turn.proofs.Accepted.{turned-length}
 use Rattle.turn.proofs.Ready.{accepted-turns, accepted-turned}
 use Rattle.engine.specs.declared.Turned.the-variants.{Written, Refused}
 use Rattle.engine.specs.Calls.{turnOf, turnAnswer, turnCall}
+use Rattle.engine.proofs.Known.{zeros, zeros-enough, Taken, of-table}
 
 pub turn-short : (s : List ℕ) (t : Table) (room : ℕ) → readText s ≡ fine t → room < length s → turnOf (readText s) room ≡ refused NoRoom
 unfolding unless
@@ -35,39 +34,24 @@ unfolding unless
 turn-fine s t room p l =
     ap (λ (v : Verdict Table). turnOf v room) p ∙ rw (le-ltb room (length (turnedText t)) (omega (arith, turned-length s t p))) refl
 
--- t is the summary of an accepted text s; K and H are the slices as the reading left them, and d is the buffer
-module _ (s : List ℕ) (t : Summary) (e : answer (readText s) ≡ Accepted t) (k₀ h₀ K H d : List ℕ)
-    (roomK : length k₀ ≡ 1024) (roomH : length h₀ ≡ 1024)
-    (isK : K ≡ fitted (decoded kindsOf (readText s)) k₀) (isH : H ≡ fitted (decoded heightsOf (readText s)) h₀) where
+-- K, S, W and H are the slices as the reading left them, and d is the buffer
+module _ {s : List ℕ} {t : Summary} {K S W H : List ℕ} (G : Taken s t K S W H) (d : List ℕ) where
   pub room-short : length d < length s → turnOf (readText s) (length d) ≡ refused NoRoom
-  room-short l = let (T, p, q) = answer-accepted (readText s) t e in turn-short s T (length d) p l
+  room-short l = of-table G (λ t K S W H. turnOf (readText s) (length d) ≡ refused NoRoom) (λ T p. turn-short s T (length d) p l)
 
   module _ (long : length s ≤ length d) where
-    ready-of : (T : Table) → readText s ≡ fine T
-        → Ready s (fitted (decoded kindsOf (readText s)) k₀) (fitted (decoded heightsOf (readText s)) h₀) (summary T .nodes) (summary T .lowest) (summary T .highest) d
-    ready-of T p = let z = accepted-size s T p .1 in rw p (accepted-turns s T p (canonical s T p) k₀ h₀ d (omega arith) (omega arith) long)
-
     pub turn-ready : Ready s K H (t .nodes) (t .lowest) (t .highest) d
     turn-ready =
-        let (T, p, q) = answer-accepted (readText s) t e in
-        rw (isK, isH) (subst (λ (x : Summary). Ready s (fitted (decoded kindsOf (readText s)) k₀) (fitted (decoded heightsOf (readText s)) h₀) (x .nodes) (x .lowest) (x .highest) d) q (ready-of T p))
+        of-table G (λ t K S W H. Ready s K H (t .nodes) (t .lowest) (t .highest) d) (λ T p.
+        let z = zeros-enough s T p in accepted-turns s T p (canonical s T p) zeros zeros d z z long)
 
-    -- b is the buffer after `turn`
-    module _ (b : List ℕ) (told : Turned s K H (t .nodes) (t .lowest) (t .highest) d b) where
-      written-of : (T : Table) → readText s ≡ fine T → summary T ≡ t → b ≡ laid (turnedText T) d
-      written-of T p q =
-          let z = accepted-size s T p .1 in
-          let u : Turned s (fitted (decoded kindsOf (readText s)) k₀) (fitted (decoded heightsOf (readText s)) h₀) (t .nodes) (t .lowest) (t .highest) d b = rw (isK, isH) at told in
-          let v : Turned s (fitted (decoded kindsOf (readText s)) k₀) (fitted (decoded heightsOf (readText s)) h₀) (summary T .nodes) (summary T .lowest) (summary T .highest) d b =
-          subst (λ (x : Summary). Turned s (fitted (decoded kindsOf (readText s)) k₀) (fitted (decoded heightsOf (readText s)) h₀) (x .nodes) (x .lowest) (x .highest) d b) (sym q) u in
-          accepted-turned s T p (canonical s T p) k₀ h₀ d (omega arith) (omega arith) long b
-          (subst (λ (x : Verdict Table). Turned s (fitted (decoded kindsOf x) k₀) (fitted (decoded heightsOf x) h₀) (summary T .nodes) (summary T .lowest) (summary T .highest) d b) p v)
-
-      -- so many bytes, and these
-      pub turned-at : (text : List ℕ) × (turnOf (readText s) (length d) ≡ fine text) × (length text ≡ length s) × (b ≡ laid text d)
-      turned-at =
-          let (T, p, q) = answer-accepted (readText s) t e in
-          (turnedText T, turn-fine s T (length d) p long, turned-length s T p, written-of T p q)
+    -- b is the buffer after `turn`: so many bytes, and these
+    pub turned-at : (b : List ℕ) → Turned s K H (t .nodes) (t .lowest) (t .highest) d b
+        → (text : List ℕ) × (turnOf (readText s) (length d) ≡ fine text) × (length text ≡ length s) × (b ≡ laid text d)
+    turned-at b told =
+        of-table G (λ t K S W H. Turned s K H (t .nodes) (t .lowest) (t .highest) d b → (text : List ℕ) × (turnOf (readText s) (length d) ≡ fine text) × (length text ≡ length s) × (b ≡ laid text d)) (λ T p told.
+        let z = zeros-enough s T p in
+        (turnedText T, turn-fine s T (length d) p long, turned-length s T p, accepted-turned s T p (canonical s T p) zeros zeros d z z long b told)) told
 
 -- ---- a refusal
 

@@ -1,4 +1,2 @@
 pub mod Calls
 pub mod Inside
-pub mod Demands
-pub mod Rows

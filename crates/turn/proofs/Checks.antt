@@ -23,7 +23,7 @@ use Rattle.turn.specs.Turn.{turnCode, turnLine, turnHead}
 use Rattle.turn.proofs.Said.{entryFor, headingFor}
 use Rattle.turn.proofs.Tree.{code-other, code-leaf, code-chance}
 
-unless-passed : {A : Type 0} (cs : List Check) (a : A) → Passed cs → unless cs a ≡ fine a
+pub unless-passed : {A : Type 0} (cs : List Check) (a : A) → Passed cs → unless cs a ≡ fine a
 unfolding unless
 unless-passed [] a p = refl
 unless-passed (c ∷ cs) a p = rw (p .0) (unless-passed cs a (p .1))

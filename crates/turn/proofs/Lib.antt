@@ -3,6 +3,7 @@ pub mod Said
 pub mod Canonical
 pub mod Tree
 pub mod Checks
+pub mod Kept
 pub mod Accepted
 pub mod Worked
 pub mod Bytes

@@ -145,8 +145,8 @@ count-small s from width p = go (fieldOf s from width) refl
     go Ill e = p
     go (Number z) e = omega (arith, nat-abs z, small s from width z e)
 
-utility-short : (h : Head) (p : Placed) → Ranged h → Valued (eqb (p .line .kind) 0) h (p .line .utility) → natAbs (p .line .utility) < 10 ^ 7
-utility-short h p r v = omega (arith, abs-mag (p .line .utility), valued-small (eqb (p .line .kind) 0) h (p .line .utility) r v)
+pub utility-short : (h : Head) (b : Bool) (z : ℤ) → Ranged h → Valued b h z → natAbs z < 10 ^ 7
+utility-short h b z r v = omega (arith, abs-mag z, valued-small b h z r v)
 
 pub line-said : (h : Head) (i : ℕ) (P : List Step) (s : List ℕ) (p : Placed) → Ranged h → length s ≡ 25 → eqb i 0 ≡ isNone P
     → nodeLine h i P s ≡ fine p → Said s (p .line)
@@ -183,7 +183,7 @@ line-said h i P s p ranged long root eq =
         node = small s 0 4 (pos i) number;
         parent = count-small s 6 5 (lit< tt);
         weight = count-small s 11 5 (lit< tt);
-        utility = subst (λ (x : Placed). natAbs (x .line .utility) < 10 ^ 7) (sym (r .1)) (utility-short h p ranged (R .utility));
+        utility = subst (λ (x : Placed). natAbs (x .line .utility) < 10 ^ 7) (sym (r .1)) (utility-short h (eqb (p .line .kind) 0) (p .line .utility) ranged (R .utility));
       });
     }
 

@@ -34,23 +34,11 @@ said : (E : tie.After-judge-play) (x : Opinion) → E .judge-play .result ≡ x 
 said E x e =
     sym (ap (judgeCall (readText (text-of E))) (number-back (E .before .before .before))) ∙ sym (E .judge-play .ensures) ∙ e
 
-judge-play-requires : tie.Need-judge-play-requires
-judge-play-requires c κs = search needs
-
-enum-known-r : tie.Need-enum-known-r
-enum-known-r c = search needs
-
 refusal-code-requires : tie.Need-refusal-code-requires
 refusal-code-requires c κs =
     let E = c .before .before .before in
     let r = c .before .r .given in
     refused-line (text-of E) (r .0 .0) (opinion-refused (readText (text-of E)) (number-of E) (r .0 .0) (said E (Refused (r .0 .0)) (r .1)))
-
-enum-known-j : tie.Need-enum-known-j
-enum-known-j c = search needs
-
-put-judged-requires : tie.Need-put-judged-requires
-put-judged-requires c κs = search needs
 
 returns : tie.Need-returns
 returns c =
@@ -58,9 +46,6 @@ returns c =
     let r = c .before .before .r .given in
     let e = said E (Refused (r .0 .0)) (r .1) in
     (c .refusal-code .ensures ∙ sym (ap judgeCode e), sym (ap (λ (x : Opinion). put 0 (judgeNumbers x) (numbers-of E)) e))
-
-same-length : tie.Need-same-length
-same-length c = search needs
 
 returns-2 : tie.Need-returns-2
 returns-2 c =
@@ -74,11 +59,11 @@ pub margin-judge-spec : {M : Type 1} → statement M
 margin-judge-spec =
     tie.close
     (tie.spec
-    judge-play-requires
-    enum-known-r
+    (λ c κs. search needs)
+    (λ c. search needs)
     refusal-code-requires
-    enum-known-j
-    put-judged-requires
+    (λ c. search needs)
+    (λ c κs. search needs)
     returns
-    same-length
+    (λ c. search needs)
     returns-2)

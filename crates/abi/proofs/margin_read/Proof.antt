@@ -25,20 +25,11 @@ numbers-of c = now (c .before .before .before .before .before .before .before .b
 said : (c : tie.After-read) (r : Reading) → c .read .result ≡ r → answer (readText (text-of c)) ≡ r
 said c r e = sym (c .read .ensures .0) ∙ e
 
-read-requires : tie.Need-read-requires
-read-requires c κs = search needs
-
-enum-known-r : tie.Need-enum-known-r
-enum-known-r c = search needs
-
 refusal-code-requires : tie.Need-refusal-code-requires
 refusal-code-requires c κs =
     let R = c .before .before .before .before .before .before .before .before .before .before .before in
     let r = c .before .r .given in
     refused-line (text-of R) (r .0 .0) (answer-refused (readText (text-of R)) (r .0 .0) (said R (Refused (r .0 .0)) (r .1)))
-
-enum-known-t : tie.Need-enum-known-t
-enum-known-t c = search needs
 
 put-table-requires : tie.Need-put-table-requires
 put-table-requires c κs =
@@ -46,39 +37,12 @@ put-table-requires c κs =
     let t = c .before .before .t .given in
     small (text-of R) (t .0 .0) (said R (Accepted (t .0 .0)) (t .1))
 
-same-length : tie.Need-same-length
-same-length c = search needs
-
-same-length-2 : tie.Need-same-length-2
-same-length-2 c = search needs
-
-same-length-3 : tie.Need-same-length-3
-same-length-3 c = search needs
-
-same-length-4 : tie.Need-same-length-4
-same-length-4 c = search needs
-
 returns : tie.Need-returns
 returns c =
     let r = c .before .before .r .given in
     let R = c .before .before .before .before .before .before .before .before .before .before .before .before in
     let e = said R (Refused (r .0 .0)) (r .1) in
     (c .refusal-code .ensures ∙ sym (ap codeOf e), (sym (ap (λ (x : Reading). put 0 (numbersOf x) (numbers-of R)) e), R .read .ensures .1))
-
-same-length-5 : tie.Need-same-length-5
-same-length-5 c = search needs
-
-same-length-6 : tie.Need-same-length-6
-same-length-6 c = search needs
-
-same-length-7 : tie.Need-same-length-7
-same-length-7 c = search needs
-
-same-length-8 : tie.Need-same-length-8
-same-length-8 c = search needs
-
-same-length-9 : tie.Need-same-length-9
-same-length-9 c = search needs
 
 returns-2 : tie.Need-returns-2
 returns-2 c =
@@ -92,19 +56,19 @@ pub margin-read-spec : {M : Type 1} → statement M
 margin-read-spec =
     tie.close
     (tie.spec
-    read-requires
-    enum-known-r
+    (λ c κs. search needs)
+    (λ c. search needs)
     refusal-code-requires
-    enum-known-t
+    (λ c. search needs)
     put-table-requires
-    same-length
-    same-length-2
-    same-length-3
-    same-length-4
+    (λ c. search needs)
+    (λ c. search needs)
+    (λ c. search needs)
+    (λ c. search needs)
     returns
-    same-length-5
-    same-length-6
-    same-length-7
-    same-length-8
-    same-length-9
+    (λ c. search needs)
+    (λ c. search needs)
+    (λ c. search needs)
+    (λ c. search needs)
+    (λ c. search needs)
     returns-2)

@@ -46,20 +46,11 @@ said E x e = sym (ap (λ (m : ℤ). searchCall (readText (text-of E)) m (length 
 listed : (E : tie.After-search-table) → E .search-table .last .1 .1 .0 ≡ laid (searchReads (readText (text-of E)) (margin-of E) (length (list-of E))) (list-of E)
 listed E = E .search-table .ensures .1 ∙ ap (λ (m : ℤ). laid (searchReads (readText (text-of E)) m (length (list-of E))) (list-of E)) (same-margin E)
 
-search-table-requires : tie.Need-search-table-requires
-search-table-requires c κs = search needs
-
-enum-known-r : tie.Need-enum-known-r
-enum-known-r c = search needs
-
 refusal-code-requires : tie.Need-refusal-code-requires
 refusal-code-requires c κs =
     let E = c .before .before .before .before .before in
     let r = c .before .r .given in
     search-line (text-of E) (margin-of E) (length (list-of E)) (r .0 .0) (said E (Refused (r .0 .0)) (r .1))
-
-enum-known-b : tie.Need-enum-known-b
-enum-known-b c = search needs
 
 put-bounds-requires : tie.Need-put-bounds-requires
 put-bounds-requires c κs =
@@ -67,21 +58,12 @@ put-bounds-requires c κs =
     let b = c .before .before .b .given in
     bounds-small (b .0 .0) (search-sizes (text-of E) (margin-of E) (length (list-of E)) (b .0 .0) (said E (Found (b .0 .0)) (b .1)))
 
-same-length : tie.Need-same-length
-same-length c = search needs
-
 returns : tie.Need-returns
 returns c =
     let E = c .before .before .before .before .before .before in
     let r = c .before .before .r .given in
     let e = said E (Refused (r .0 .0)) (r .1) in
     (c .refusal-code .ensures ∙ sym (ap searchCode e), (sym (ap (λ (x : Bounded). put 0 (searchNumbers x) (numbers-of E)) e), listed E))
-
-same-length-2 : tie.Need-same-length-2
-same-length-2 c = search needs
-
-same-length-3 : tie.Need-same-length-3
-same-length-3 c = search needs
 
 returns-2 : tie.Need-returns-2
 returns-2 c =
@@ -95,13 +77,13 @@ pub margin-search-spec : {M : Type 1} → statement M
 margin-search-spec =
     tie.close
     (tie.spec
-    search-table-requires
-    enum-known-r
+    (λ c κs. search needs)
+    (λ c. search needs)
     refusal-code-requires
-    enum-known-b
+    (λ c. search needs)
     put-bounds-requires
-    same-length
+    (λ c. search needs)
     returns
-    same-length-2
-    same-length-3
+    (λ c. search needs)
+    (λ c. search needs)
     returns-2)

@@ -24,32 +24,17 @@ buffer-of E = now (E .before .before .before .before .args .buffer)
 said : (E : tie.After-turn-table) (x : Turned) → E .turn-table .result ≡ x → turnCall (readText (text-of E)) (length (buffer-of E)) ≡ x
 said E x e = sym (E .turn-table .ensures .0) ∙ e
 
-turn-table-requires : tie.Need-turn-table-requires
-turn-table-requires c κs = search needs
-
-enum-known-r : tie.Need-enum-known-r
-enum-known-r c = search needs
-
 refusal-code-requires : tie.Need-refusal-code-requires
 refusal-code-requires c κs =
     let E = c .before .before .before .before .before in
     let r = c .before .r .given in
     turn-line (text-of E) (length (buffer-of E)) (r .0 .0) (said E (Refused (r .0 .0)) (r .1))
 
-enum-told : tie.Need-enum-told
-enum-told c = search needs
-
-same-length : tie.Need-same-length
-same-length c = search needs
-
 returns : tie.Need-returns
 returns c =
     let E = c .before .before .before .before .before .before in
     let r = c .before .before .r .given in
     (c .refusal-code .ensures ∙ sym (ap turnedCode (said E (Refused (r .0 .0)) (r .1))), E .turn-table .ensures .1)
-
-same-length-2 : tie.Need-same-length-2
-same-length-2 c = search needs
 
 returns-2 : tie.Need-returns-2
 returns-2 c =
@@ -61,11 +46,11 @@ pub margin-turn-spec : {M : Type 1} → statement M
 margin-turn-spec =
     tie.close
     (tie.spec
-    turn-table-requires
-    enum-known-r
+    (λ c κs. search needs)
+    (λ c. search needs)
     refusal-code-requires
-    enum-told
-    same-length
+    (λ c. search needs)
+    (λ c. search needs)
     returns
-    same-length-2
+    (λ c. search needs)
     returns-2)

@@ -28,20 +28,11 @@ numbers-of E = now (E .before .before .args .numbers)
 said : (E : tie.After-exact-worth) (x : Exact) → E .exact-worth .result ≡ x → exactCall (readText (text-of E)) ≡ x
 said E x e = sym (E .exact-worth .ensures) ∙ e
 
-exact-worth-requires : tie.Need-exact-worth-requires
-exact-worth-requires c κs = search needs
-
-enum-known-r : tie.Need-enum-known-r
-enum-known-r c = search needs
-
 refusal-code-requires : tie.Need-refusal-code-requires
 refusal-code-requires c κs =
     let E = c .before .before .before in
     let r = c .before .r .given in
     refused-line (text-of E) (r .0 .0) (exact-refused (readText (text-of E)) (r .0 .0) (said E (Refused (r .0 .0)) (r .1)))
-
-enum-known-z : tie.Need-enum-known-z
-enum-known-z c = search needs
 
 put-worth-requires : tie.Need-put-worth-requires
 put-worth-requires c κs =
@@ -55,9 +46,6 @@ returns c =
     let r = c .before .before .r .given in
     let e = said E (Refused (r .0 .0)) (r .1) in
     (c .refusal-code .ensures ∙ sym (ap worthCode e), sym (ap (λ (x : Exact). put 0 (worthNumbers x) (numbers-of E)) e))
-
-same-length : tie.Need-same-length
-same-length c = search needs
 
 returns-2 : tie.Need-returns-2
 returns-2 c =
@@ -76,11 +64,11 @@ pub margin-worth-spec : {M : Type 1} → statement M
 margin-worth-spec =
     tie.close
     (tie.spec
-    exact-worth-requires
-    enum-known-r
+    (λ c κs. search needs)
+    (λ c. search needs)
     refusal-code-requires
-    enum-known-z
+    (λ c. search needs)
     put-worth-requires
     returns
-    same-length
+    (λ c. search needs)
     returns-2)

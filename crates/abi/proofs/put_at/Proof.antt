@@ -6,20 +6,8 @@ use lib.Seq.{set-out}
 use Rattle.abi.proofs.put_at.Statement.{statement}
 use Rattle.abi.proofs.put_at.Tie as tie
 
-mul-z : tie.Need-mul-z
-mul-z c = search needs
-
-slice-set-from-z : tie.Need-slice-set-from-z
-slice-set-from-z c = search needs
-
-same-length : tie.Need-same-length
-same-length c = search needs
-
-returns : tie.Need-returns
-returns c = search needs
-
 returns-2 : tie.Need-returns-2
 returns-2 c = sym (set-out (now (c .before .args .numbers)) (c .before .args .i) (c .before .args .z) (c .if1 .left))
 
 pub put-at-spec : {M : Type 1} → statement M
-put-at-spec = tie.close (tie.spec mul-z slice-set-from-z same-length returns returns-2)
+put-at-spec = tie.close (tie.spec (λ c. search needs) (λ c. search needs) (λ c. search needs) (λ c. search needs) returns-2)

@@ -9,24 +9,6 @@ use Rattle.abi.specs.Numbers.{judgeCode, judgedNumbers, put}
 use Rattle.abi.proofs.put_judged.Statement.{statement}
 use Rattle.abi.proofs.put_judged.Tie as tie
 
-enum-told : tie.Need-enum-told
-enum-told c = search needs
-
-put-natural-requires : tie.Need-put-natural-requires
-put-natural-requires c κs = search needs
-
-enum-known-j : tie.Need-enum-known-j
-enum-known-j c = search needs
-
-put-loss-requires : tie.Need-put-loss-requires
-put-loss-requires c κs = search needs
-
-enum-told-2 : tie.Need-enum-told-2
-enum-told-2 c = search needs
-
-same-length : tie.Need-same-length
-same-length c = search needs
-
 undecided : (c : tie.After-enum-told) → c .before .before .before .args .j ≡ NoDecision
 undecided c = search needs
 
@@ -37,9 +19,6 @@ returns c =
     let s = T .before .before .before in
     let e = sym (undecided T) in
     (ap (λ (x : Judged). judgeCode (Given x)) e, P .put-natural .ensures ∙ ap (λ (x : Judged). put 0 (judgedNumbers x) (now (s .args .numbers))) e)
-
-same-length-2 : tie.Need-same-length-2
-same-length-2 c = search needs
 
 returns-2 : tie.Need-returns-2
 returns-2 c =
@@ -62,13 +41,13 @@ pub put-judged-spec : {M : Type 1} → statement M
 put-judged-spec =
     tie.close
     (tie.spec
-    enum-told
-    put-natural-requires
-    enum-known-j
-    put-loss-requires
-    enum-told-2
-    same-length
+    (λ c. search needs)
+    (λ c κs. search needs)
+    (λ c. search needs)
+    (λ c κs. search needs)
+    (λ c. search needs)
+    (λ c. search needs)
     returns
-    same-length-2
+    (λ c. search needs)
     returns-2
     returns-3)

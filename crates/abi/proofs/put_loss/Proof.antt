@@ -6,18 +6,6 @@ use Rattle.abi.proofs.Answers.{stored}
 use Rattle.abi.proofs.put_loss.Statement.{statement}
 use Rattle.abi.proofs.put_loss.Tie as tie
 
-put-natural-requires : tie.Need-put-natural-requires
-put-natural-requires c κs = search needs
-
-put-natural-requires-2 : tie.Need-put-natural-requires-2
-put-natural-requires-2 c κs = search needs
-
-put-natural-requires-3 : tie.Need-put-natural-requires-3
-put-natural-requires-3 c κs = search needs
-
-same-length : tie.Need-same-length
-same-length c = search needs
-
 returns : tie.Need-returns
 returns c =
     let P3 = c .before .before in
@@ -30,8 +18,8 @@ pub put-loss-spec : {M : Type 1} → statement M
 put-loss-spec =
     tie.close
     (tie.spec
-    put-natural-requires
-    put-natural-requires-2
-    put-natural-requires-3
-    same-length
+    (λ c κs. search needs)
+    (λ c κs. search needs)
+    (λ c κs. search needs)
+    (λ c. search needs)
     returns)

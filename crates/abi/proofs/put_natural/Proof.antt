@@ -6,21 +6,9 @@ use lib.Seq.{set-out}
 use Rattle.abi.proofs.put_natural.Statement.{statement}
 use Rattle.abi.proofs.put_natural.Tie as tie
 
-mul-numbers : tie.Need-mul-numbers
-mul-numbers c = search needs
-
-slice-write-numbers : tie.Need-slice-write-numbers
-slice-write-numbers c = search needs
-
-same-length : tie.Need-same-length
-same-length c = search needs
-
-returns : tie.Need-returns
-returns c = search needs
-
 returns-2 : tie.Need-returns-2
 returns-2 c = sym (set-out (now (c .before .args .numbers)) (c .before .args .i) (c .before .args .n) (c .if1 .left))
 
 pub put-natural-spec : {M : Type 1} → statement M
 put-natural-spec =
-    tie.close (tie.spec mul-numbers slice-write-numbers same-length returns returns-2)
+    tie.close (tie.spec (λ c. search needs) (λ c. search needs) (λ c. search needs) (λ c. search needs) returns-2)

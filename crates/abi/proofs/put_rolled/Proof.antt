@@ -11,19 +11,13 @@ use Rattle.abi.specs.Numbers.{rollCode, rollNumbers, put, SmallRolled}
 use Rattle.abi.proofs.put_rolled.Statement.{statement}
 use Rattle.abi.proofs.put_rolled.Tie as tie
 
-enum-known-r : tie.Need-enum-known-r
-enum-known-r c = search needs
-
 refusal-code-requires : tie.Need-refusal-code-requires
 refusal-code-requires c κs =
     let E = c .before in
     subst SmallRolled (E .r .given .1) (E .before .before .pre)
 
-enum-known-r-2 : tie.Need-enum-known-r-2
-enum-known-r-2 c = search needs
-
-put-count-requires : tie.Need-put-count-requires
-put-count-requires c κs =
+put-worth-requires : tie.Need-put-worth-requires
+put-worth-requires c κs =
     let E = c .before .before in
     subst SmallRolled (E .r2 .given .1) (E .before .before .pre)
 
@@ -34,9 +28,6 @@ returns c =
     let e = sym (E .r .given .1) in
     (c .refusal-code .ensures ∙ ap rollCode e, ap (λ (x : Rolled). put 0 (rollNumbers x) (now (s .args .numbers))) e)
 
-same-length : tie.Need-same-length
-same-length c = search needs
-
 returns-2 : tie.Need-returns-2
 returns-2 c =
     let P = c .before in
@@ -46,7 +37,7 @@ returns-2 c =
     let e = sym (z .1) in
     let back : toZ w64 (ofZ w64 (z .0 .0)) ≡ z .0 .0 = search needs in (
       ap rollCode e,
-      P .put-count .ensures
+      P .put-worth .ensures
           ∙ ap (λ (y : ℤ). put 0 (rollNumbers (Done y (z .0 .1 .0))) (now (s .args .numbers))) back
           ∙ ap (λ (x : Rolled). put 0 (rollNumbers x) (now (s .args .numbers))) e,
     )
@@ -55,10 +46,10 @@ pub put-rolled-spec : {M : Type 1} → statement M
 put-rolled-spec =
     tie.close
     (tie.spec
-    enum-known-r
+    (λ c. search needs)
     refusal-code-requires
-    enum-known-r-2
-    put-count-requires
+    (λ c. search needs)
+    put-worth-requires
     returns
-    same-length
+    (λ c. search needs)
     returns-2)

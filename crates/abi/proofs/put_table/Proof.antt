@@ -14,47 +14,11 @@ lowest-back s = search needs
 highest-back : (s : tie.Start) → toZ w64 (ofZ w64 (s .args .t .highest)) ≡ s .args .t .highest
 highest-back s = search needs
 
-signed-requires : tie.Need-signed-requires
-signed-requires c κs = search needs
-
-put-at-requires : tie.Need-put-at-requires
-put-at-requires c κs = search needs
-
-signed-requires-2 : tie.Need-signed-requires-2
-signed-requires-2 c κs = search needs
-
-put-at-requires-2 : tie.Need-put-at-requires-2
-put-at-requires-2 c κs = search needs
-
-put-at-requires-3 : tie.Need-put-at-requires-3
-put-at-requires-3 c κs = search needs
-
-put-at-requires-4 : tie.Need-put-at-requires-4
-put-at-requires-4 c κs = search needs
-
-signed-requires-3 : tie.Need-signed-requires-3
-signed-requires-3 c κs = search needs
-
-put-at-requires-5 : tie.Need-put-at-requires-5
-put-at-requires-5 c κs = search needs
-
-signed-requires-4 : tie.Need-signed-requires-4
-signed-requires-4 c κs = search needs
-
-put-at-requires-6 : tie.Need-put-at-requires-6
-put-at-requires-6 c κs = search needs
-
 signed-requires-5 : tie.Need-signed-requires-5
 signed-requires-5 c κs =
     let P6 = c .before .before in
     let P3 = P6 .before .before .before .before .before .before .before .before .before .before .before .before in
     P3 .before .before .before .before .before .before .before .before .before .before .before .pre .leaves
-
-put-at-requires-7 : tie.Need-put-at-requires-7
-put-at-requires-7 c κs = search needs
-
-same-length : tie.Need-same-length
-same-length c = search needs
 
 returns : tie.Need-returns
 returns c =
@@ -85,17 +49,17 @@ pub put-table-spec : {M : Type 1} → statement M
 put-table-spec =
     tie.close
     (tie.spec
-    signed-requires
-    put-at-requires
-    signed-requires-2
-    put-at-requires-2
-    put-at-requires-3
-    put-at-requires-4
-    signed-requires-3
-    put-at-requires-5
-    signed-requires-4
-    put-at-requires-6
+    (λ c κs. search needs)
+    (λ c κs. search needs)
+    (λ c κs. search needs)
+    (λ c κs. search needs)
+    (λ c κs. search needs)
+    (λ c κs. search needs)
+    (λ c κs. search needs)
+    (λ c κs. search needs)
+    (λ c κs. search needs)
+    (λ c κs. search needs)
     signed-requires-5
-    put-at-requires-7
-    same-length
+    (λ c κs. search needs)
+    (λ c. search needs)
     returns)

@@ -11,18 +11,6 @@ use Rattle.abi.proofs.put_worth.Tie as tie
 z-back : (s : tie.Start) → toZ w64 (ofZ w64 (s .args .z)) ≡ s .args .z
 z-back s = search needs
 
-put-at-requires : tie.Need-put-at-requires
-put-at-requires c κs = search needs
-
-signed-requires : tie.Need-signed-requires
-signed-requires c κs = search needs
-
-put-at-requires-2 : tie.Need-put-at-requires-2
-put-at-requires-2 c κs = search needs
-
-same-length : tie.Need-same-length
-same-length c = search needs
-
 returns : tie.Need-returns
 returns c =
     let P2 = c .before in
@@ -33,4 +21,4 @@ returns c =
 
 pub put-worth-spec : {M : Type 1} → statement M
 put-worth-spec =
-    tie.close (tie.spec put-at-requires signed-requires put-at-requires-2 same-length returns)
+    tie.close (tie.spec (λ c κs. search needs) (λ c κs. search needs) (λ c κs. search needs) (λ c. search needs) returns)

@@ -6,11 +6,8 @@ use mir.ValLaws.{toZ-ofZ}
 use Rattle.abi.proofs.signed.Statement.{statement}
 use Rattle.abi.proofs.signed.Tie as tie
 
-cast-result : tie.Need-cast-result
-cast-result c = search needs
-
 returns : tie.Need-returns
 returns c = toZ-ofZ w64 (pos (c .args .n)) (sfits-of (c .pre))
 
 pub signed-spec : {M : Type 1} → statement M
-signed-spec = tie.close (tie.spec cast-result returns)
+signed-spec = tie.close (tie.spec (λ c. search needs) returns)

@@ -1,5 +1,5 @@
--- Demand 3 at the public calls, stated over texts. Document 01, 'The search', third paragraph, says what its words mean; what is quoted over the
--- sentences is the demand itself. proofs/Demands.antt has the theorems. Assumes nothing: these are definitions.
+-- The customer's demands at the public calls, stated over texts. Document 01, 'The search', third paragraph, says what the words of demand 3 mean; what
+-- is quoted over the sentences is the demand itself. proofs/Demands.antt has the theorems. Assumes nothing: these are definitions.
 use Prim.Native.Nat.{ℕ, _≤_}
 use mathlib.Core.Path.{_≡_}
 use mathlib.Core.Bool.{true, false}
@@ -8,9 +8,11 @@ use mathlib.Core.Option.{Option, none, some}
 use lib.ListN.{length}
 use lib.IntN.{ℤ, negℤ, _+ℤ_}
 use lib.Signed.{leZ}
+use Rattle.line.specs.declared.Head.{Head}
 use Rattle.line.specs.declared.Line.{Line}
 use Rattle.line.specs.declared.Refusal.{Refusal}
 use Rattle.line.specs.Refusal.{Verdict, refused, fine}
+use Rattle.line.specs.Line.{Within}
 use Rattle.table.specs.Tree.{leaves}
 use Rattle.table.specs.Table.{Table, tree, readText}
 use Rattle.table.specs.Slices.{laid}
@@ -59,6 +61,13 @@ withUtility z l = record { node = l .node; kind = l .kind; parent = l .parent; w
 pub data SameLines (read : List ℕ) : List Line → List Line → Type 0 where
   same-none : SameLines read [] []
   same-more : {l : Line} {z : ℤ} {ls ms : List Line} → (List·Memᴰ (l .node) read → l .utility ≡ z) → SameLines read ls ms → SameLines read (l ∷ ls) (withUtility z l ∷ ms)
+
+-- "unread leaves may be given any other utilities within the ends": each line is as it was, or is a leaf whose number is not in the list, with a
+-- utility within the ends of the head h
+pub data Given (h : Head) (read : List ℕ) : List Line → List Line → Type 0 where
+  given-none : Given h read [] []
+  given-kept : {l : Line} {ls ms : List Line} → Given h read ls ms → Given h read (l ∷ ls) (l ∷ ms)
+  given-new : {l : Line} {z : ℤ} {ls ms : List Line} → l .kind ≡ 0 → (List·Memᴰ (l .node) read → ⊥) → Within h z → Given h read ls ms → Given h read (l ∷ ls) (withUtility z l ∷ ms)
 
 -- two accepted texts that differ in utilities of unread leaves alone
 pub record Differ (read : List ℕ) (s u : List ℕ) : Type 0 where
@@ -100,6 +109,13 @@ Sentence2 =
     → (searchCall (readText u) m other ≡ Found b)
     × (searchReads (readText u) m other ≡ searchReads (readText s) m room)
     × Promised u m b
+
+-- "may be given": whatever utilities unread leaves are given within the ends, there is an accepted text of the lines with them and the same header
+abbrev pub GivenText : Type 0
+GivenText =
+    (s : List ℕ) (t : Table) → readText s ≡ fine t
+    → (read : List ℕ) (lines : List Line) → Given (t .head) read (t .lines) lines
+    → (u : List ℕ) × (D : Differ read s u) × (D .new .lines ≡ lines)
 
 -- "the turned table reads the same leaves in the same sequence, names the same play or none, and its bounds come back negated and exchanged": u is
 -- the text that turning writes, for some buffer

@@ -1,4 +1,4 @@
--- Demand 3 at the public calls. Assumes nothing.
+-- The customer's demands at the public calls. Assumes nothing.
 use Prim.Native.Nat.{ℕ, zero, suc, _≤_}
 use mathlib.Core.Path.{_≡_, refl, sym, ap, ap₂, subst, _∙_}
 use mathlib.Core.Bool.{Bool, true, false, _||_, cond}
@@ -24,6 +24,7 @@ use Rattle.worth.specs.Worth.{worthOf}
 use Rattle.judge.specs.Judge.{playOf}
 use Rattle.judge.specs.declared.Play.{Play}
 use Rattle.judge.specs.declared.Play.the-variants.{Child, NoPlay}
+use Rattle.turn.specs.Text.{tableText}
 use Rattle.turn.specs.Turn.{turnTable, turnedText}
 use Rattle.turn.proofs.Tree.{tree-turned, turn-twice}
 use Rattle.turn.proofs.Accepted.{turned-accepted, turned-length}
@@ -39,16 +40,17 @@ use Rattle.rollout.specs.Leaves.{Distinct}
 use Rattle.rollout.specs.Rollout.{Rolled}
 use Rattle.rollout.specs.Whole.{hasChance, rolled, rolledWorth}
 use Rattle.rollout.proofs.Demand.{ends-on-worth, no-leaf-twice}
 use Rattle.engine.specs.declared.Bounds.{Bounds}
 use Rattle.engine.specs.declared.Bounded.the-variants.{Found, Refused}
 use Rattle.engine.specs.declared.Rolled
 use Rattle.engine.specs.declared.Rolled.the-variants.{Done}
 use Rattle.engine.specs.declared.Turned
 use Rattle.engine.specs.declared.Exact.the-variants.{Grains}
 use Rattle.engine.specs.Calls.{exactCall, badMargin, Sought, sought, boundsOf, searchAnswer, searchList, searchCall, searchReads, rolls, rollAnswer, rollList, rollRecords, rollCall, recorded, turnOf, turnAnswer, turnWritten}
-use Rattle.engine.specs.Demands.{childWorth, Promised, LongEnough, withUtility, SameLines, same-none, same-more, Differ, Mirrors, Answers, Sentence1, Sentence2, Sentence3, TurnAnswers, TurningTwice, RolloutsEnd, RollAnswers, SearchUntouched, TurnUntouched, RollUntouched}
+use Rattle.demands.specs.Demands.{childWorth, Promised, LongEnough, SameLines, Differ, Mirrors, Answers, Sentence1, Sentence2, GivenText, Sentence3, TurnAnswers, TurningTwice, RolloutsEnd, RollAnswers, SearchUntouched, TurnUntouched, RollUntouched}
 use Rattle.engine.proofs.Answered.{answered, answers, reads}
 use Rattle.engine.proofs.Turning.{turn-fine}
+use Rattle.demands.proofs.Utilities.{tree-alike, given-same, given-accepted}
 
 -- ---- the bounds and the play
 
@@ -97,49 +99,6 @@ sentence1 s m room b e =
 
 -- ---- other utilities
 
-module _ (read : List ℕ) where
-  both : {k l m n : List Line} (c : Bool) → SameLines read k l → SameLines read m n → SameLines read (cond c k m) (cond c l n)
-  both true s u = s
-  both false s u = u
-
-  run-same : (n : ℕ) {ls ms : List Line} → SameLines read ls ms → SameLines read (run n ls) (run n ms)
-  unfolding run
-  run-same n same-none = same-none
-  run-same n (same-more {l} q s) = both (leb n (l .parent)) (same-more q (run-same n s)) same-none
-
-  after-same : (n : ℕ) {ls ms : List Line} → SameLines read ls ms → SameLines read (after n ls) (after n ms)
-  unfolding after
-  after-same n same-none = same-none
-  after-same n (same-more {l} q s) = both (leb n (l .parent)) (after-same n s) (same-more q s)
-
-  abbrev value : Line → ℤ
-  value l = l .utility
-
-  abbrev Read : ℕ → Type 0
-  Read n = List·Memᴰ n read
-
-  grown : (l : Line) (z : ℤ) {u u2 r r2 : Forest ℤ} → (Read (l .node) → l .utility ≡ z) → Alike Read u u2 → Alike Read r r2
-      → Alike Read (grow (l .utility) l u r) (grow z (withUtility z l) u2 r2)
-  grown l z {u} {u2} {r} {r2} q a b = go (eqb (l .kind) 0)
-    where
-      go : (c : Bool) → Alike Read (cond c (leaf (l .node) (l .weight) (l .utility) r) (inner (l .node) (l .weight) (kindOf (l .kind)) u r)) (cond c (leaf (l .node) (l .weight) z r2) (inner (l .node) (l .weight) (kindOf (l .kind)) u2 r2))
-      go true = alike-leaf q b
-      go false = alike-inner a b
-
-  forest-alike : (k : ℕ) {ls ms : List Line} → SameLines read ls ms → Alike Read (forest value k ls) (forest value k ms)
-  unfolding forest
-  forest-alike zero s = alike-end
-  forest-alike (suc k) same-none = alike-end
-  forest-alike (suc k) (same-more {l} {z} q s) =
-      grown l z q (forest-alike k (run-same (l .node) s)) (forest-alike k (after-same (l .node) s))
-
-  same-long : {ls ms : List Line} → SameLines read ls ms → length ls ≡ length ms
-  same-long same-none = refl
-  same-long (same-more q s) = ap suc (same-long s)
-
-  tree-alike : (t u : Table) → SameLines read (t .lines) (u .lines) → Alike Read (tree t) (tree u)
-  tree-alike t u s = subst (λ (k : ℕ). Alike Read (tree t) (forest value k (u .lines))) (same-long s) (forest-alike (length (t .lines)) s)
-
 same-sought : (t u : Table) (ε : ℕ) → grain u ≡ grain t → searched u ε ≡ searched t ε → boundsOf (record { table = u; seen = searched u ε }) ≡ boundsOf (record { table = t; seen = searched t ε })
 same-sought t u ε g e =
     ap₂ (λ (x : Seen ℤ) (y : ℕ). record { low = x .low; high = x .high; play = playOf (nodeOf (x .play)); leaves = length (x .read); grain = y }) e g
@@ -164,6 +123,14 @@ sentence2 s m room b e u D other long =
       answers u m other v (D .is-new) (A .margin) (long v (D .is-new)) ∙ ap Found again,
       reads u m other v (D .is-new) (A .margin) (long v (D .is-new)) ∙ ap (λ (x : Seen ℤ). x .read) found ∙ sym listed,
       subst (Promised u m) again (promised-of u v m (D .is-new) (A .margin)),
+    )
+
+pub given-text : GivenText
+given-text s t p read lines g =
+    let u : Table = record { head = t .head; lines = lines } in (
+      tableText u,
+      record { old = t; new = u; is-old = p; is-new = given-accepted s t p read lines g; head = refl; lines = given-same (t .head) read g },
+      refl,
     )
 
 -- ---- the turned table

@@ -10,7 +10,7 @@ use Rattle.judge.specs.Judge.{levels}
 use Rattle.search.specs.Search.{begin, finish, cut, point, lower, upper, beats, take, stop, scan, search, searchRoot}
 use Rattle.search.specs.Whole.{ceilZ, downZ, upZ, gainZ, lossZ, inGrains}
 use Rattle.rollout.specs.Rollout.{fresh, lows, highs, candidates, over, walk, roll}
-use Rattle.engine.specs.Rows.{rows, AllTell}
+use Rattle.demands.specs.Rows.{rows, AllTell}
 
 pub all-rows : AllTell rows
 unfolding strip digits wholeField signed unless unlessAt climb run afterRun forest weigh nodesWhere leaves nodeLines complete readText greatest maxZ minZ floorZ largest smallest weighted value shares levels begin finish cut point lower upper beats take stop scan search searchRoot ceilZ downZ upZ gainZ lossZ inGrains fresh lows highs candidates over walk roll

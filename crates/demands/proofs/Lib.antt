@@ -1,0 +1,3 @@
+pub mod Utilities
+pub mod Demands
+pub mod Rows
