@@ -26,7 +26,7 @@ use Rattle.line.proofs.Fine.{nor9, header-ranged, unlessAt-fine}
 use Rattle.table.proofs.Grown.{fine-refused, next-fine}
 use Rattle.table.proofs.Heights.{above, height-back, height-span, map-leaves, map-filled, map-balanced, map-rooted, map-proper, heights-map}
 use Rattle.table.proofs.Powers.{power-small}
-use Rattle.table.proofs.Complete.{ends-long, spans}
+use Rattle.table.proofs.Complete.{stops-long, spans}
 use Rattle.table.proofs.Known.{read-length, read-few, read-flat, read-rooted, read-proper, read-leaves, read-spans}
 
 -- ---- nodes without a child, and sums
@@ -208,7 +208,7 @@ module _ (s : List ℕ) (t : Table) (h : readText s ≡ fine t) where
       subst (λ (m : ℕ). Spans S 0 m (heightTree t)) (sym (read-length t (count s) (drop 25 s) (C .lines)))
       (spans (t .head) (count s) (drop 25 s) ls (C .lines) some k st w g (fitted (kindsOf t) k) (fitted (stopsOf t) st) (fitted (weightsOf t) w) (fitted (heightsOf t) g)
       (fitted-all (kindsOf t) k (omega (arith, length-map ls (λ (l : Line). l .kind), hk)))
-      (fitted-all (stopsOf t) st (omega (arith, ends-long ls, hs)))
+      (fitted-all (stopsOf t) st (omega (arith, stops-long ls, hs)))
       (fitted-all (weightsOf t) w (omega (arith, length-map ls (λ (l : Line). l .weight), hw)))
       (fitted-all (heightsOf t) g (omega (arith, length-map ls (heightOf (t .head .lowest)), hg))))
 

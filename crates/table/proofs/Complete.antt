@@ -21,8 +21,8 @@ use Rattle.line.specs.Refusal.{Verdict, refused, fine, unlessAt, next}
 use Rattle.table.specs.Tree.{Kind, Forest, end, leaf, inner, isEnd, isChance, run, weigh, nodesWhere, childless, unbalanced}
 use Rattle.line.specs.Line.{Step}
 use Rattle.table.specs.Table.{Table, nodeLines, linesOf, tree, complete, greatest, leafLines, answer}
-use Rattle.table.specs.Slices.{Slices, Spans, slicesOf, heightOf, heightTree, ends, laid, kindsOf, weightsOf, heightsOf, stopsOf}
-use Rattle.table.specs.Inside.{Gathered, reach, endsFrom, scanFrom, firstOr, bareAt, oddAt, Has, summaryOf, refuseAt, completeAt, Decoded}
+use Rattle.table.specs.Slices.{Slices, Spans, slicesOf, heightOf, heightTree, lineStops, laid, kindsOf, weightsOf, heightsOf, stopsOf}
+use Rattle.table.specs.Inside.{Gathered, reach, stopsFrom, scanFrom, firstOr, bareAt, oddAt, Has, summaryOf, refuseAt, completeAt, Decoded}
 use Rattle.table.proofs.Scan.{spans-le, scan-below, spans-where, bare-tests, odd-tests}
 use Rattle.table.proofs.Grown.{lines-counted, lines-first, next-fine}
 use Rattle.table.proofs.Heights.{mapForest, map-end, map-weigh, above, heights-map}
@@ -89,25 +89,25 @@ reach-run n (l ∷ ls) = go (reach-run n ls) (leb n (l .parent)) refl
 
 module _ (h : Head) where
   -- a line's number is its place
-  ends-are : (n i : ℕ) (P : List Step) (s : List ℕ) (ls : List Line) → nodeLines h n i P s ≡ fine ls → endsFrom i (map (λ (l : Line). l .parent) ls) ≡ ends ls
-  unfolding nodeLines endsFrom ends
-  ends-are zero i P s ls e =
+  stops-by-parents : (n i : ℕ) (P : List Step) (s : List ℕ) (ls : List Line) → nodeLines h n i P s ≡ fine ls → stopsFrom i (map (λ (l : Line). l .parent) ls) ≡ lineStops ls
+  unfolding nodeLines stopsFrom lineStops
+  stops-by-parents zero i P s ls e =
       let f : [] ≡ ls = cc in
       rw (← f) refl
-  ends-are (suc n) i P s ls e =
+  stops-by-parents (suc n) i P s ls e =
       let F = lines-first h n i P s ls e in
       let l = F .placed .line in
       let k : l .node ≡ i = F .read .node in
-      rw (F .lines, reach-run i (F .rest), ends-are n (suc i) (F .placed .steps) (drop 25 s) (F .rest) (F .more), k)
+      rw (F .lines, reach-run i (F .rest), stops-by-parents n (suc i) (F .placed .steps) (drop 25 s) (F .rest) (F .more), k)
 
 -- the slice of stops, from the slice of parents
 pub stops-are : (h : Head) (n : ℕ) (s : List ℕ) (ls : List Line) (u u′ st st′ : List ℕ) → nodeLines h n 0 [] s ≡ fine ls
-    → u′ ≡ laid (map (λ (l : Line). l .parent) ls) u → st′ ≡ laid (endsFrom 0 (take n u′)) st → st′ ≡ laid (ends ls) st
+    → u′ ≡ laid (map (λ (l : Line). l .parent) ls) u → st′ ≡ laid (stopsFrom 0 (take n u′)) st → st′ ≡ laid (lineStops ls) st
 stops-are h n s ls u u′ st st′ e p q =
     let ups : List ℕ = map (λ (l : Line). l .parent) ls in
     let m : length ups ≡ n = length-map ls (λ (l : Line). l .parent) ∙ lines-counted h n 0 [] s ls e .0 in
     let f : take n u′ ≡ ups = ap (take n) p ∙ rw (← m) (take-append-seam ups (drop (length ups) u)) in
-    q ∙ ap (λ (xs : List ℕ). laid xs st) (ap (endsFrom 0) f ∙ ends-are h n 0 [] s ls e)
+    q ∙ ap (λ (xs : List ℕ). laid xs st) (ap (stopsFrom 0) f ∙ stops-by-parents h n 0 [] s ls e)
 
 -- ---- the tree in the slices
 
@@ -131,10 +131,10 @@ module _ (S S′ : Slices) (N : ℕ)
 laid-at : (xs a b : List ℕ) (n i : ℕ) → b ≡ laid xs a → length xs ≡ n → i < n → getD b i 0 ≡ getD xs i 0
 laid-at xs a b n i e m l = ap (λ (y : List ℕ). getD y i 0) e ∙ List·getD-append xs (drop (length xs) a) 0 i (omega arith)
 
-pub ends-long : (ls : List Line) → length (ends ls) ≡ length ls
-unfolding ends
-ends-long [] = refl
-ends-long (l ∷ ls) = ap suc (ends-long ls)
+pub stops-long : (ls : List Line) → length (lineStops ls) ≡ length ls
+unfolding lineStops
+stops-long [] = refl
+stops-long (l ∷ ls) = ap suc (stops-long ls)
 
 where-map : {A B : Type 0} (g : A → B) (bad : Kind → Forest A → Bool) (bad′ : Kind → Forest B → Bool)
     → ((k : Kind) (f : Forest A) → bad′ k (mapForest g f) ≡ bad k f) → (f : Forest A) → nodesWhere bad′ (mapForest g f) ≡ nodesWhere bad f
@@ -179,7 +179,7 @@ module _ (h : Head) (n : ℕ) (s : List ℕ) (ls : List Line) (e : nodeLines h n
         spans-same (slicesOf t) S n
         (λ i l. (
           laid-at (kindsOf t) k k′ n i pk (length-map ls (λ (l : Line). l .kind) ∙ counted) l,
-          laid-at (stopsOf t) st st′ n i ps (ends-long ls ∙ counted) l,
+          laid-at (stopsOf t) st st′ n i ps (stops-long ls ∙ counted) l,
           laid-at (weightsOf t) w w′ n i pw (length-map ls (λ (l : Line). l .weight) ∙ counted) l,
           laid-at (heightsOf t) g g′ n i pg (length-map ls (heightOf (h .lowest)) ∙ counted) l,
         ))

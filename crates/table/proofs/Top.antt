@@ -22,7 +22,7 @@ use Rattle.table.specs.Table.{Table, badLength, count, linesOf, readText
 use Rattle.table.specs.Slices.{heightOf, kindsOf, stopsOf, weightsOf, heightsOf, laid, fitted, decoded}
 use Rattle.table.specs.Inside.{Decoded}
 use Rattle.line.proofs.Checks.{or-left, or-right}
-use Rattle.table.proofs.Complete.{ends-long}
+use Rattle.table.proofs.Complete.{stops-long}
 
 -- a good length is that of 1 to 1,024 node lines after the header
 pub good-length : (n : ℕ) → badLength n ≡ false → (50 ≤ n) × (0 < n / 25 - 1) × (n / 25 - 1 ≤ 1024) × (25 * (n / 25 - 1) + 25 ≡ n)
@@ -105,7 +105,7 @@ pub nodes-long : (v : Verdict Table) (t : Summary) (k s w g : List ℕ) (A : Acc
 nodes-long v t k s w g A =
     let ls = A .table .lines in
     let n : length ls ≡ t .nodes = sym (ap (λ (x : Summary). x .nodes) (A .numbers)) in
-    (length-map ls (λ (l : Line). l .kind) ∙ n, ends-long ls ∙ n, length-map ls (λ (l : Line). l .weight) ∙ n, length-map ls (heightOf (A .table .head .lowest)) ∙ n)
+    (length-map ls (λ (l : Line). l .kind) ∙ n, stops-long ls ∙ n, length-map ls (λ (l : Line). l .weight) ∙ n, length-map ls (heightOf (A .table .head .lowest)) ∙ n)
 
 -- a slice to which those entries were copied
 pub kept-front : (f : Table → List ℕ) (v : Verdict Table) (T : Table) (n : ℕ) (b a a′ : List ℕ) → v ≡ fine T → length (f T) ≡ n → Front (f T) b → a′ ≡ fitted (take n b) a

@@ -26,12 +26,12 @@ abbrev pub heightsOf : Table → List ℕ
 heightsOf t = map (heightOf (t .head .lowest)) (t .lines)
 
 -- one past the last line of each line's run
-unfoldable pub ends : List Line → List ℕ
-ends [] = []
-ends (l ∷ ls) = (l .node + 1 + length (run (l .node) ls)) ∷ ends ls
+unfoldable pub lineStops : List Line → List ℕ
+lineStops [] = []
+lineStops (l ∷ ls) = (l .node + 1 + length (run (l .node) ls)) ∷ lineStops ls
 
 abbrev pub stopsOf : Table → List ℕ
-stopsOf t = ends (t .lines)
+stopsOf t = lineStops (t .lines)
 
 -- a slice a with the numbers xs at its front, and with as many of them as it has room for
 abbrev pub laid : List ℕ → List ℕ → List ℕ

@@ -26,8 +26,9 @@ use Rattle.line.proofs.Checks.{or-left, or-right}
 use Rattle.line.proofs.Fine.{unless-fine, unlessAt-fine, nor9, inside-mag}
 use Rattle.table.specs.Tree.{Forest, end, leaf, inner, childless, unbalanced}
 use Rattle.table.specs.Table.{Table, badLength, prefix, nodeLines, tree, complete, count, readText}
-use Rattle.table.specs.Slices.{heightOf, ends, stopsOf, fitted, Slices, Spans, heightTree, slicesOf}
+use Rattle.table.specs.Slices.{heightOf, stopsOf, fitted, Slices, Spans, heightTree, slicesOf}
 use Rattle.table.proofs.Accepted.{accepted-ranged, accepted-spans}
+use Rattle.table.proofs.Complete.{stops-long}
 use Rattle.table.proofs.Grown.{fine-refused, next-fine}
 use Rattle.table.proofs.Spans.{spans-le}
 use Rattle.worth.specs.Inside.{kindIn, weightIn, heightIn, Lays}
@@ -246,7 +247,7 @@ accepted-lays s t h = spans-lay lo (slicesOf t) 0 (length (t .lines)) (drop 25 s
         subst (λ (n : ℕ). SaysAt lo (slicesOf t) n (take 25 (drop (25 * m) (drop 25 s)))) z
         (lines-say (t .head) lo (accepted-ranged s t h) (count s) 0 [] (drop 25 s) (t .lines) (lines-read s t h) m (omega arith))
 
--- ---- a lent slice that begins with the same ends
+-- ---- a lent slice that begins with the same stops
 
 lays-other : (S U : List ℕ) (lo : ℤ) (c e : ℕ) (s : List ℕ) (f : Forest ℕ) → ((m : ℕ) → m < e → getD U m 0 ≡ getD S m 0) → Lays S lo c e s f → Lays U lo c e s f
 unfolding Lays
@@ -278,17 +279,12 @@ getD-front [] ys m h = absurd (omega arith)
 getD-front (x ∷ xs) ys zero h = refl
 getD-front (x ∷ xs) ys (suc m) h = getD-front xs ys m (omega arith)
 
-pub ends-length : (ls : List Line) → length (ends ls) ≡ length ls
-unfolding ends
-ends-length [] = refl
-ends-length (l ∷ ls) = omega (arith, ends-length ls)
-
 -- the slice that `table::read` leaves, where it has room
 pub accepted-lent : (s : List ℕ) (t : Table) → readText s ≡ fine t → (a : List ℕ) → length (t .lines) ≤ length a
     → Lays (fitted (stopsOf t) a) (t .head .lowest) 0 (length (t .lines)) (drop 25 s) (heightTree t)
 accepted-lent s t h a room =
     lays-other (stopsOf t) (fitted (stopsOf t) a) (t .head .lowest) 0 (length (t .lines)) (drop 25 s) (heightTree t)
     (λ m l.
-    rw (take-all (length a) (stopsOf t) (omega (arith, ends-length (t .lines))))
-    (getD-front (stopsOf t) (drop (length (stopsOf t)) a) m (omega (arith, ends-length (t .lines)))))
+    rw (take-all (length a) (stopsOf t) (omega (arith, stops-long (t .lines))))
+    (getD-front (stopsOf t) (drop (length (stopsOf t)) a) m (omega (arith, stops-long (t .lines)))))
     (accepted-lays s t h)
