@@ -203,9 +203,6 @@ lateChecks h i k e P =
     ∷ record { holds = wideEntry h e; gives = OutOfRange (i + 1) }
     ∷ []
 
-abbrev pub placingOf : Head → ℕ → ℕ → Entry → List Step → Verdict Placed
-placingOf h i k e P = unless (lateChecks h i k e P) (placed i k e (stepped i k P))
-
 -- node i below the steps P of the line before it, with the bytes of columns 5 and 25: 2, 4, 5, 6, then 10, 7, 3
 abbrev pub earlyChecks : ℕ → ℕ → Above → Entry → ℕ → ℕ → List Check
 earlyChecks i k a e fifth last =
