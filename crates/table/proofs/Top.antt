@@ -11,7 +11,6 @@ use lib.Dec.{eqb, ltb}
 use Rattle.line.specs.declared.Head.{Head}
 use Rattle.line.specs.declared.Line.{Line}
 use Rattle.table.specs.declared.Summary.{Summary}
-use Rattle.line.specs.declared.HeadRead
 use Rattle.line.specs.declared.Refusal.{Refusal}
 use Rattle.line.specs.declared.Refusal.the-variants.{Length}
 use Rattle.table.specs.declared.Reading.{Reading}

@@ -1,7 +1,7 @@
 // A table's text: refused with the number and the line of document 01, or decoded into number slices.
 ghost use mathlib.Core.Path.{_≡_};
-ghost use mathlib.Core.List.{List, []};
-ghost use Prim.Native.Nat.{ℕ, _+_, _*_, _-_, _<_, _≤_, _^_, max};
+ghost use mathlib.Core.List.{[]};
+ghost use Prim.Native.Nat.{_+_, _*_, _-_, _<_, _≤_, _^_, max};
 ghost use lib.ListN.{length, set, drop, take};
 ghost use lib.Signed.{mag};
 ghost use Rattle.line.specs.Line.{Ranged};
