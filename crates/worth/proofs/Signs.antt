@@ -109,8 +109,8 @@ is-floor w (pos x) a b m n w-pos p l u =
     omega arith
 is-floor w (negsuc x) a b m n w-pos p l u =
     let d : m < n = lt-of-mul-lt-mul-left w (omega arith) in
-    let e : n ≡ m + suc (n - suc m) = omega arith in
-    let f : w * n ≡ w * (m + suc (n - suc m)) = ap (λ y. w * y) e in
-    let low : n - suc m ≤ x / w = le-div-iff-mul-le w-pos .1 (omega arith) in
-    let high : x / w < suc (n - suc m) = div-lt-iff-lt-mul w-pos .1 (omega arith) in
-    omega arith
+    let e : n ≡ m + (n - m) = omega arith in
+    let f : w * n ≡ w * (m + (n - m)) = ap (λ y. w * y) e in
+    let low : n - m ≤ (suc x + (w - 1)) / w = le-div-iff-mul-le w-pos .1 (omega arith) in
+    let high : (suc x + (w - 1)) / w < suc (n - m) = div-lt-iff-lt-mul w-pos .1 (omega arith) in
+    is-neg (pos ((suc x + (w - 1)) / w)) n m (omega arith)
