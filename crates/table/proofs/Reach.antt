@@ -44,11 +44,11 @@ reach-skip i j (x ∷ xs) h = go (reach-skip i j xs h) (leb j x) refl
     go ih false e = rw e (omega arith)
 
 module _ (U : List ℕ) (i j : ℕ) (here : stopIn U i ≡ j + reach i (drop j U)) (l : j < length U) where
-  -- the node j ends the run
+  -- node j is one past the run
   pub stop-here : getD U j 0 < i → j ≡ stopIn U i
   stop-here h = sym (here ∙ rw (drop-cons U j 0 l, reach-stop i (getD U j 0) (drop (suc j) U) h) (omega arith))
 
-  -- the node j is a child: on to the end of its run
+  -- node j is a child: on to one past its run
   pub stop-on : i ≤ getD U j 0 → i ≤ j → stopIn U i ≡ stopIn U j + reach i (drop (stopIn U j) U)
   stop-on h k =
       here

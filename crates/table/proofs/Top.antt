@@ -1,4 +1,4 @@
--- The first steps of the reading: the length and the header. Assumes nothing.
+-- The first steps of the reading, the length and the header, and the last: what is copied out. Assumes nothing.
 use Prim.Native.Nat.{ℕ, _+_, _-_, _*_, _/_, _%_, _≤_, _<_}
 use mathlib.Core.Path.{_≡_, refl, sym, ap, _∙_}
 use mathlib.Core.Bool.{true, false, not, _||_}

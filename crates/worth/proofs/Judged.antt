@@ -1,4 +1,4 @@
--- The text of an accepted table can be judged, and what `worth` gives for it is the worth of the table. Assumes nothing.
+-- The text of an accepted table can be judged, and what `worth_of` gives for it is the worth of the table. Assumes nothing.
 use Prim.Native.Nat.{ℕ, _*_, _≤_}
 use mathlib.Core.Path.{_≡_, refl, sym, _∙_}
 use mathlib.Core.List.{List}

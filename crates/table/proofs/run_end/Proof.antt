@@ -61,7 +61,7 @@ shared-slice-read-index-2 c = omega arith
 index-requires-2 : tie.Need-index-requires-2 Inv-loop μ-loop
 index-requires-2 c κs = search needs
 
--- the next node is the end of a child's run
+-- the next node is one past a child's run
 next-is : (c : tie.After-index2 Inv-loop μ-loop)
     → let l = c .before .before .before .before .before .before in
     let a = l .before .before .before .args in
