@@ -6,7 +6,7 @@ use lib.Dec.{eqb}
 use lib.ListN.{drop}
 use lib.IntN.{ℤ, pos, negℤ}
 
--- n with the columns s written after it, as `digits` has it, but that every byte below the digits counts 0
+-- n with the columns s written after it, as `digits` has it, but that no byte is tested: one below the digits counts 0
 unfoldable pub gathered : ℕ → List ℕ → ℕ
 gathered n [] = n
 gathered n (b ∷ s) = gathered (n * 10 + (b - 48)) s

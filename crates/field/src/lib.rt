@@ -6,7 +6,7 @@ ghost use mathlib.Core.List.{_∷_};
 ghost use Prim.Native.Nat.{_+_, _-_, _*_, _≤_, _<_, _^_};
 ghost use lib.Dec.{eqb};
 ghost use lib.ListN.{length, take, drop};
-ghost use lib.IntN.{negℤ, pos, natAbs};
+ghost use lib.IntN.{natAbs};
 ghost use Rattle.field.specs.Field.{strip, digits, signed, fieldOf, digit, textOf, written};
 ghost use Rattle.field.specs.declared.Whole.the-variants.{Digits};
 ghost use Rattle.field.specs.declared.Field.the-variants.{Ill};

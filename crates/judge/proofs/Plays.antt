@@ -13,7 +13,7 @@ use Rattle.table.specs.Accepted.{Rooted}
 use Rattle.table.specs.Slices.{Slices, Spans, stopsOf, slicesOf, fitted, heightTree}
 use Rattle.table.proofs.Accepted.{accepted-spans, heights-rooted}
 use Rattle.table.proofs.Spans.{spans-le}
-use Rattle.worth.proofs.Text.{ends-length}
+use Rattle.table.proofs.Complete.{stops-long}
 use Rattle.worth.proofs.Judged.{accepted-ready}
 use Rattle.judge.specs.declared.Play.{Play}
 use Rattle.judge.specs.Judge.{children, nodes, numbered, childNode, playOf}
@@ -66,8 +66,8 @@ module _ (s : List ℕ) (t : Table) (h : readText s ≡ fine t) (a : List ℕ) (
         nodes = nodes (children (heightTree t));
         chained = chained-other (stopsOf t) (fitted (stopsOf t) a) (length (t .lines))
             (λ m l.
-            rw (take-all (length a) (stopsOf t) (omega (arith, ends-length (t .lines))))
-            (getD-front (stopsOf t) (drop (length (stopsOf t)) a) m (omega (arith, ends-length (t .lines)))))
+            rw (take-all (length a) (stopsOf t) (omega (arith, stops-long (t .lines))))
+            (getD-front (stopsOf t) (drop (length (stopsOf t)) a) m (omega (arith, stops-long (t .lines)))))
             1 (nodes (children (heightTree t)))
             (spans-chained (slicesOf t) 1 (length (t .lines)) (children (heightTree t))
             (spans-children (slicesOf t) (length (t .lines)) (heightTree t) (accepted-spans s t h) (heights-rooted s t h)));

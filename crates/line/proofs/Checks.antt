@@ -11,8 +11,8 @@ use Rattle.line.specs.declared.Head.{Head}
 use Rattle.line.specs.declared.Entry.{Entry}
 use Rattle.line.specs.declared.Heading.{Heading}
 use Rattle.line.specs.declared.Refusal.the-variants.{TooDeep, Misfilled, OutOfRange, IllWritten, Misnumbered, UnknownKind, WrongParent}
-use Rattle.line.specs.Line.{Step, Above, wrong, path, ancestors, stepsOf, isWrong, illEntry, holds, letterCode, placeOf, illHeading, wideHeading, headOf, headerFor, chancesOf, atChance, stepped, deep, misfilled, wideEntry, lineSaid, lateChecks, placed, placingOf}
-use Rattle.line.specs.Inside.{pathOf}
+use Rattle.line.specs.Line.{Step, Above, wrong, path, ancestors, stepsOf, isWrong, illEntry, holds, letterCode, placeOf, illHeading, wideHeading, headOf, headerFor, chancesOf, atChance, stepped, deep, misfilled, wideEntry, lineSaid, lateChecks, placed}
+use Rattle.line.specs.Inside.{pathOf, placingOf}
 use Rattle.line.proofs.Path.{path-length}
 use Rattle.line.proofs.Signs.{true-ne-false}
 

@@ -4,6 +4,7 @@ use mathlib.Core.List.{List, [], _∷_}
 use lib.ListN.{getD}
 use lib.Signed.{mag}
 use Rattle.line.specs.declared.Head.{Head}
+use Rattle.line.specs.declared.Entry.{Entry}
 use Rattle.line.specs.declared.Line.{Line}
 use Rattle.line.specs.declared.HeadRead
 use Rattle.line.specs.declared.HeadRead.{HeadRead}
@@ -11,8 +12,8 @@ use Rattle.line.specs.declared.Found.{Found}
 use Rattle.line.specs.declared.Found.the-variants.{At, Nowhere}
 use Rattle.line.specs.declared.Placing
 use Rattle.line.specs.declared.Placing.{Placing}
-use Rattle.line.specs.Refusal.{Verdict, refused, fine}
-use Rattle.line.specs.Line.{Step, Above, wrong, path, Placed}
+use Rattle.line.specs.Refusal.{Verdict, refused, fine, unless}
+use Rattle.line.specs.Line.{Step, Above, wrong, path, stepped, Placed, placed, lateChecks}
 
 abbrev pub headShown : HeadRead → Verdict Head
 headShown (HeadRead.the-variants.Refused r) = refused r
@@ -38,6 +39,10 @@ module _ (ns ks cs : List ℕ) where
   placingShown (Placing.the-variants.Refused r) = refused r
   placingShown (Placing.the-variants.At l d) =
       fine (record { line = l; steps = record { node = l .node; kind = l .kind; chances = l .chances } ∷ pathOf ns ks cs d })
+
+-- node i, of the kind k, below the steps P of its parent, where only 10, 7 and 3 are left to check
+abbrev pub placingOf : Head → ℕ → ℕ → Entry → List Step → Verdict Placed
+placingOf h i k e P = unless (lateChecks h i k e P) (placed i k e (stepped i k P))
 
 -- small enough to add 1 to each
 abbrev pub Bounded : List ℕ → Type 0

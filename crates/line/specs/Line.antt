@@ -203,10 +203,7 @@ lateChecks h i k e P =
     ∷ record { holds = wideEntry h e; gives = OutOfRange (i + 1) }
     ∷ []
 
-abbrev pub placingOf : Head → ℕ → ℕ → Entry → List Step → Verdict Placed
-placingOf h i k e P = unless (lateChecks h i k e P) (placed i k e (stepped i k P))
-
--- node i below the steps P of the line before it, with the bytes of columns 5 and 25: 2, 4, 5, 6, then 10, 7, 3
+-- node i, of the kind k, with what stands above it and the bytes of columns 5 and 25: 2, 4, 5, 6
 abbrev pub earlyChecks : ℕ → ℕ → Above → Entry → ℕ → ℕ → List Check
 earlyChecks i k a e fifth last =
     record { holds = illEntry fifth last e; gives = IllWritten (i + 1) }
@@ -215,10 +212,12 @@ earlyChecks i k a e fifth last =
     ∷ record { holds = isWrong a; gives = WrongParent (i + 1) }
     ∷ []
 
+-- all of them: 2, 4, 5, 6, 10, 7, 3
 abbrev pub lineChecks : Head → ℕ → Entry → ℕ → ℕ → Above → List Check
 lineChecks h i e fifth last a =
     earlyChecks i (letterCode (e .letter)) a e fifth last ++ lateChecks h i (letterCode (e .letter)) e (stepsOf a)
 
+-- node i below the steps P of the line before it
 abbrev pub placeOf : Head → ℕ → Entry → ℕ → ℕ → List Step → Verdict Placed
 placeOf h i e fifth last P =
     let k : ℕ = letterCode (e .letter) in

@@ -4,11 +4,10 @@ ghost use mathlib.Core.Bool.{not, cond};
 ghost use mathlib.Core.List.{List};
 ghost use Prim.Native.Nat.{ℕ, _+_, _<_, _≤_};
 ghost use lib.ListN.{length};
-ghost use lib.Dec.{eqb};
 ghost use Rattle.line.specs.Refusal.{numberOf, lineOf};
-ghost use Rattle.line.specs.Line.{isIll, isBlank, holds, outside, valueOf, toNat, headingOf, illHeading, wideHeading, entryOf, letterCode, climb, ancestors, chancesOf, atChance, lineSaid, placingOf, placeOf, illEntry, misfilled, wideEntry, nodeLine};
+ghost use Rattle.line.specs.Line.{isIll, isBlank, holds, outside, valueOf, toNat, headingOf, illHeading, wideHeading, entryOf, letterCode, climb, ancestors, chancesOf, atChance, lineSaid, placeOf, illEntry, misfilled, wideEntry, nodeLine};
 ghost use Rattle.line.specs.Line.{header as headerOf};
-ghost use Rattle.line.specs.Inside.{headShown, pathOf, aboveShown, placingShown, Upto, Roomy, Bounded};
+ghost use Rattle.line.specs.Inside.{headShown, pathOf, aboveShown, placingShown, placingOf, Upto, Roomy, Bounded};
 use field::Field;
 
 // Why a table, or a call on an accepted one, is refused. A case that has a line names it: the header is line 0, and node i is line i + 1.

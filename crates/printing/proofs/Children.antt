@@ -20,11 +20,10 @@ use Rattle.line.proofs.Signs.{true-ne-false}
 use Rattle.table.specs.Tree.{Forest, end, leaf, inner}
 use Rattle.table.specs.Table.{Table, prefix, nodeLines, tree, count, readText, grain}
 use Rattle.table.specs.Accepted.{flat, one, Rooted}
-use Rattle.table.proofs.Grown.{next-fine}
+use Rattle.table.proofs.Grown.{next-fine, prefix-fine}
 use Rattle.table.proofs.Runs.{size, Numbered, flat-length}
 use Rattle.table.proofs.Known.{read-numbered}
-use Rattle.table.proofs.Accepted.{accepted-size, accepted-flat, accepted-rooted}
-use Rattle.worth.proofs.Text.{prefix-fine, lines-read}
+use Rattle.table.proofs.Accepted.{checked, accepted-size, accepted-flat, accepted-rooted}
 use Rattle.judge.specs.Judge.{children, nodes, numbered}
 use Rattle.worth.specs.Worth.{shares, value}
 use Rattle.search.specs.Whole.{worthAt, playWorth}
@@ -201,7 +200,7 @@ module _ (s : List ℕ) (t : Table) (h : readText s ≡ fine t) (m : ℕ) (v : �
   -- the lines up to that of a root child have as many marks as its place says
   pub child-place : m < length (t .lines) → childMarks (drop 25 s) m ≡ place m (nodes (children (tree t)))
   child-place few =
-      let e = lines-read s t h in
+      let e = checked s t h .lines in
       let z = accepted-size s t h in
       let some-lines : 0 < count s = omega (arith, z .0, z .2) in
       let (p, ps, lines, found) = rooted-place (tree t) (read-numbered t (count s) (drop 25 s) e some-lines) (accepted-rooted s t h) m child in

@@ -16,7 +16,7 @@ use Rattle.table.specs.Slices.{Slices, heightOf, kindsOf, stopsOf, weightsOf, h
 use Rattle.table.specs.Accepted.{span, Filled, Balanced, Proper}
 use Rattle.table.proofs.Accepted.{accepted-ranged, accepted-size, accepted-grain, accepted-lent, heights-rooted, heights-proper, heights-filled, heights-balanced, heights-leaves}
 use Rattle.worth.proofs.Worth.{span-grains}
-use Rattle.worth.proofs.Text.{ends-length}
+use Rattle.table.proofs.Complete.{stops-long}
 use Rattle.search.specs.declared.Rule.{Rule}
 use Rattle.search.specs.declared.Found.{Found}
 use Rattle.search.specs.Heights.{heightSearched}
@@ -59,7 +59,7 @@ module _ (s : List ℕ) (t : Table) (h : readText s ≡ fine t) (ε : ℕ) (smal
       let n : ℕ = length (t .lines) in
       record {
         kinds = fitted-long (kindsOf t) K n (length-map (t .lines) (λ (l : Line). l .kind)) roomK;
-        stops = fitted-long (stopsOf t) S n (ends-length (t .lines)) roomS;
+        stops = fitted-long (stopsOf t) S n (stops-long (t .lines)) roomS;
         weights = fitted-long (weightsOf t) W n (length-map (t .lines) (λ (l : Line). l .weight)) roomW;
         heights = fitted-long (heightsOf t) H n (length-map (t .lines) (heightOf (t .head .lowest))) roomH;
         few = accepted-size s t h .1;

@@ -1,32 +1,33 @@
 -- What holds of every accepted table: its header, its size, its lines as one tree, and the decoded slices. Assumes nothing.
-use Prim.Native.Nat.{ℕ, suc, _+_, _*_, _%_, _≤_, _<_}
+use Prim.Native.Nat.{ℕ, suc, _+_, _*_, _≤_, _<_}
 use mathlib.Core.Path.{_≡_, refl, sym, ap, subst, _∙_}
 use mathlib.Core.Bool.{Bool, true, false, not, _&&_, cond}
 use mathlib.Core.List.{List, [], _∷_, _++_, append-eq-nil-iff}
 use native.Mathlib.Omega.{arith}
-use borrow.Author.Tests.{eqb-true, ltb-false, not-false}
+use borrow.Author.Tests.{eqb-true}
 use lib.ListN.{length, getD, take, drop, length-map}
-use lib.Seq.{take-all}
-use lib.Dec.{eqb, ltb}
+use lib.Dec.{eqb}
 use lib.IntN.{pos, _+ℤ_}
 use Rattle.line.specs.declared.Head.{Head}
 use Rattle.line.specs.declared.Line.{Line}
 use Rattle.line.specs.declared.Refusal.{Refusal}
-use Rattle.line.specs.declared.Refusal.the-variants.{Length, Childless, WrongSum}
-use Rattle.line.specs.Refusal.{Verdict, refused, fine, unlessAt, next}
+use Rattle.line.specs.declared.Refusal.the-variants.{Length}
+use Rattle.line.specs.Refusal.{Verdict, refused, fine, next}
 use Rattle.table.specs.declared.Summary.{Summary}
 use Rattle.table.specs.declared.Reading.the-variants.{Accepted, Refused}
 use Rattle.table.specs.Tree.{Kind, Forest, end, leaf, inner, isChance, isEnd, weigh, nodesWhere, childless, unbalanced, leaves}
 use Rattle.line.specs.Line.{header, headingOf, Ranged, Within}
 use Rattle.table.specs.Table.{Table, badLength, nodeLines, tree, complete, count, readText, greatest, leafLines, grain, summary, answer}
-use Rattle.table.specs.Slices.{heightOf, kindsOf, stopsOf, weightsOf, heightsOf, laid, fitted, Slices, Spans, heightTree, slicesOf}
+use Rattle.table.specs.Slices.{heightOf, kindsOf, stopsOf, weightsOf, heightsOf, fitted, Slices, Spans, heightTree, slicesOf}
 use Rattle.table.specs.Accepted.{span, flat, Sums, Filled, Balanced, Proper, Rooted}
 use Rattle.line.proofs.Signs.{true-ne-false}
-use Rattle.line.proofs.Fine.{nor9, header-ranged, unlessAt-fine}
+use Rattle.line.proofs.Fine.{header-ranged}
 use Rattle.table.proofs.Grown.{fine-refused, next-fine}
 use Rattle.table.proofs.Heights.{above, height-back, height-span, map-leaves, map-filled, map-balanced, map-rooted, map-proper, heights-map}
 use Rattle.table.proofs.Powers.{power-small}
-use Rattle.table.proofs.Complete.{ends-long, spans}
+use Rattle.table.proofs.Copied.{fitted-all}
+use Rattle.table.proofs.Complete.{stops-long, completed, spans}
+use Rattle.table.proofs.Top.{good-length}
 use Rattle.table.proofs.Known.{read-length, read-few, read-flat, read-rooted, read-proper, read-leaves, read-spans}
 
 -- ---- nodes without a child, and sums
@@ -78,19 +79,6 @@ pub record Checked (s : List ℕ) (t : Table) : Type 0 where
   pub no-childless : childless (tree t) ≡ []
   pub no-unbalanced : unbalanced (t .head .total) (tree t) ≡ []
 
-completed : (a t : Table) → complete a ≡ fine t → (a ≡ t) × (childless (tree t) ≡ []) × (unbalanced (t .head .total) (tree t) ≡ [])
-unfolding complete
-completed a t e =
-    let f : ℕ → Refusal = λ n. Childless (n + 1) in
-    let g : ℕ → Refusal = λ n. WrongSum (n + 1) in
-    let (b, p, q) = next-fine (unlessAt f (childless (tree a)) a) (λ (t : Table). unlessAt g (unbalanced (t .head .total) (tree t)) t) t e in
-    let (c, r) = unlessAt-fine f (childless (tree a)) a b p in
-    let (d, u) = unlessAt-fine g (unbalanced (b .head .total) (tree b)) b t q in (
-      r ∙ u,
-      subst (λ (x : Table). childless (tree x) ≡ []) (r ∙ u) c,
-      subst (λ (x : Table). unbalanced (x .head .total) (tree x) ≡ []) u d,
-    )
-
 pub checked : (s : List ℕ) (t : Table) → readText s ≡ fine t → Checked s t
 unfolding readText
 checked s t e = go (badLength (length s)) refl e
@@ -113,16 +101,7 @@ checked s t e = go (badLength (length s)) refl e
         }
 
 counted : (s : List ℕ) (n : ℕ) → badLength (length s) ≡ false → n ≡ count s → (0 < n) × (n ≤ 1024) × (length s ≡ 25 * n + 25)
-counted s n e q =
-    let w = nor9 false false false false false false (not (eqb (length s % 25) 0)) (ltb (length s) 50) (ltb 25625 (length s)) e in
-    let a : length s % 25 ≡ 0 = eqb-true (length s % 25) 0 (not-false (eqb (length s % 25) 0) (w .6)) in
-    let b : 50 ≤ length s = ltb-false (length s) 50 (w .7) in
-    let c : length s ≤ 25625 = ltb-false 25625 (length s) (w .8) in
-    (omega arith, omega arith, omega arith)
-
--- a slice with room for all entries gets them all
-fitted-all : (xs a : List ℕ) → length xs ≤ length a → fitted xs a ≡ laid xs a
-fitted-all xs a h = ap (λ (ys : List ℕ). laid ys a) (take-all (length a) xs h)
+counted s n e q = let g = good-length (length s) e in rw q (g .1, g .2, sym (g .3))
 
 -- ---- what an answer tells of the text
 
@@ -208,7 +187,7 @@ module _ (s : List ℕ) (t : Table) (h : readText s ≡ fine t) where
       subst (λ (m : ℕ). Spans S 0 m (heightTree t)) (sym (read-length t (count s) (drop 25 s) (C .lines)))
       (spans (t .head) (count s) (drop 25 s) ls (C .lines) some k st w g (fitted (kindsOf t) k) (fitted (stopsOf t) st) (fitted (weightsOf t) w) (fitted (heightsOf t) g)
       (fitted-all (kindsOf t) k (omega (arith, length-map ls (λ (l : Line). l .kind), hk)))
-      (fitted-all (stopsOf t) st (omega (arith, ends-long ls, hs)))
+      (fitted-all (stopsOf t) st (omega (arith, stops-long ls, hs)))
       (fitted-all (weightsOf t) w (omega (arith, length-map ls (λ (l : Line). l .weight), hw)))
       (fitted-all (heightsOf t) g (omega (arith, length-map ls (heightOf (t .head .lowest)), hg))))
 

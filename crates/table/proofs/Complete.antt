@@ -5,7 +5,7 @@ use mathlib.Core.Bool.{Bool, true, false, not, _&&_, cond}
 use mathlib.Core.List.{List, [], _∷_, map}
 use native.Mathlib.Omega.{arith}
 use borrow.Author.Tests.{lt-ltb, le-ltb}
-use lib.ListN.{length, getD, take, drop, length-map, List·getD-append}
+use lib.ListN.{length, getD, take, drop, length-map}
 use lib.Seq.{take-append-seam}
 use lib.Dec.{eqb, leb}
 use lib.IntN.{ℤ}
@@ -21,9 +21,11 @@ use Rattle.line.specs.Refusal.{Verdict, refused, fine, unlessAt, next}
 use Rattle.table.specs.Tree.{Kind, Forest, end, leaf, inner, isEnd, isChance, run, weigh, nodesWhere, childless, unbalanced}
 use Rattle.line.specs.Line.{Step}
 use Rattle.table.specs.Table.{Table, nodeLines, linesOf, tree, complete, greatest, leafLines, answer}
-use Rattle.table.specs.Slices.{Slices, Spans, slicesOf, heightOf, heightTree, ends, laid, kindsOf, weightsOf, heightsOf, stopsOf}
-use Rattle.table.specs.Inside.{Gathered, reach, endsFrom, scanFrom, firstOr, bareAt, oddAt, Has, summaryOf, refuseAt, completeAt, Decoded}
-use Rattle.table.proofs.Scan.{spans-le, scan-below, spans-where, bare-tests, odd-tests}
+use Rattle.table.specs.Slices.{Slices, Spans, slicesOf, heightOf, heightTree, lineStops, laid, kindsOf, weightsOf, heightsOf, stopsOf}
+use Rattle.table.specs.Inside.{Gathered, reach, stopsFrom, scanFrom, firstOr, bareAt, oddAt, Has, summaryOf, refuseAt, completeAt, Decoded}
+use Rattle.table.proofs.Scan.{scan-below, spans-where, bare-tests, odd-tests}
+use Rattle.table.proofs.Spans.{spans-le}
+use Rattle.table.proofs.Copied.{laid-at}
 use Rattle.table.proofs.Grown.{lines-counted, lines-first, next-fine}
 use Rattle.table.proofs.Heights.{mapForest, map-end, map-weigh, above, heights-map}
 use Rattle.line.proofs.Fine.{unlessAt-fine}
@@ -89,32 +91,32 @@ reach-run n (l ∷ ls) = go (reach-run n ls) (leb n (l .parent)) refl
 
 module _ (h : Head) where
   -- a line's number is its place
-  ends-are : (n i : ℕ) (P : List Step) (s : List ℕ) (ls : List Line) → nodeLines h n i P s ≡ fine ls → endsFrom i (map (λ (l : Line). l .parent) ls) ≡ ends ls
-  unfolding nodeLines endsFrom ends
-  ends-are zero i P s ls e =
+  stops-by-parents : (n i : ℕ) (P : List Step) (s : List ℕ) (ls : List Line) → nodeLines h n i P s ≡ fine ls → stopsFrom i (map (λ (l : Line). l .parent) ls) ≡ lineStops ls
+  unfolding nodeLines stopsFrom lineStops
+  stops-by-parents zero i P s ls e =
       let f : [] ≡ ls = cc in
       rw (← f) refl
-  ends-are (suc n) i P s ls e =
+  stops-by-parents (suc n) i P s ls e =
       let F = lines-first h n i P s ls e in
       let l = F .placed .line in
       let k : l .node ≡ i = F .read .node in
-      rw (F .lines, reach-run i (F .rest), ends-are n (suc i) (F .placed .steps) (drop 25 s) (F .rest) (F .more), k)
+      rw (F .lines, reach-run i (F .rest), stops-by-parents n (suc i) (F .placed .steps) (drop 25 s) (F .rest) (F .more), k)
 
 -- the slice of stops, from the slice of parents
 pub stops-are : (h : Head) (n : ℕ) (s : List ℕ) (ls : List Line) (u u′ st st′ : List ℕ) → nodeLines h n 0 [] s ≡ fine ls
-    → u′ ≡ laid (map (λ (l : Line). l .parent) ls) u → st′ ≡ laid (endsFrom 0 (take n u′)) st → st′ ≡ laid (ends ls) st
+    → u′ ≡ laid (map (λ (l : Line). l .parent) ls) u → st′ ≡ laid (stopsFrom 0 (take n u′)) st → st′ ≡ laid (lineStops ls) st
 stops-are h n s ls u u′ st st′ e p q =
     let ups : List ℕ = map (λ (l : Line). l .parent) ls in
     let m : length ups ≡ n = length-map ls (λ (l : Line). l .parent) ∙ lines-counted h n 0 [] s ls e .0 in
     let f : take n u′ ≡ ups = ap (take n) p ∙ rw (← m) (take-append-seam ups (drop (length ups) u)) in
-    q ∙ ap (λ (xs : List ℕ). laid xs st) (ap (endsFrom 0) f ∙ ends-are h n 0 [] s ls e)
+    q ∙ ap (λ (xs : List ℕ). laid xs st) (ap (stopsFrom 0) f ∙ stops-by-parents h n 0 [] s ls e)
 
 -- ---- the tree in the slices
 
--- slices that agree up to e hold the same nodes
+-- slices whose first N entries agree hold the same nodes
 module _ (S S′ : Slices) (N : ℕ)
     (same : (i : ℕ) → i < N → (getD (S′ .kinds) i 0 ≡ getD (S .kinds) i 0) × (getD (S′ .stops) i 0 ≡ getD (S .stops) i 0) × (getD (S′ .weights) i 0 ≡ getD (S .weights) i 0) × (getD (S′ .heights) i 0 ≡ getD (S .heights) i 0)) where
-  spans-same : (c e : ℕ) (f : Forest ℕ) → e ≤ N → Spans S c e f → Spans S′ c e f
+  pub spans-same : (c e : ℕ) (f : Forest ℕ) → e ≤ N → Spans S c e f → Spans S′ c e f
   unfolding Spans
   spans-same c e end l h = h
   spans-same c e (leaf n w v rest) l h =
@@ -128,13 +130,10 @@ module _ (S S′ : Slices) (N : ℕ)
       let q = same c (omega arith) in
       rw (q .1) (h .0, q .0 ∙ h .1, q .2 ∙ h .2, spans-same (c + 1) x under (omega arith) (h .3), spans-same x e rest l (h .4))
 
-laid-at : (xs a b : List ℕ) (n i : ℕ) → b ≡ laid xs a → length xs ≡ n → i < n → getD b i 0 ≡ getD xs i 0
-laid-at xs a b n i e m l = ap (λ (y : List ℕ). getD y i 0) e ∙ List·getD-append xs (drop (length xs) a) 0 i (omega arith)
-
-pub ends-long : (ls : List Line) → length (ends ls) ≡ length ls
-unfolding ends
-ends-long [] = refl
-ends-long (l ∷ ls) = ap suc (ends-long ls)
+pub stops-long : (ls : List Line) → length (lineStops ls) ≡ length ls
+unfolding lineStops
+stops-long [] = refl
+stops-long (l ∷ ls) = ap suc (stops-long ls)
 
 where-map : {A B : Type 0} (g : A → B) (bad : Kind → Forest A → Bool) (bad′ : Kind → Forest B → Bool)
     → ((k : Kind) (f : Forest A) → bad′ k (mapForest g f) ≡ bad k f) → (f : Forest A) → nodesWhere bad′ (mapForest g f) ≡ nodesWhere bad f
@@ -152,16 +151,23 @@ unfolding unlessAt
 refuse-list gives n [] t f else b e = rw (le-ltb n n (omega arith)) e
 refuse-list gives n (x ∷ xs) t f else b e = rw (lt-ltb x n (b x xs refl))
 
-next-fine-same : (v : Verdict Table) (a : Table) → next v (λ (t : Table). fine t) ≡ v
-next-fine-same (refused r) a = refl
-next-fine-same (fine t) a = refl
+next-fine-same : (v : Verdict Table) → next v (λ (t : Table). fine t) ≡ v
+next-fine-same (refused r) = refl
+next-fine-same (fine t) = refl
 
--- a table that is complete is the table
-complete-same : (t t′ : Table) → complete t ≡ fine t′ → t′ ≡ t
+-- a table that is complete is the table, and has no node that 8 or 9 is for
+pub completed : (a t : Table) → complete a ≡ fine t → (a ≡ t) × (childless (tree t) ≡ []) × (unbalanced (t .head .total) (tree t) ≡ [])
 unfolding complete
-complete-same t t′ e =
-    let (u, p, q) = next-fine (unlessAt (λ (n : ℕ). Childless (n + 1)) (childless (tree t)) t) (λ (t : Table). unlessAt (λ (n : ℕ). WrongSum (n + 1)) (unbalanced (t .head .total) (tree t)) t) t′ e in
-    sym (unlessAt-fine (λ (n : ℕ). Childless (n + 1)) (childless (tree t)) t u p .1 ∙ unlessAt-fine (λ (n : ℕ). WrongSum (n + 1)) (unbalanced (u .head .total) (tree u)) u t′ q .1)
+completed a t e =
+    let f : ℕ → Refusal = λ n. Childless (n + 1) in
+    let g : ℕ → Refusal = λ n. WrongSum (n + 1) in
+    let (b, p, q) = next-fine (unlessAt f (childless (tree a)) a) (λ (t : Table). unlessAt g (unbalanced (t .head .total) (tree t)) t) t e in
+    let (c, r) = unlessAt-fine f (childless (tree a)) a b p in
+    let (d, u) = unlessAt-fine g (unbalanced (b .head .total) (tree b)) b t q in (
+      r ∙ u,
+      subst (λ (x : Table). childless (tree x) ≡ []) (r ∙ u) c,
+      subst (λ (x : Table). unbalanced (x .head .total) (tree x) ≡ []) u d,
+    )
 
 module _ (h : Head) (n : ℕ) (s : List ℕ) (ls : List Line) (e : nodeLines h n 0 [] s ≡ fine ls) (some : 0 < n) where
   abbrev t : Table
@@ -179,7 +185,7 @@ module _ (h : Head) (n : ℕ) (s : List ℕ) (ls : List Line) (e : nodeLines h n
         spans-same (slicesOf t) S n
         (λ i l. (
           laid-at (kindsOf t) k k′ n i pk (length-map ls (λ (l : Line). l .kind) ∙ counted) l,
-          laid-at (stopsOf t) st st′ n i ps (ends-long ls ∙ counted) l,
+          laid-at (stopsOf t) st st′ n i ps (stops-long ls ∙ counted) l,
           laid-at (weightsOf t) w w′ n i pw (length-map ls (λ (l : Line). l .weight) ∙ counted) l,
           laid-at (heightsOf t) g g′ n i pg (length-map ls (heightOf (h .lowest)) ∙ counted) l,
         ))
@@ -213,12 +219,12 @@ module _ (h : Head) (n : ℕ) (s : List ℕ) (ls : List Line) (e : nodeLines h n
           (refuse-list WrongSum n (unbalanced (h .total) (tree t)) t (λ (t : Table). fine t) _
           (λ x xs q. omega (arith, scan-below (oddAt k′ st′ w′ (h .total)) 0 n x xs (found-odd small ∙ q)))
           (ap (λ (m : ℕ). Accepted (summaryOf m h (greatest ls) (leafLines ls))) (sym counted))
-          ∙ ap answer (next-fine-same (unlessAt (λ (n : ℕ). WrongSum (n + 1)) (unbalanced (h .total) (tree t)) t) t)))
+          ∙ ap answer (next-fine-same (unlessAt (λ (n : ℕ). WrongSum (n + 1)) (unbalanced (h .total) (tree t)) t))))
 
       decoded-by : (v : Verdict Table) → complete t ≡ v → (out : Reading) → out ≡ answer v → Decoded v out k st w g k′ st′ w′ g′
       decoded-by (refused r) c out o = o
       decoded-by (fine t′) c out o =
-          let z : t ≡ t′ = sym (complete-same t t′ c) in
+          let z : t ≡ t′ = completed t t′ c .0 in
           (o, subst (λ (y : Table). k′ ≡ laid (kindsOf y) k) z pk, subst (λ (y : Table). st′ ≡ laid (stopsOf y) st) z ps, subst (λ (y : Table). w′ ≡ laid (weightsOf y) w) z pw, subst (λ (y : Table). g′ ≡ laid (heightsOf y) g) z pg)
 
       pub decoded-all : (out : Reading) → out ≡ completeAt k′ st′ w′ n h most leaves → Decoded (linesOf h n s) out k st w g k′ st′ w′ g′

@@ -4,10 +4,26 @@ use mathlib.Core.Path.{_≡_, refl, ap, _∙_}
 use mathlib.Core.List.{List}
 use native.Mathlib.Omega.{arith}
 use native.Mathlib.Numerals.{add-one}
-use lib.ListN.{length, getD, set, take, length-set}
+use lib.ListN.{length, getD, set, take, drop, length-set, length-append, List·getD-append}
 use lib.Seq.{take-suc, take-take, take-all, length-take-le}
 use Rattle.table.specs.Slices.{laid, fitted}
 use Rattle.table.proofs.Gather.{laid-more}
+
+-- ---- a slice with room for all entries gets them all
+
+pub fitted-all : (xs a : List ℕ) → length xs ≤ length a → fitted xs a ≡ laid xs a
+fitted-all xs a h = ap (λ (ys : List ℕ). laid ys a) (take-all (length a) xs h)
+
+pub fitted-long : (xs a : List ℕ) (n : ℕ) → length xs ≡ n → n ≤ length a → n ≤ length (fitted xs a)
+fitted-long xs a n e h = rw (fitted-all xs a (omega arith)) (omega (arith, length-append xs (drop (length xs) a)))
+
+pub laid-at : (xs a b : List ℕ) (n i : ℕ) → b ≡ laid xs a → length xs ≡ n → i < n → getD b i 0 ≡ getD xs i 0
+laid-at xs a b n i e m l = ap (λ (y : List ℕ). getD y i 0) e ∙ List·getD-append xs (drop (length xs) a) 0 i (omega arith)
+
+pub fitted-at : (xs a : List ℕ) (n i : ℕ) → length xs ≡ n → n ≤ length a → i < n → getD (fitted xs a) i 0 ≡ getD xs i 0
+fitted-at xs a n i e h l = laid-at xs a (fitted xs a) n i (fitted-all xs a (omega arith)) e l
+
+-- ---- copying
 
 -- i of n entries are copied from xs; the slice came as a
 pub record Copying (n : ℕ) (xs a b : List ℕ) (i : ℕ) : Type 0 where

@@ -52,9 +52,6 @@ bounded-zeros (suc n) (suc e) = bounded-zeros n e
 
 -- ---- one entry more in a slice
 
-pub laid-none : (a : List ℕ) → a ≡ laid [] a
-laid-none a = refl
-
 pub laid-more : (xs a : List ℕ) (v : ℕ) → length xs < length a → laid (xs ++ (v ∷ [])) a ≡ set (laid xs a) (length xs) v
 laid-more xs a v h =
     let e : length (xs ++ (v ∷ [])) ≡ suc (length xs) = length-append xs (v ∷ []) ∙ add-one (length xs) in

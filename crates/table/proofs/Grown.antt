@@ -47,6 +47,7 @@ module _ (h : Head) where
   pub record First (n i : ℕ) (P : List Step) (s : List ℕ) (ls : List Line) : Type 0 where
     pub above : List Step
     pub placed : Placed
+    pub line : nodeLine h i P (take 25 s) ≡ fine placed
     pub read : Read h i P above placed
     pub rest : List Line
     pub lines : ls ≡ placed .line ∷ rest
@@ -61,6 +62,7 @@ module _ (h : Head) where
       record {
         above = stepsOf (ancestors (entryOf entry .parent) P);
         placed = p;
+        line = f;
         read = line-read h i (entryOf entry) (getD entry 4 0) (getD entry 24 0) P p f;
         rest = rest;
         lines = lines;

@@ -13,6 +13,7 @@ use Rattle.table.specs.Tree.{Kind, Forest, end, leaf, inner, codeOf, isC
 use Rattle.table.specs.Slices.{Slices, Spans}
 use Rattle.table.specs.Inside.{scanFrom, firstOr, bareAt, weighAt, oddAt, Has}
 use Rattle.table.proofs.Runs.{code-inner, code-chance}
+use Rattle.table.proofs.Spans.{spans-le}
 
 module _ (test : ℕ → Bool) where
   -- what is found lies within
@@ -58,26 +59,19 @@ module _ (test : ℕ → Bool) where
       rw (a, scan-split (suc c) (x - (c + 1)) (e - x), b, add-one)
 
 module _ (S : Slices) where
-  pub spans-le : (c e : ℕ) (f : Forest ℕ) → Spans S c e f → c ≤ e
-  unfolding Spans
-  spans-le c e end h = omega arith
-  spans-le c e (leaf n w v rest) h = omega (arith, spans-le (c + 1) e rest (h .5))
-  spans-le c e (inner n w k under rest) h =
-      omega (arith, spans-le (c + 1) (getD (S .stops) c 0) under (h .3), spans-le (getD (S .stops) c 0) e rest (h .4))
-
   pub spans-weigh : (k c e : ℕ) (f : Forest ℕ) → Spans S c e f → e ≤ c + k → weighAt (S .stops) (S .weights) k c e ≡ weigh f
   unfolding Spans weighAt weigh
   spans-weigh zero c e end h l = refl
-  spans-weigh zero c e (leaf n w v rest) h l = absurd (omega (arith, spans-le (c + 1) e rest (h .5)))
+  spans-weigh zero c e (leaf n w v rest) h l = absurd (omega (arith, spans-le S (c + 1) e rest (h .5)))
   spans-weigh zero c e (inner n w j under rest) h l =
-      absurd (omega (arith, spans-le (c + 1) (getD (S .stops) c 0) under (h .3), spans-le (getD (S .stops) c 0) e rest (h .4)))
+      absurd (omega (arith, spans-le S (c + 1) (getD (S .stops) c 0) under (h .3), spans-le S (getD (S .stops) c 0) e rest (h .4)))
   spans-weigh (suc k) c e end h l = rw (le-ltb c e (omega arith))
   spans-weigh (suc k) c e (leaf n w v rest) h l =
-      let b = spans-le (c + 1) e rest (h .5) in
+      let b = spans-le S (c + 1) e rest (h .5) in
       rw (lt-ltb c e (omega arith), h .3, h .2, spans-weigh k (c + 1) e rest (h .5) (omega arith))
   spans-weigh (suc k) c e (inner n w j under rest) h l =
-      let a = spans-le (c + 1) (getD (S .stops) c 0) under (h .3) in
-      let b = spans-le (getD (S .stops) c 0) e rest (h .4) in
+      let a = spans-le S (c + 1) (getD (S .stops) c 0) under (h .3) in
+      let b = spans-le S (getD (S .stops) c 0) e rest (h .4) in
       rw (lt-ltb c e (omega arith), h .2, spans-weigh k (getD (S .stops) c 0) e rest (h .4) (omega arith))
 
   -- a test of an entry that says what `bad` says of a node
@@ -91,13 +85,13 @@ module _ (S : Slices) where
   unfolding Spans nodesWhere scanFrom
   spans-where bad test N t c e end l h = let z : e - c ≡ 0 = omega arith in rw z
   spans-where bad test N t c e (leaf n w v rest) l h =
-      let b = spans-le (c + 1) e rest (h .5) in
+      let b = spans-le S (c + 1) e rest (h .5) in
       let z : c + 1 - (c + 1) ≡ 0 = omega arith in
       spans-where bad test N t (c + 1) e rest l (h .5) ∙ sym (scan-node test c (c + 1) e (omega arith) b ∙ rw (t .at-leaf c (h .1), z))
   spans-where bad test N t c e (inner n w k under rest) l h =
       let x = getD (S .stops) c 0 in
-      let a = spans-le (c + 1) x under (h .3) in
-      let b = spans-le x e rest (h .4) in
+      let a = spans-le S (c + 1) x under (h .3) in
+      let b = spans-le S x e rest (h .4) in
       rw (spans-where bad test N t (c + 1) x under (omega arith) (h .3), spans-where bad test N t x e rest l (h .4), ← t .at-inner c k under (h .1) (omega arith) (h .3), h .0)
       (sym (scan-node test c x e (omega arith) b))
 
@@ -118,15 +112,15 @@ module _ (S : Slices) where
         spans = subst (λ (x : ℕ). Spans S x e rest) (sym (h .2)) (h .5);
         weighs = ap (λ (x : ℕ). x + weigh rest) (sym (h .3));
         later = omega (arith, h .2);
-        within = omega (arith, h .2, spans-le (j + 1) e rest (h .5));
+        within = omega (arith, h .2, spans-le S (j + 1) e rest (h .5));
       }
   spans-next j e (inner n w k under rest) l h =
       record {
         rest = rest;
         spans = h .4;
         weighs = ap (λ (x : ℕ). x + weigh rest) (sym (h .2));
-        later = omega (arith, spans-le (j + 1) (getD (S .stops) j 0) under (h .3));
-        within = spans-le (getD (S .stops) j 0) e rest (h .4);
+        later = omega (arith, spans-le S (j + 1) (getD (S .stops) j 0) under (h .3));
+        within = spans-le S (getD (S .stops) j 0) e rest (h .4);
       }
 
   -- what stands under the C at entry i
@@ -153,10 +147,10 @@ module _ (S : Slices) where
           → (getD (S .stops) c 0 ≤ i → i < e → getD (S .kinds) i 0 ≡ 3 → Under i e) → Dec (c + 1 ≤ i) → Dec (getD (S .stops) c 0 ≤ i) → Under i e
       go ih jh (yes l) (yes m) = jh m b k
       go ih jh (yes l) (no m) =
-          under-wider i (getD (S .stops) c 0) e (spans-le (getD (S .stops) c 0) e rest (h .4)) (ih l (omega arith) k)
+          under-wider i (getD (S .stops) c 0) e (spans-le S (getD (S .stops) c 0) e rest (h .4)) (ih l (omega arith) k)
       go ih jh (no l) d =
           let z : c ≡ i = omega arith in
-          subst (λ (y : ℕ). Under y e) z (record { forest = under; spans = h .3; within = spans-le (getD (S .stops) c 0) e rest (h .4) })
+          subst (λ (y : ℕ). Under y e) z (record { forest = under; spans = h .3; within = spans-le S (getD (S .stops) c 0) e rest (h .4) })
 
 module _ (S : Slices) where
   spans-empty : (c e : ℕ) (f : Forest ℕ) → Spans S c e f → eqb e c ≡ isEnd f

@@ -9,7 +9,7 @@ use lib.IntN.{ℤ, pos}
 use Rattle.line.specs.declared.Line.{Line}
 use Rattle.table.specs.Tree.{Kind, Forest, end, leaf, inner, codeOf, run}
 use Rattle.table.specs.Table.{Table}
-use Rattle.table.specs.Slices.{heightOf, ends, Slices, Spans, slicesOf}
+use Rattle.table.specs.Slices.{heightOf, lineStops, Slices, Spans, slicesOf}
 use Rattle.table.specs.Accepted.{flat, one, Rooted}
 use Rattle.table.proofs.Runs.{size, Numbered, flat-length, Outside, outside-more, flat-outside, run-outside, run-under}
 use Rattle.table.proofs.Heights.{mapForest, above}
@@ -37,14 +37,14 @@ module _ (l : Line) (ls : List Line) where
   map-at f (k ∷ all) zero e = ap f (cc)
   map-at f (k ∷ all) (suc i) e = map-at f all i e
 
-  ends-at : (all : List Line) (i : ℕ) → drop i all ≡ l ∷ ls → getD (ends all) i 0 ≡ l .node + 1 + length (run (l .node) ls)
-  unfolding ends
-  ends-at [] i e = no-line i e
-  ends-at (k ∷ all) zero e =
+  stops-at : (all : List Line) (i : ℕ) → drop i all ≡ l ∷ ls → getD (lineStops all) i 0 ≡ l .node + 1 + length (run (l .node) ls)
+  unfolding lineStops
+  stops-at [] i e = no-line i e
+  stops-at (k ∷ all) zero e =
       let p : k ≡ l = cc in
       let q : all ≡ ls = cc in
       rw (p, q)
-  ends-at (k ∷ all) (suc i) e = ends-at all i e
+  stops-at (k ∷ all) (suc i) e = stops-at all i e
 
 drop-on : (all : List Line) (i : ℕ) (a b : List Line) → drop i all ≡ a ++ b → drop (i + length a) all ≡ b
 drop-on all i a b e = sym (drop-drop (length a) i all) ∙ rw e (drop-append-seam a b)
@@ -65,7 +65,7 @@ module _ (t : Table) where
       let ls : List Line = flat p c rest ++ tail in (
         refl,
         map-at l ls (λ (l : Line). l .kind) (t .lines) n d,
-        ends-at l ls (t .lines) n d ∙ rw (run-outside n ls o) (omega arith),
+        stops-at l ls (t .lines) n d ∙ rw (run-outside n ls o) (omega arith),
         map-at l ls (λ (l : Line). l .weight) (t .lines) n d,
         map-at l ls (heightOf (t .head .lowest)) (t .lines) n d,
         f (drop-on (t .lines) n (l ∷ []) ls d),
@@ -83,7 +83,7 @@ module _ (t : Table) where
       let ls : List Line = flat n (c + one k) under ++ more in
       let d′ : drop n (t .lines) ≡ l ∷ ls = d ∙ rw append-assoc in
       let long = flat-length n (c + one k) under in
-      let stop : getD (ends (t .lines)) n 0 ≡ n + 1 + size under = ends-at l ls (t .lines) n d′ ∙ rw (run-under n (c + one k) under N more o, long) in
+      let stop : getD (lineStops (t .lines)) n 0 ≡ n + 1 + size under = stops-at l ls (t .lines) n d′ ∙ rw (run-under n (c + one k) under N more o, long) in
       let on : Stands (n + 1) n (c + one k) under more = drop-on (t .lines) n (l ∷ []) ls d′ in
       rw stop (
         refl,

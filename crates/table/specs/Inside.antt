@@ -1,5 +1,5 @@
 -- What the contracts of private functions cite; no public promise names these.
-use Prim.Native.Nat.{ℕ, zero, suc, _+_, _-_, _^_, _≤_, _<_}
+use Prim.Native.Nat.{ℕ, zero, suc, _+_, _^_, _≤_, _<_}
 use mathlib.Core.Bool.{Bool, not, _&&_, cond}
 use mathlib.Core.List.{List, [], _∷_, _++_, map}
 use mathlib.Core.Path.{_≡_}
@@ -45,16 +45,17 @@ reach n [] = 0
 reach n (x ∷ xs) = cond (leb n x) (suc (reach n xs)) 0
 
 -- one past the run of node i, where U holds each node's parent
-abbrev pub endOf : List ℕ → ℕ → ℕ
-endOf U i = i + 1 + reach i (drop (i + 1) U)
+abbrev pub stopIn : List ℕ → ℕ → ℕ
+stopIn U i = i + 1 + reach i (drop (i + 1) U)
 
-unfoldable pub endsFrom : ℕ → List ℕ → List ℕ
-endsFrom i [] = []
-endsFrom i (x ∷ U) = (i + 1 + reach i U) ∷ endsFrom (suc i) U
+-- the same of each node, the first of U being node i
+unfoldable pub stopsFrom : ℕ → List ℕ → List ℕ
+stopsFrom i [] = []
+stopsFrom i (x ∷ U) = (i + 1 + reach i U) ∷ stopsFrom (suc i) U
 
--- the entries from node j on are there
-abbrev pub Ended : List ℕ → List ℕ → ℕ → Type 0
-Ended U stops j = (i : ℕ) → j ≤ i → i < length U → getD stops i 0 ≡ endOf U i
+-- the stops of the nodes from j on are there
+abbrev pub HasStops : List ℕ → List ℕ → ℕ → Type 0
+HasStops U stops j = (i : ℕ) → j ≤ i → i < length U → getD stops i 0 ≡ stopIn U i
 
 -- ---- the nodes that meet a condition
 

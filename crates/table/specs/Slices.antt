@@ -1,5 +1,5 @@
 -- The decoded table: number slices, one entry for each node, by node number. Document 01, 'The table on paper'.
-use Prim.Native.Nat.{ℕ, _+_, _-_}
+use Prim.Native.Nat.{ℕ, _+_}
 use mathlib.Core.Bool.{cond}
 use mathlib.Core.List.{List, [], _∷_, _++_, map}
 use mathlib.Core.Path.{_≡_}
@@ -26,12 +26,12 @@ abbrev pub heightsOf : Table → List ℕ
 heightsOf t = map (heightOf (t .head .lowest)) (t .lines)
 
 -- one past the last line of each line's run
-unfoldable pub ends : List Line → List ℕ
-ends [] = []
-ends (l ∷ ls) = (l .node + 1 + length (run (l .node) ls)) ∷ ends ls
+unfoldable pub lineStops : List Line → List ℕ
+lineStops [] = []
+lineStops (l ∷ ls) = (l .node + 1 + length (run (l .node) ls)) ∷ lineStops ls
 
 abbrev pub stopsOf : Table → List ℕ
-stopsOf t = ends (t .lines)
+stopsOf t = lineStops (t .lines)
 
 -- a slice a with the numbers xs at its front, and with as many of them as it has room for
 abbrev pub laid : List ℕ → List ℕ → List ℕ
@@ -40,8 +40,7 @@ laid xs a = xs ++ drop (length xs) a
 abbrev pub fitted : List ℕ → List ℕ → List ℕ
 fitted xs a = laid (take (length a) xs) a
 
--- nothing is written where the table is refused
-
+-- the numbers of an accepted table; of a refused one none, so that nothing is written
 abbrev pub decoded : (Table → List ℕ) → Verdict Table → List ℕ
 decoded f (refused r) = []
 decoded f (fine t) = f t

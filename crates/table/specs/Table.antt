@@ -24,7 +24,7 @@ pub record Table : Type 0 where
 abbrev pub badLength : ℕ → Bool
 badLength n = not (eqb (n % 25) 0) || ltb n 50 || ltb 25625 n
 
--- a line more in front
+-- lines with others in front of them
 abbrev pub prefix : List Line → Verdict (List Line) → Verdict (List Line)
 prefix done (refused r) = refused r
 prefix done (fine ls) = fine (done ++ ls)

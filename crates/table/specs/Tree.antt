@@ -57,7 +57,7 @@ module _ {A : Type 0} where
   isEnd (leaf n w v rest) = false
   isEnd (inner n w k under rest) = false
 
-  -- the weights of the first line of nodes, summed
+  -- the weights of these nodes, without those under them, summed
   unfoldable pub weigh : Forest A → ℕ
   weigh end = 0
   weigh (leaf n w v rest) = w + weigh rest

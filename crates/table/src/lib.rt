@@ -1,14 +1,14 @@
 // A table's text: refused with the number and the line of document 01, or decoded into number slices.
 ghost use mathlib.Core.Path.{_≡_};
-ghost use mathlib.Core.List.{List, []};
-ghost use Prim.Native.Nat.{ℕ, _+_, _*_, _-_, _<_, _≤_, _^_, max};
+ghost use mathlib.Core.List.{[]};
+ghost use Prim.Native.Nat.{_+_, _*_, _-_, _<_, _≤_, _^_, max};
 ghost use lib.ListN.{length, set, drop, take};
 ghost use lib.Signed.{mag};
 ghost use Rattle.line.specs.Line.{Ranged};
 ghost use Rattle.line.specs.Inside.{Sized};
 ghost use Rattle.table.specs.Table.{nodeLines, linesOf, badLength, readText, answer};
 ghost use Rattle.table.specs.Slices.{heightOf, laid, fitted, kindsOf, stopsOf, weightsOf, heightsOf, decoded};
-ghost use Rattle.table.specs.Inside.{Roomed, Gathered, endOf, endsFrom, Ended, firstOr, scanFrom, bareAt, Has, weighAt, oddAt, completeAt, Decoded};
+ghost use Rattle.table.specs.Inside.{Roomed, Gathered, stopIn, stopsFrom, HasStops, firstOr, scanFrom, bareAt, Has, weighAt, oddAt, completeAt, Decoded};
 use line::Head;
 use line::HeadRead;
 use line::Line;
@@ -125,8 +125,8 @@ fn index(x: u16) -> usize
 
 // One past the run of node i, from child to child: the entries of the later nodes are there.
 fn run_end(up: &[u16], stop: &[u16], i: usize, n: usize) -> usize
-    requires { ⌜ (i < n) × (n ≤ length (now up)) × (n ≤ length (now stop)) × (n ≤ 1024) × Ended (take n (now up)) (now stop) (i + 1) ⌝ }
-    ensures { λ r. ⌜ r ≡ endOf (take n (now (up .entry))) i ⌝ }
+    requires { ⌜ (i < n) × (n ≤ length (now up)) × (n ≤ length (now stop)) × (n ≤ 1024) × HasStops (take n (now up)) (now stop) (i + 1) ⌝ }
+    ensures { λ r. ⌜ r ≡ stopIn (take n (now (up .entry))) i ⌝ }
 {
     let mut j = i + 1;
     while j < n {
@@ -141,7 +141,7 @@ fn run_end(up: &[u16], stop: &[u16], i: usize, n: usize) -> usize
 // One past the run of each of n nodes, the last node first.
 fn stops(up: &[u16], n: usize, stop: &mut [u16])
     requires { ⌜ (n ≤ length (now up)) × (n ≤ length (now stop)) × (n ≤ 1024) ⌝ }
-    ensures { λ _. ⌜ now (stop .exit) ≡ laid (endsFrom 0 (take n (now (up .entry)))) (now (stop .entry)) ⌝ }
+    ensures { λ _. ⌜ now (stop .exit) ≡ laid (stopsFrom 0 (take n (now (up .entry)))) (now (stop .entry)) ⌝ }
 {
     let mut i = n;
     while 0 < i {

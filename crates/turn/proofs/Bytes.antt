@@ -8,7 +8,7 @@ use lib.Dec.{eqb}
 use lib.ListN.{length, drop, set, length-append, length-replicate}
 use lib.Seq.{set-at, take-at, drop-at}
 use lib.IntN.{ℤ, pos, negℤ, natAbs}
-use Rattle.field.specs.Field.{leading, textOf, justified, written}
+use Rattle.field.specs.Field.{textOf, justified, written}
 use Rattle.field.proofs.Width.{few-plain, few-columns}
 use Rattle.field.proofs.Bits.{abs-neg}
 use Rattle.line.specs.declared.Head.{Head}
@@ -16,6 +16,7 @@ use Rattle.line.specs.declared.Line.{Line}
 use Rattle.turn.specs.Text.{columns, blank, newline, headerText, letterOf, parentText, weightText, utilityText, lineText}
 use Rattle.turn.specs.Turn.{turnCode, turnLine, turnHead}
 use Rattle.turn.specs.Inside.{turnedAt, Fits}
+use Rattle.turn.proofs.Tree.{code-small}
 
 -- ---- one part among others
 
@@ -64,13 +65,6 @@ parts-long A P W U x a p w u = simp length-append (omega arith)
 pub line-long : (l : Line) → Fits l → length (lineText l) ≡ 25
 line-long l F =
     parts-long (columns 4 (pos (l .node))) (parentText l) (weightText l) (utilityText l) (letterOf (l .kind)) (node-long l F) (parent-long l F) (weight-long l F) (utility-long l F)
-
-code-small : (k : ℕ) → k < 4 → turnCode k < 4
-code-small zero h = omega arith
-code-small (suc zero) h = omega arith
-code-small (suc (suc zero)) h = omega arith
-code-small (suc (suc (suc zero))) h = omega arith
-code-small (suc (suc (suc (suc k)))) h = absurd (omega arith)
 
 pub fits-turned : (l : Line) → Fits l → Fits (turnLine l)
 fits-turned l F =
@@ -127,11 +121,6 @@ pub line-turned : (l : Line) → Fits l → (F R : List ℕ) (at : ℕ) (u : ℤ
 line-turned l fits F R at u f e =
     parts-turned F (columns 4 (pos (l .node))) (parentText l) (weightText l) R at f (node-long l fits) (parent-long l fits) (weight-long l fits)
     (l .kind) u (l .utility) (fits .kind) (fits .utility) e
-
--- "`-0` is not a number": a utility of 0 is turned into 0, and is written so
-pub zero-turned : (l : Line) → l .kind ≡ 0 → l .utility ≡ pos 0 → utilityText (turnLine l) ≡ blank 7 ++ (48 ∷ [])
-unfolding leading
-zero-turned l k u = rw (k, u) refl
 
 -- ---- the ends
 

@@ -4,15 +4,14 @@ use mathlib.Core.Path.{_≡_, refl, sym, ap, ap₂, _∙_}
 use mathlib.Core.List.{List, [], _∷_, _++_}
 use native.Mathlib.Omega.{arith}
 use lib.Dec.{eqb, eqb·suc-zero}
-use lib.ListN.{length, getD, take, drop, take-append-drop, length-drop}
+use lib.ListN.{length, take, drop, take-append-drop, length-drop}
 use lib.Seq.{length-take-le}
 use Rattle.line.specs.declared.Head.{Head}
 use Rattle.line.specs.declared.Line.{Line}
 use Rattle.line.specs.Refusal.{fine}
-use Rattle.line.specs.Line.{Step, Placed, entryOf, nodeLine, Ranged}
-use Rattle.line.proofs.Fine.{line-read}
-use Rattle.table.specs.Table.{Table, prefix, nodeLines, count, readText}
-use Rattle.table.proofs.Grown.{next-fine, prefix-fine}
+use Rattle.line.specs.Line.{Step, Placed, nodeLine, Ranged}
+use Rattle.table.specs.Table.{Table, nodeLines, count, readText}
+use Rattle.table.proofs.Grown.{lines-first}
 use Rattle.table.proofs.Known.{read-length}
 use Rattle.table.proofs.Accepted.{checked, accepted-ranged, accepted-size}
 use Rattle.turn.specs.Text.{headerText, lineText, linesText, tableText}
@@ -39,21 +38,17 @@ module _ (h : Head) (ranged : Ranged h) where
 
   pub first : (n i : ℕ) (P : List Step) (s : List ℕ) (ls : List Line) → length s ≡ 25 * suc n → eqb i 0 ≡ isNone P
       → nodeLines h (suc n) i P s ≡ fine ls → First n i P s ls
-  unfolding nodeLines
   first n i P s ls long root e =
-      let l : List ℕ = take 25 s in
-      let (p, f, g) = next-fine (nodeLine h i P l) (λ (p : Placed). prefix (p .line ∷ []) (nodeLines h n (suc i) (p .steps) (drop 25 s))) ls e in
-      let (rest, more, lines) = prefix-fine (p .line ∷ []) (nodeLines h n (suc i) (p .steps) (drop 25 s)) ls g in
-      let R = line-read h i (entryOf l) (getD l 4 0) (getD l 24 0) P p f in
+      let F = lines-first h n i P s ls e in
       record {
-        placed = p;
-        line = f;
-        said = line-said h i P l p ranged (length-take-le 25 s (omega arith)) root f;
-        rest = rest;
-        lines = lines;
-        root = eqb·suc-zero i ∙ ap isNone (sym (R .steps));
+        placed = F .placed;
+        line = F .line;
+        said = line-said h i P (take 25 s) (F .placed) ranged (length-take-le 25 s (omega arith)) root (F .line);
+        rest = F .rest;
+        lines = F .lines;
+        root = eqb·suc-zero i ∙ ap isNone (sym (F .read .steps));
         long = omega (arith, length-drop 25 s);
-        more = more;
+        more = F .more;
       }
 
 said-text : (s : List ℕ) (l : Line) → Said s l → lineText l ≡ s

@@ -21,7 +21,7 @@ use Rattle.line.proofs.Fine.{Passed, unless-fine}
 use Rattle.turn.specs.Text.{letterOf}
 use Rattle.turn.specs.Turn.{turnCode, turnLine, turnHead}
 use Rattle.turn.proofs.Said.{entryFor, headingFor}
-use Rattle.turn.proofs.Tree.{code-other, code-leaf, code-chance}
+use Rattle.turn.proofs.Tree.{code-other, code-leaf, code-chance, code-small}
 
 pub unless-passed : {A : Type 0} (cs : List Check) (a : A) → Passed cs → unless cs a ≡ fine a
 unfolding unless
@@ -168,13 +168,6 @@ code-back (suc zero) h = refl
 code-back (suc (suc zero)) h = refl
 code-back (suc (suc (suc zero))) h = refl
 code-back (suc (suc (suc (suc k)))) h = absurd (omega arith)
-
-code-small : (k : ℕ) → k < 4 → turnCode k < 4
-code-small zero h = omega arith
-code-small (suc zero) h = omega arith
-code-small (suc (suc zero)) h = omega arith
-code-small (suc (suc (suc zero))) h = omega arith
-code-small (suc (suc (suc (suc k)))) h = absurd (omega arith)
 
 -- a line of the kind k
 abbrev placing : Head → ℕ → ℕ → Above → Entry → Verdict Placed

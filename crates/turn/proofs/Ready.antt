@@ -7,8 +7,8 @@ use native.Mathlib.Omega.{arith}
 use native.Mathlib.Nat.{add-zero}
 use native.Mathlib.Numerals.{add-one}
 use borrow.Author.Tests.{ltb-false}
-use lib.ListN.{length, getD, drop, length-append, length-map}
-use lib.Seq.{take-all, getD-drop, drop-drop}
+use lib.ListN.{length, getD, drop, length-map}
+use lib.Seq.{getD-drop, drop-drop}
 use lib.IntN.{ℤ, pos, negsuc, natAbs}
 use lib.Signed.{ltZ}
 use Rattle.line.specs.declared.Head.{Head}
@@ -23,6 +23,7 @@ use Rattle.table.specs.Accepted.{flat, one, Proper}
 use Rattle.table.proofs.Runs.{size, Numbered}
 use Rattle.table.proofs.Known.{read-numbered, read-size}
 use Rattle.table.proofs.Accepted.{checked, accepted-ranged, accepted-size, accepted-flat, accepted-proper, whole-height}
+use Rattle.table.proofs.Copied.{fitted-all, fitted-long}
 use Rattle.turn.specs.Text.{tableText}
 use Rattle.turn.specs.Turn.{turnedText}
 use Rattle.turn.specs.Inside.{Fits, Lined, Ready, Turned}
@@ -98,12 +99,6 @@ module _ (h : Head) (R : Ranged h) where
       let (a, b) = entry-at kind i (l .kind) (map (λ (l : Line). l .kind) ls ++ x) p in
       let (f, g) = entry-at height i (heightOf (h .lowest) l) (map (heightOf (h .lowest)) ls ++ y) q in
       (s .0, a, (λ z. rw f (whole-height h l (s .1 z) z)), lined kind height (suc i) ls x y b g (s .2))
-
-fitted-all : (xs a : List ℕ) → length xs ≤ length a → fitted xs a ≡ xs ++ drop (length xs) a
-fitted-all xs a h = ap (λ (ys : List ℕ). laid ys a) (take-all (length a) xs h)
-
-fitted-long : (xs a : List ℕ) (n : ℕ) → length xs ≡ n → n ≤ length a → n ≤ length (fitted xs a)
-fitted-long xs a n e h = rw (fitted-all xs a (omega arith)) (omega (arith, length-append xs (drop (length xs) a)))
 
 -- ---- the whole
 

@@ -1,8 +1,9 @@
 -- The turned table's tree, grains and leaves, and that turning twice changes nothing. Assumes nothing.
-use Prim.Native.Nat.{ℕ, zero, suc, _+_}
+use Prim.Native.Nat.{ℕ, zero, suc, _+_, _<_}
 use mathlib.Core.Path.{_≡_, refl, sym, ap, ap₂, _∙_}
 use mathlib.Core.Bool.{Bool, true, false, not, _&&_, cond}
 use mathlib.Core.List.{List, [], _∷_, _++_, map}
+use native.Mathlib.Omega.{arith}
 use borrow.Author.Tests.{eqb-true}
 use lib.Dec.{eqb, leb}
 use lib.ListN.{length, length-map}
@@ -10,7 +11,7 @@ use lib.IntN.{ℤ, pos, negsuc, negℤ}
 use Rattle.line.specs.declared.Line.{Line}
 use Rattle.line.specs.Refusal.{fine}
 use Rattle.table.specs.Tree.{Kind, MAX, MIN, CHANCE, Forest, end, leaf, inner, kindOf, isChance, run, after, grow, forest, isEnd, weigh, nodesWhere, childless, unbalanced, leaves}
-use Rattle.table.specs.Table.{Table, tree, readText, greatest, leafLines, grain}
+use Rattle.table.specs.Table.{Table, tree, readText, greatest, grain}
 use Rattle.turn.specs.Text.{tableText}
 use Rattle.turn.specs.Turn.{turnCode, turnLine, turnTable, turnKind, turnTree}
 use Rattle.turn.proofs.Canonical.{canonical}
@@ -58,6 +59,14 @@ code-leaf k = code-other 0 k refl refl
 
 pub code-chance : (k : ℕ) → eqb (turnCode k) 3 ≡ eqb k 3
 code-chance k = code-other 3 k refl refl
+
+pub code-small : (k : ℕ) → k < 4 → turnCode k < 4
+code-small k h = go (code k)
+  where
+    go : Code k → turnCode k < 4
+    go (code-max e) = rw e (omega arith)
+    go (code-min e) = rw e (omega arith)
+    go (code-kept x y) = rw (x, y) h
 
 code-kind : (k : ℕ) → kindOf (turnCode k) ≡ turnKind (kindOf k)
 code-kind k = go (code k)
@@ -145,14 +154,6 @@ greatest-turned (l ∷ ls) = rw (greatest-turned ls)
 
 pub grain-turned : (t : Table) → grain (turnTable t) ≡ grain t
 grain-turned t = rw (greatest-turned (t .lines))
-
-leaf-lines-turned : (ls : List Line) → leafLines (map turnLine ls) ≡ leafLines ls
-unfolding leafLines
-leaf-lines-turned [] = refl
-leaf-lines-turned (l ∷ ls) = rw (code-leaf (l .kind), leaf-lines-turned ls)
-
-pub leaves-turned : (t : Table) → leafLines (turnTable t .lines) ≡ leafLines (t .lines)
-leaves-turned t = leaf-lines-turned (t .lines)
 
 tree-leaves : (f : Forest ℤ) → leaves (turnTree f) ≡ leaves f
 unfolding leaves turnTree

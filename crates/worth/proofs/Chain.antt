@@ -14,7 +14,7 @@ use Rattle.worth.specs.declared.Scale.{Scale}
 use Rattle.worth.specs.Worth.{Share}
 use Rattle.worth.specs.Heights.{tallest, shortest, heightValue, heightShares}
 use Rattle.worth.specs.Inside.{kindIn, Leads, kindAt, Chain, Ready}
-use Rattle.worth.proofs.Run.{drop-take, lays-none, Child, Front, front, Next, line-same, child-of}
+use Rattle.worth.proofs.Run.{drop-take, lays-none, Child, front, Next, line-same, child-of}
 
 -- ---- the loop
 

@@ -1,34 +1,28 @@
--- The text of an accepted table can be judged, and what `worth` gives for it is the worth of the table. Assumes nothing.
+-- The text of an accepted table can be judged, and what `worth_of` gives for it is the worth of the table. Assumes nothing.
 use Prim.Native.Nat.{ℕ, _*_, _≤_}
 use mathlib.Core.Path.{_≡_, refl, sym, _∙_}
-use mathlib.Core.Bool.{false}
 use mathlib.Core.List.{List}
 use native.Mathlib.Nat.{le-trans}
 use native.Mathlib.Omega.{arith}
-use lib.ListN.{length, drop, length-append, length-drop}
-use lib.Seq.{take-all}
-use Rattle.line.specs.declared.Line.{Line}
+use lib.ListN.{length, drop, length-drop}
 use Rattle.line.specs.Refusal.{fine}
 use Rattle.line.proofs.Signs.{true-ne-false, mag-abs}
-use Rattle.table.specs.Tree.{MAX, Forest, end, leaf, inner, isEnd}
-use Rattle.table.specs.Table.{Table, readText, greatest, grain}
+use Rattle.table.specs.Tree.{MAX, Forest, end, leaf, inner}
+use Rattle.table.specs.Table.{Table, readText, grain}
 use Rattle.table.specs.Accepted.{span, Rooted}
-use Rattle.table.specs.Slices.{ends, stopsOf, fitted, heightTree}
-use Rattle.table.proofs.Accepted.{accepted-ranged, accepted-size, accepted-grain, heights-rooted, heights-proper, heights-filled, heights-balanced}
+use Rattle.table.specs.Slices.{stopsOf, fitted, heightTree}
+use Rattle.table.proofs.Accepted.{accepted-ranged, accepted-size, accepted-grain, heights-rooted, heights-filled}
+use Rattle.table.proofs.Complete.{stops-long}
+use Rattle.table.proofs.Copied.{fitted-long}
 use Rattle.worth.specs.declared.Scale.{Scale}
 use Rattle.worth.specs.Heights.{tallest, heightValue, heightShares, firstHeight, heightWorth}
 use Rattle.worth.specs.Inside.{OkScale, Ready, Worthy}
 use Rattle.worth.proofs.Worth.{rooted-some, heights-small, span-grains}
-use Rattle.worth.proofs.Text.{ends-length, accepted-lent}
+use Rattle.worth.proofs.Text.{accepted-lent}
 
 -- the numbers of a table
 abbrev pub scaleOf : Table → Scale
 scaleOf t = record { total = t .head .total; lowest = t .head .lowest; grain = grain t; top = span (t .head) * grain t }
-
--- a lent slice with room for the ends stays as long as it was
-fitted-long : (ls : List Line) (a : List ℕ) → length ls ≤ length a → length ls ≤ length (fitted (ends ls) a)
-fitted-long ls a h =
-    rw (take-all (length a) (ends ls) (omega (arith, ends-length ls))) (omega (arith, length-append (ends ls) (drop (length (ends ls)) a), ends-length ls))
 
 -- one node is worth to a MAX what it is worth
 root-worth : (T G : ℕ) (f : Forest ℕ) → Rooted f → heightValue T MAX (heightShares T G f) ≡ firstHeight (heightShares T G f)
@@ -49,7 +43,7 @@ module _ (s : List ℕ) (t : Table) (h : readText s ≡ fine t) (a : List ℕ) (
         top = omega (arith, span-grains s t h);
       }
 
-  -- `a` is the slice that was lent for the ends of the runs
+  -- `a` is the slice that was lent for the stops
   pub accepted-ready : Ready (fitted (stopsOf t) a) (scaleOf t) MAX 0 (length (t .lines)) (drop 25 s)
   accepted-ready =
       let z = accepted-size s t h in
@@ -63,7 +57,7 @@ module _ (s : List ℕ) (t : Table) (h : readText s ≡ fine t) (a : List ℕ) (
         };
         some = rooted-some (heightTree t) (heights-rooted s t h);
         long = omega (arith, length-drop 25 s, z .2);
-        room = fitted-long (t .lines) a room;
+        room = fitted-long (stopsOf t) a (length (t .lines)) (stops-long (t .lines)) room;
         few = z .1;
         scale = scale-ok;
       }

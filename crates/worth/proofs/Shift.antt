@@ -41,23 +41,18 @@ Some [] = ⊥
 Some (x ∷ xs) = Unit {0}
 
 module _ (b : ℤ) where
+  lifted : (h : ℕ) → Is (b +ℤ pos h) (plus b + h) (minus b)
+  lifted h = lift b (plus b) (minus b) h (parts b)
+
+  -- a number that lies h above b
+  at-height : (z : ℤ) (p q h : ℕ) → Is z p q → p + minus b ≡ plus b + h + q → z ≡ b +ℤ pos h
+  at-height z p q h i e = is-unique z (b +ℤ pos h) (plus b + h) (minus b) (is-eq z p q (plus b + h) (minus b) i e) (lifted h)
+
   pub max-shift : (x y : ℕ) → maxZ (b +ℤ pos x) (b +ℤ pos y) ≡ b +ℤ pos (max x y)
-  max-shift x y =
-      let p : ℕ = plus b in
-      let q : ℕ = minus b in
-      is-unique (maxZ (b +ℤ pos x) (b +ℤ pos y)) (b +ℤ pos (max x y)) (p + max x y) q
-      (is-eq (maxZ (b +ℤ pos x) (b +ℤ pos y)) (max ((p + x) + q) ((p + y) + q)) (q + q) (p + max x y) q
-      (is-max (b +ℤ pos x) (b +ℤ pos y) (p + x) q (p + y) q (lift b p q x (parts b)) (lift b p q y (parts b))) (omega arith))
-      (lift b p q (max x y) (parts b))
+  max-shift x y = at-height (maxZ (b +ℤ pos x) (b +ℤ pos y)) _ _ (max x y) (is-max (b +ℤ pos x) (b +ℤ pos y) _ _ _ _ (lifted x) (lifted y)) (omega arith)
 
   pub min-shift : (x y : ℕ) → minZ (b +ℤ pos x) (b +ℤ pos y) ≡ b +ℤ pos (min x y)
-  min-shift x y =
-      let p : ℕ = plus b in
-      let q : ℕ = minus b in
-      is-unique (minZ (b +ℤ pos x) (b +ℤ pos y)) (b +ℤ pos (min x y)) (p + min x y) q
-      (is-eq (minZ (b +ℤ pos x) (b +ℤ pos y)) (min ((p + x) + q) ((p + y) + q)) (q + q) (p + min x y) q
-      (is-min (b +ℤ pos x) (b +ℤ pos y) (p + x) q (p + y) q (lift b p q x (parts b)) (lift b p q y (parts b))) (omega arith))
-      (lift b p q (min x y) (parts b))
+  min-shift x y = at-height (minZ (b +ℤ pos x) (b +ℤ pos y)) _ _ (min x y) (is-min (b +ℤ pos x) (b +ℤ pos y) _ _ _ _ (lifted x) (lifted y)) (omega arith)
 
   -- ---- one node
 
@@ -96,10 +91,10 @@ module _ (b : ℤ) where
       let p : ℕ = plus b in
       let q : ℕ = minus b in
       let s : ℕ = summed xs in
-      is-unique (floorZ (weighted (map (raised b) xs)) T) (b +ℤ pos (s / T)) (p + s / T) q
+      at-height (floorZ (weighted (map (raised b) xs)) T) (p + s / T) q (s / T)
       (is-floor T (weighted (map (raised b) xs)) (T * p + s) (T * q) (p + s / T) q some (weighted-full T xs e)
       (omega (arith, mul-div-le s T)) (omega (arith, lt-mul-div-succ s some)))
-      (lift b p q (s / T) (parts b))
+      refl
 
   value-shift : (T : ℕ) (k : Kind) (xs : List (Share ℕ)) → 0 < T → Some xs → (isChance k ≡ true → weights xs ≡ T)
       → value T k (map (raised b) xs) ≡ b +ℤ pos (heightValue T k xs)
@@ -114,7 +109,7 @@ module _ (b : ℤ) where
       let p : ℕ = plus b in
       let q : ℕ = minus b in
       is-unique (pos T *ℤ (b +ℤ pos v)) (weighted (map (raised b) xs)) (T * (p + v)) (T * q)
-      (is-mul T (b +ℤ pos v) (p + v) q (lift b p q v (parts b)))
+      (is-mul T (b +ℤ pos v) (p + v) q (lifted v))
       (is-eq (weighted (map (raised b) xs)) (T * p + summed xs) (T * q) (T * (p + v)) (T * q) (weighted-full T xs e) (omega arith))
 
   pub first-shift : (xs : List (Share ℕ)) → Some xs → firstWorth (map (raised b) xs) ≡ b +ℤ pos (firstHeight xs)

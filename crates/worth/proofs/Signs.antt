@@ -2,7 +2,7 @@
 use Prim.Native.Nat.{ℕ, zero, suc, _+_, _*_, _-_, _/_, min, max, _≤_, _<_}
 use mathlib.Core.Path.{_≡_, refl, ap}
 use mathlib.Core.Bool.{Bool, true, false, not, cond}
-use native.Mathlib.Nat.{le-div-iff-mul-le, div-lt-iff-lt-mul, lt-of-mul-lt-mul-left}
+use native.Mathlib.Nat.{add-comm, le-div-iff-mul-le, div-lt-iff-lt-mul, lt-of-mul-lt-mul-left}
 use native.Mathlib.Omega.{arith}
 use lib.Dec.{T as Holds, leb, ltb, leb→le, le→leb, ltb→lt, nltb→le, nleb→lt}
 use lib.IntN.{ℤ, pos, negsuc, negℤ, subℕ, _+ℤ_, _-ℤ_, _*ℤ_}
@@ -79,23 +79,22 @@ is-le (negsuc m) (negsuc n) a b c d p q =
     (λ h. le→leb (a + d) (c + b) (omega (arith, leb→le n m h)))
     (λ h. le→leb n m (omega (arith, leb→le (a + d) (c + b) h)))
 
-is-max-pick : (t : Bool) (y z : ℤ) (a b c d : ℕ)
-    → (Holds t → a + d ≤ c + b) → (Holds (not t) → c + b < a + d) → Is y a b → Is z c d → Is (cond t z y) (max (a + d) (c + b)) (b + d)
-is-max-pick true y z a b c d f g p q = is-eq z c d _ _ q (omega (arith, f tt))
-is-max-pick false y z a b c d f g p q = is-eq y a b _ _ p (omega (arith, g tt))
+-- the one of two numbers that a test t picks
+is-either : (t : Bool) (y z : ℤ) (a b c d m : ℕ) → Is y a b → Is z c d → (Holds t → m ≡ c + b) → (Holds (not t) → m ≡ a + d) → Is (cond t z y) m (b + d)
+is-either true y z a b c d m p q f g = is-eq z c d m (b + d) q (omega (arith, f tt))
+is-either false y z a b c d m p q f g = is-eq y a b m (b + d) p (omega (arith, g tt))
 
 pub is-max : (y z : ℤ) (a b c d : ℕ) → Is y a b → Is z c d → Is (maxZ y z) (max (a + d) (c + b)) (b + d)
 unfolding maxZ
-is-max y z a b c d p q = rw (is-le y z a b c d p q) (is-max-pick (leb (a + d) (c + b)) y z a b c d (leb→le _ _) (nleb→lt _ _) p q)
-
-is-min-pick : (t : Bool) (y z : ℤ) (a b c d : ℕ)
-    → (Holds t → a + d ≤ c + b) → (Holds (not t) → c + b < a + d) → Is y a b → Is z c d → Is (cond t y z) (min (a + d) (c + b)) (b + d)
-is-min-pick true y z a b c d f g p q = is-eq y a b _ _ p (omega (arith, f tt))
-is-min-pick false y z a b c d f g p q = is-eq z c d _ _ q (omega (arith, g tt))
+is-max y z a b c d p q =
+    rw (is-le y z a b c d p q) (is-either (leb (a + d) (c + b)) y z a b c d (max (a + d) (c + b)) p q
+    (λ h. omega (arith, leb→le (a + d) (c + b) h)) (λ h. omega (arith, nleb→lt (a + d) (c + b) h)))
 
 pub is-min : (y z : ℤ) (a b c d : ℕ) → Is y a b → Is z c d → Is (minZ y z) (min (a + d) (c + b)) (b + d)
 unfolding minZ
-is-min y z a b c d p q = rw (is-le y z a b c d p q) (is-min-pick (leb (a + d) (c + b)) y z a b c d (leb→le _ _) (nleb→lt _ _) p q)
+is-min y z a b c d p q =
+    rw (is-le y z a b c d p q, add-comm b d) (is-either (leb (a + d) (c + b)) z y c d a b (min (a + d) (c + b)) q p
+    (λ h. omega (arith, leb→le (a + d) (c + b) h)) (λ h. omega (arith, nleb→lt (a + d) (c + b) h)))
 
 -- m - n is the quotient of a - b by w, rounded down
 pub is-floor : (w : ℕ) (z : ℤ) (a b m n : ℕ) → 0 < w → Is z a b → w * m + b ≤ a + w * n → a + w * n < w * m + w + b → Is (floorZ z w) m n
@@ -109,8 +108,8 @@ is-floor w (pos x) a b m n w-pos p l u =
     omega arith
 is-floor w (negsuc x) a b m n w-pos p l u =
     let d : m < n = lt-of-mul-lt-mul-left w (omega arith) in
-    let e : n ≡ m + suc (n - suc m) = omega arith in
-    let f : w * n ≡ w * (m + suc (n - suc m)) = ap (λ y. w * y) e in
-    let low : n - suc m ≤ x / w = le-div-iff-mul-le w-pos .1 (omega arith) in
-    let high : x / w < suc (n - suc m) = div-lt-iff-lt-mul w-pos .1 (omega arith) in
-    omega arith
+    let e : n ≡ m + (n - m) = omega arith in
+    let f : w * n ≡ w * (m + (n - m)) = ap (λ y. w * y) e in
+    let low : n - m ≤ (suc x + (w - 1)) / w = le-div-iff-mul-le w-pos .1 (omega arith) in
+    let high : (suc x + (w - 1)) / w < suc (n - m) = div-lt-iff-lt-mul w-pos .1 (omega arith) in
+    is-neg (pos ((suc x + (w - 1)) / w)) n m (omega arith)

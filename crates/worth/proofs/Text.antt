@@ -1,12 +1,12 @@
 -- The text of an accepted table holds its tree: its lines are laid out as its nodes. Assumes nothing.
 use Prim.Native.Nat.{ℕ, zero, suc, _+_, _-_, _*_, _^_, _≤_, _<_}
 use mathlib.Core.Path.{_≡_, refl, sym, ap, subst, _∙_}
-use mathlib.Core.Bool.{Bool, true, false, not, cond}
-use mathlib.Core.List.{List, [], _∷_, _++_, map}
+use mathlib.Core.Bool.{false, not}
+use mathlib.Core.List.{List, [], _∷_, map}
 use native.Mathlib.Omega.{arith}
 use borrow.Author.Tests.{eqb-true, ltb-false, not-false}
 use lib.ListN.{length, getD, take, drop, length-drop}
-use lib.Seq.{take-all, length-take-le, drop-drop}
+use lib.Seq.{length-take-le, drop-drop}
 use lib.Dec.{eqb}
 use lib.IntN.{ℤ, pos, negsuc, natAbs}
 use lib.Signed.{mag, ltZ}
@@ -17,21 +17,21 @@ use Rattle.field.specs.declared.Field.the-variants.{Blank, Ill, Number}
 use Rattle.field.proofs.Columns.{allOf, Means, all-means, count-last, known-last}
 use Rattle.line.specs.declared.Head.{Head}
 use Rattle.line.specs.declared.Line.{Line}
-use Rattle.line.specs.declared.Refusal.{Refusal}
-use Rattle.line.specs.declared.Refusal.the-variants.{Length, Childless, WrongSum}
-use Rattle.line.specs.Refusal.{Verdict, refused, fine, unlessAt, next}
-use Rattle.line.specs.Line.{isIll, isBlank, outside, valueOf, countOf, Ranged, Step, Above, ancestors, stepsOf, stepped, letterCode, entryOf, illEntry, wideEntry, lineChecks, placed, Placed, nodeLine, header}
+use Rattle.line.specs.Refusal.{fine}
+use Rattle.line.specs.Line.{isIll, isBlank, outside, valueOf, countOf, Ranged, Step, Above, ancestors, stepsOf, stepped, letterCode, entryOf, illEntry, wideEntry, lineChecks, placed, Placed, nodeLine}
 use Rattle.line.proofs.Signs.{true-ne-false, mag-abs}
 use Rattle.line.proofs.Checks.{or-left, or-right}
-use Rattle.line.proofs.Fine.{unless-fine, unlessAt-fine, nor9, inside-mag}
-use Rattle.table.specs.Tree.{Forest, end, leaf, inner, childless, unbalanced}
-use Rattle.table.specs.Table.{Table, badLength, prefix, nodeLines, tree, complete, count, readText}
-use Rattle.table.specs.Slices.{heightOf, ends, stopsOf, fitted, Slices, Spans, heightTree, slicesOf}
-use Rattle.table.proofs.Accepted.{accepted-ranged, accepted-spans}
-use Rattle.table.proofs.Grown.{fine-refused, next-fine}
+use Rattle.line.proofs.Fine.{unless-fine, nor9, inside-mag}
+use Rattle.table.specs.Tree.{Forest, end, leaf, inner}
+use Rattle.table.specs.Table.{Table, nodeLines, count, readText}
+use Rattle.table.specs.Slices.{heightOf, kindsOf, stopsOf, weightsOf, heightsOf, fitted, Slices, Spans, heightTree, slicesOf}
+use Rattle.table.proofs.Accepted.{checked, accepted-ranged, accepted-spans}
+use Rattle.table.proofs.Complete.{stops-long, spans-same}
+use Rattle.table.proofs.Copied.{fitted-at}
+use Rattle.table.proofs.Grown.{lines-first}
 use Rattle.table.proofs.Spans.{spans-le}
 use Rattle.worth.specs.Inside.{kindIn, weightIn, heightIn, Lays}
-use Rattle.worth.proofs.Run.{drop-take, line-within, lays-le}
+use Rattle.worth.proofs.Run.{drop-take, line-within}
 
 -- ---- what the lines say
 
@@ -101,11 +101,6 @@ spans-lay lo t c e s (inner n w k under rest) x told =
     )
 
 -- ---- the lines that were read
-
-pub prefix-fine : (done : List Line) (v : Verdict (List Line)) (ls : List Line) → prefix done v ≡ fine ls
-    → (rest : List Line) × (v ≡ fine rest) × (ls ≡ done ++ rest)
-prefix-fine done (refused r) ls e = fine-refused r ls e
-prefix-fine done (fine rest) ls e = (rest, refl, cc)
 
 -- a field that is not ill-written is read the same without a test of its columns
 means-value : (z : ℤ) (f : Field) → isIll f ≡ false → Means z f → z ≡ valueOf f
@@ -196,11 +191,11 @@ module _ (h : Head) (lo : ℤ) (ok : Ranged h) where
   unfolding nodeLines
   lines-say zero i P s ls e m l = let f : [] ≡ ls = cc in absurd (omega (arith, ap length f))
   lines-say (suc n) i P s ls e m l =
-      let (p, f, g) = next-fine (nodeLine h i P (take 25 s)) (λ (p : Placed). prefix (p .line ∷ []) (nodeLines h n (suc i) (p .steps) (drop 25 s))) ls e in
-      let (rest, more, lines) = prefix-fine (p .line ∷ []) (nodeLines h n (suc i) (p .steps) (drop 25 s)) ls g in
-      let d : m < suc (length rest) = omega (arith, l, ap length lines) in
-      subst (λ (x : List Line). SaysOf x m (take 25 (drop (25 * m) s))) (sym lines)
-      (go p rest (placed-says i P (take 25 s) p f) (lines-say n (suc i) (p .steps) (drop 25 s) rest more) m d)
+      let F = lines-first h n i P s ls e in
+      let p = F .placed in
+      let d : m < suc (length (F .rest)) = omega (arith, l, ap length (F .lines)) in
+      subst (λ (x : List Line). SaysOf x m (take 25 (drop (25 * m) s))) (sym (F .lines))
+      (go p (F .rest) (placed-says i P (take 25 s) p (F .line)) (lines-say n (suc i) (p .steps) (drop 25 s) (F .rest) (F .more)) m d)
     where
       go : (p : Placed) (rest : List Line) → Says lo (take 25 s) (p .line .kind) (p .line .weight) (heightOf lo (p .line))
           → ((m : ℕ) → m < length rest → SaysOf rest m (take 25 (drop (25 * m) (drop 25 s))))
@@ -212,83 +207,26 @@ module _ (h : Head) (lo : ℤ) (ok : Ranged h) where
 
 -- ---- an accepted table
 
-completed : (a t : Table) → complete a ≡ fine t → a ≡ t
-unfolding complete
-completed a t e =
-    let f : ℕ → Refusal = λ n. Childless (n + 1) in
-    let g : ℕ → Refusal = λ n. WrongSum (n + 1) in
-    let (b, p, q) = next-fine (unlessAt f (childless (tree a)) a) (λ (t : Table). unlessAt g (unbalanced (t .head .total) (tree t)) t) t e in
-    unlessAt-fine f (childless (tree a)) a b p .1 ∙ unlessAt-fine g (unbalanced (b .head .total) (tree b)) b t q .1
-
-pub lines-read : (s : List ℕ) (t : Table) → readText s ≡ fine t → nodeLines (t .head) (count s) 0 [] (drop 25 s) ≡ fine (t .lines)
-unfolding readText
-lines-read s t e = go (badLength (length s)) e
-  where
-    on : Head → Verdict Table
-    on h = next (nodeLines h (count s) 0 [] (drop 25 s)) (λ (ls : List Line). complete (record { head = h; lines = ls }))
-
-    go : (b : Bool) → cond b (refused Length) (next (header (count s) (take 25 s)) on) ≡ fine t → nodeLines (t .head) (count s) 0 [] (drop 25 s) ≡ fine (t .lines)
-    go true e = fine-refused Length t e
-    go false e =
-        let (h, head, f) = next-fine (header (count s) (take 25 s)) on t e in
-        let (ls, lines, g) = next-fine (nodeLines h (count s) 0 [] (drop 25 s)) (λ (ls : List Line). complete (record { head = h; lines = ls })) t f in
-        subst (λ (x : Table). nodeLines (x .head) (count s) 0 [] (drop 25 s) ≡ fine (x .lines)) (completed (record { head = h; lines = ls }) t g) lines
-
-pub accepted-lays : (s : List ℕ) (t : Table) → readText s ≡ fine t → Lays (stopsOf t) (t .head .lowest) 0 (length (t .lines)) (drop 25 s) (heightTree t)
-accepted-lays s t h = spans-lay lo (slicesOf t) 0 (length (t .lines)) (drop 25 s) (heightTree t) (accepted-spans s t h) told
+-- `a` is the slice that was lent for the stops, as `table::read` leaves it
+pub accepted-lent : (s : List ℕ) (t : Table) → readText s ≡ fine t → (a : List ℕ) → length (t .lines) ≤ length a
+    → Lays (fitted (stopsOf t) a) (t .head .lowest) 0 (length (t .lines)) (drop 25 s) (heightTree t)
+accepted-lent s t h a room =
+    spans-lay lo lent 0 n (drop 25 s) (heightTree t) (spans-same (slicesOf t) lent n same 0 n (heightTree t) (omega arith) (accepted-spans s t h)) told
   where
     lo : ℤ
     lo = t .head .lowest
 
-    told : Told lo (slicesOf t) 0 (length (t .lines)) (drop 25 s)
+    n : ℕ
+    n = length (t .lines)
+
+    lent : Slices
+    lent = record { kinds = kindsOf t; stops = fitted (stopsOf t) a; weights = weightsOf t; heights = heightsOf t }
+
+    same : (i : ℕ) → i < n → (getD (kindsOf t) i 0 ≡ getD (kindsOf t) i 0) × (getD (fitted (stopsOf t) a) i 0 ≡ getD (stopsOf t) i 0) × (getD (weightsOf t) i 0 ≡ getD (weightsOf t) i 0) × (getD (heightsOf t) i 0 ≡ getD (heightsOf t) i 0)
+    same i l = (refl, fitted-at (stopsOf t) a n i (stops-long (t .lines)) room l, refl, refl)
+
+    told : Told lo lent 0 n (drop 25 s)
     told m l =
         let z : m ≡ 0 + m = omega arith in
-        subst (λ (n : ℕ). SaysAt lo (slicesOf t) n (take 25 (drop (25 * m) (drop 25 s)))) z
-        (lines-say (t .head) lo (accepted-ranged s t h) (count s) 0 [] (drop 25 s) (t .lines) (lines-read s t h) m (omega arith))
-
--- ---- a lent slice that begins with the same ends
-
-lays-other : (S U : List ℕ) (lo : ℤ) (c e : ℕ) (s : List ℕ) (f : Forest ℕ) → ((m : ℕ) → m < e → getD U m 0 ≡ getD S m 0) → Lays S lo c e s f → Lays U lo c e s f
-unfolding Lays
-lays-other S U lo c e s end same l = l
-lays-other S U lo c e s (leaf n w h rest) same l =
-    let j : ℕ = getD S c 0 in
-    let q : getD U c 0 ≡ j = same c (omega (arith, l .1, lays-le S lo j e (drop (25 * (j - c)) s) rest (l .4))) in (
-      l .0,
-      q ∙ l .1,
-      l .2,
-      l .3,
-      subst (λ (i : ℕ). Lays U lo i e (drop (25 * (i - c)) s) rest) (sym q) (lays-other S U lo j e (drop (25 * (j - c)) s) rest same (l .4)),
-    )
-lays-other S U lo c e s (inner n w k under rest) same l =
-    let j : ℕ = getD S c 0 in
-    let part : List ℕ = take (25 * (j - (c + 1))) (drop 25 s) in
-    let a : c + 1 ≤ j = lays-le S lo (c + 1) j part under (l .2) in
-    let b : j ≤ e = lays-le S lo j e (drop (25 * (j - c)) s) rest (l .3) in
-    let q : getD U c 0 ≡ j = same c (omega arith) in (
-      l .0,
-      l .1,
-      subst (λ (i : ℕ). Lays U lo (c + 1) i (take (25 * (i - (c + 1))) (drop 25 s)) under) (sym q)
-          (lays-other S U lo (c + 1) j part under (λ m d. same m (omega arith)) (l .2)),
-      subst (λ (i : ℕ). Lays U lo i e (drop (25 * (i - c)) s) rest) (sym q) (lays-other S U lo j e (drop (25 * (j - c)) s) rest same (l .3)),
-    )
-
-getD-front : (xs ys : List ℕ) (m : ℕ) → m < length xs → getD (xs ++ ys) m 0 ≡ getD xs m 0
-getD-front [] ys m h = absurd (omega arith)
-getD-front (x ∷ xs) ys zero h = refl
-getD-front (x ∷ xs) ys (suc m) h = getD-front xs ys m (omega arith)
-
-pub ends-length : (ls : List Line) → length (ends ls) ≡ length ls
-unfolding ends
-ends-length [] = refl
-ends-length (l ∷ ls) = omega (arith, ends-length ls)
-
--- the slice that `table::read` leaves, where it has room
-pub accepted-lent : (s : List ℕ) (t : Table) → readText s ≡ fine t → (a : List ℕ) → length (t .lines) ≤ length a
-    → Lays (fitted (stopsOf t) a) (t .head .lowest) 0 (length (t .lines)) (drop 25 s) (heightTree t)
-accepted-lent s t h a room =
-    lays-other (stopsOf t) (fitted (stopsOf t) a) (t .head .lowest) 0 (length (t .lines)) (drop 25 s) (heightTree t)
-    (λ m l.
-    rw (take-all (length a) (stopsOf t) (omega (arith, ends-length (t .lines))))
-    (getD-front (stopsOf t) (drop (length (stopsOf t)) a) m (omega (arith, ends-length (t .lines)))))
-    (accepted-lays s t h)
+        subst (λ (n : ℕ). SaysAt lo lent n (take 25 (drop (25 * m) (drop 25 s)))) z
+        (lines-say (t .head) lo (accepted-ranged s t h) (count s) 0 [] (drop 25 s) (t .lines) (checked s t h .lines) m (omega arith))

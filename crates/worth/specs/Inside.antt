@@ -65,10 +65,11 @@ takeAll k a (x ∷ xs) = takeAll k (taken k a (x .weight) (x .worth)) xs
 abbrev pub Leads : ℕ → ℕ → ℕ → ℕ → Type 0
 Leads k q s e = (isChance (kindOf k) ≡ false) × (q ≡ 0 → ⊥) × (s ≡ e)
 
--- so is each node from i up to j of the lines s, nodes c on
+-- the number of node k's kind, in the lines s of the nodes from c on
 abbrev pub kindAt : List ℕ → ℕ → ℕ → ℕ
 kindAt s c k = kindIn (take 25 (drop (25 * (k - c)) s))
 
+-- each node from i up to j is worth what its first child is; their runs end at e
 abbrev pub Chain : List ℕ → List ℕ → ℕ → ℕ → ℕ → ℕ → Type 0
 Chain S s c e i j = (k : ℕ) → i ≤ k → k < j → Leads (kindAt s c k) (kindAt s c (k + 1)) (getD S (k + 1) 0) e
 

@@ -1,10 +1,10 @@
 -- The worth of a table: equation (1) of document 000, in whole grains. Document 01, 'Grains'. Assumes nothing.
-use Prim.Native.Nat.{ℕ}
+use Prim.Native.Nat.{ℕ, suc, _+_, _-_, _/_}
 use mathlib.Core.Bool.{true, cond}
 use mathlib.Core.List.{List, [], _∷_}
 use mathlib.Core.Path.{_≡_}
-use lib.IntN.{ℤ, pos, _+ℤ_, _*ℤ_}
-use lib.Signed.{leZ, shrZ}
+use lib.IntN.{ℤ, pos, negsuc, negℤ, _+ℤ_, _*ℤ_}
+use lib.Signed.{leZ}
 use Rattle.table.specs.Tree.{Kind, MAX, MIN, CHANCE, Forest, end, leaf, inner, isChance}
 use Rattle.table.specs.Table.{Table, tree, grain}
 
@@ -15,9 +15,11 @@ maxZ a b = cond (leZ a b) b a
 unfoldable pub minZ : ℤ → ℤ → ℤ
 minZ a b = cond (leZ a b) a b
 
--- z divided by n, rounded down; `Exact` below says that nothing is rounded
+-- A number divided by d, rounded down. Below zero, at minus n + 1, it is minus the quotient of n + 1 rounded up. `Exact` below says that
+-- nothing is rounded.
 unfoldable pub floorZ : ℤ → ℕ → ℤ
-floorZ z n = shrZ z n
+floorZ (pos n) d = pos (n / d)
+floorZ (negsuc n) d = negℤ (pos ((suc n + (d - 1)) / d))
 
 -- a child of a node, as its parent sees it: its weight where the parent is a C, and its worth
 pub record Share (A : Type 0) : Type 0 where

@@ -1,4 +1,4 @@
--- `table::natural` meets its contract. Assumes nothing.
+-- `line::natural` meets its contract. Assumes nothing.
 use mir.Syntax.{w64}
 use mir.ValLaws.{toZ-ofZ}
 use Rattle.line.proofs.Signs.{nat-neg, nat-abs, nat-casts}

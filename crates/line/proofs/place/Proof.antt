@@ -8,8 +8,8 @@ use borrow.Author.Needs.{needs}
 use denote.Ref.{now}
 use Rattle.line.specs.declared.Found.{Found}
 use Rattle.line.specs.declared.Found.the-variants.{At}
-use Rattle.line.specs.Line.{illEntry, placingOf}
-use Rattle.line.specs.Inside.{pathOf, aboveShown, Upto}
+use Rattle.line.specs.Line.{illEntry}
+use Rattle.line.specs.Inside.{pathOf, aboveShown, placingOf, Upto}
 use Rattle.line.proofs.Checks.{place-ill, place-number, place-kind, place-parent, place-on}
 use Rattle.line.proofs.place.Statement.{statement}
 use Rattle.line.proofs.place.Tie as tie

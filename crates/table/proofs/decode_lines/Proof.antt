@@ -10,7 +10,7 @@ use Rattle.table.specs.declared.Lines
 use Rattle.table.specs.declared.Lines.{Lines}
 use Rattle.line.specs.Refusal.{Verdict, refused}
 use Rattle.table.specs.Table.{nodeLines, linesOf}
-use Rattle.table.specs.Slices.{ends, laid}
+use Rattle.table.specs.Slices.{lineStops, laid}
 use Rattle.table.specs.Inside.{Gathered}
 use Rattle.table.proofs.Complete.{Lined, gathered-lined, gathered-refusal, stops-are, has, decoded-all}
 use Rattle.table.proofs.Grown.{lines-counted}
@@ -50,7 +50,7 @@ most-of c = c .before .before .before .before
 stopped : (c : tie.After-stops)
     → let M = most-of c in
     let N = lines-of M in
-    c .stops .last .1 .1 .0 ≡ laid (ends (lined M .lines)) (now (start N .args .stop))
+    c .stops .last .1 .1 .0 ≡ laid (lineStops (lined M .lines)) (now (start N .args .stop))
 stopped c =
     let M = most-of c in
     let N = lines-of M in

@@ -7,8 +7,8 @@ use borrow.Author.Needs.{needs}
 use denote.Ref.{now}
 use lib.ListN.{length, getD, take, drop}
 use lib.Seq.{getD-take, length-take-le}
-use Rattle.table.specs.Inside.{reach, endOf, Ended}
-use Rattle.table.proofs.Reach.{end-here, end-on, end-within, end-last}
+use Rattle.table.specs.Inside.{reach, stopIn, HasStops}
+use Rattle.table.proofs.Reach.{stop-here, stop-on, stop-within, stop-last}
 use Rattle.table.proofs.run_end.Statement.{statement}
 use Rattle.table.proofs.run_end.Tie as tie
 
@@ -19,8 +19,8 @@ Inv-loop up stop i n j₀ j =
     × (n ≤ length up)
     × (n ≤ length stop)
     × (n ≤ 1024)
-    × Ended (take n up) stop (i + 1)
-    × (endOf (take n up) i ≡ j + reach i (drop j (take n up)))
+    × HasStops (take n up) stop (i + 1)
+    × (stopIn (take n up) i ≡ j + reach i (drop j (take n up)))
 
 abbrev μ-loop : tie.MeasureT-loop
 μ-loop up stop i n j₀ j = n - j
@@ -50,7 +50,7 @@ returns c =
     let a = l .before .before .before .args in
     let up = now (a .up) in
     let w = within (a .n) up (l .loop .inv .2) (l .loop .j) (omega (arith, c .before .before .before .loop-test .taken)) in
-    end-here (take (a .n) up) (a .i) (l .loop .j) (l .loop .inv .6) (w .0) (omega (arith, w .1, c .before .index .ensures, c .if1 .taken))
+    stop-here (take (a .n) up) (a .i) (l .loop .j) (l .loop .inv .6) (w .0) (omega (arith, w .1, c .before .index .ensures, c .if1 .taken))
 
 mul-index-2 : tie.Need-mul-index-2 Inv-loop μ-loop
 mul-index-2 c = omega arith
@@ -61,11 +61,11 @@ shared-slice-read-index-2 c = omega arith
 index-requires-2 : tie.Need-index-requires-2 Inv-loop μ-loop
 index-requires-2 c κs = search needs
 
--- the next node is the end of a child's run
+-- the next node is one past a child's run
 next-is : (c : tie.After-index2 Inv-loop μ-loop)
     → let l = c .before .before .before .before .before .before in
     let a = l .before .before .before .args in
-    (l .loop .j < length (take (a .n) (now (a .up)))) × (a .i ≤ getD (take (a .n) (now (a .up))) (l .loop .j) 0) × (c .index2 .result ≡ endOf (take (a .n) (now (a .up))) (l .loop .j)) × (endOf (take (a .n) (now (a .up))) (l .loop .j) ≤ a .n)
+    (l .loop .j < length (take (a .n) (now (a .up)))) × (a .i ≤ getD (take (a .n) (now (a .up))) (l .loop .j) 0) × (c .index2 .result ≡ stopIn (take (a .n) (now (a .up))) (l .loop .j)) × (stopIn (take (a .n) (now (a .up))) (l .loop .j) ≤ a .n)
 next-is c =
     let l = c .before .before .before .before .before .before in
     let a = l .before .before .before .args in
@@ -74,7 +74,7 @@ next-is c =
       w .0,
       omega (arith, w .1, c .before .before .before .index .ensures, c .before .before .if1 .left),
       c .index2 .ensures ∙ l .loop .inv .5 (l .loop .j) (omega (arith, l .loop .inv .0)) (w .0),
-      omega (arith, end-within (take (a .n) up) (a .i) (l .loop .j) (l .loop .inv .6) (w .0), length-take-le (a .n) up (l .loop .inv .2)),
+      omega (arith, stop-within (take (a .n) up) (a .i) (l .loop .j) (l .loop .inv .6) (w .0), length-take-le (a .n) up (l .loop .inv .2)),
     )
 
 loop-less : tie.Need-loop-less Inv-loop μ-loop
@@ -95,14 +95,14 @@ loop-again c =
       v .3,
       v .4,
       v .5,
-      rw (e .2) (end-on (take (a .n) (now (a .up))) (a .i) (l .loop .j) (v .6) (e .0) (e .1) (omega (arith, v .0))),
+      rw (e .2) (stop-on (take (a .n) (now (a .up))) (a .i) (l .loop .j) (v .6) (e .0) (e .1) (omega (arith, v .0))),
     )
 
 returns-2 : tie.Need-returns-2 Inv-loop μ-loop
 returns-2 c =
     let l = c .before in
     let a = l .before .before .before .args in
-    end-last (take (a .n) (now (a .up))) (a .i) (l .loop .j) (l .loop .inv .6) (omega (arith, length-take-le (a .n) (now (a .up)) (l .loop .inv .2), c .loop-test .left))
+    stop-last (take (a .n) (now (a .up))) (a .i) (l .loop .j) (l .loop .inv .6) (omega (arith, length-take-le (a .n) (now (a .up)) (l .loop .inv .2), c .loop-test .left))
 
 pub run-end-spec : {M : Type 1} → statement M
 run-end-spec =

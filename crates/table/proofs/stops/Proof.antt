@@ -5,8 +5,8 @@ use native.Mathlib.Omega.{arith}
 use denote.Ref.{now}
 use lib.ListN.{length, take, drop, length-set}
 use lib.Seq.{length-take-le, drop-set-lt}
-use Rattle.table.specs.Inside.{Ended}
-use Rattle.table.proofs.Reach.{end-small, ended-laid, ended-more}
+use Rattle.table.specs.Inside.{HasStops}
+use Rattle.table.proofs.Reach.{stop-small, stops-laid, stops-more}
 use Rattle.table.proofs.stops.Statement.{statement}
 use Rattle.table.proofs.stops.Tie as tie
 
@@ -17,7 +17,7 @@ Inv-loop up n stop₀ i₀ stop i =
     × (n ≤ length stop₀)
     × (n ≤ 1024)
     × (length stop ≡ length stop₀)
-    × Ended (take n up) stop i
+    × HasStops (take n up) stop i
     × (drop n stop ≡ drop n stop₀)
 
 abbrev μ-loop : tie.MeasureT-loop
@@ -46,7 +46,7 @@ cast-stop c =
     let v = l .loop .inv in
     let t = c .before .before .loop-test .taken in
     let len = length-take-le (a .n) (now (a .up)) (v .1) in
-    omega (arith, c .run-end .ensures, end-small (take (a .n) (now (a .up))) (l .loop .i - 1) (omega (arith, len, v .0)), len, v .3)
+    omega (arith, c .run-end .ensures, stop-small (take (a .n) (now (a .up))) (l .loop .i - 1) (omega (arith, len, v .0)), len, v .3)
 
 mul-stop : tie.Need-mul-stop Inv-loop μ-loop
 mul-stop c = let v = c .before .before .before .loop .inv in omega (arith, v .0, v .3)
@@ -69,7 +69,7 @@ loop-again c =
       v .2,
       v .3,
       length-set (l .loop .stop) (l .loop .i - 1) (c .run-end .result) ∙ v .4,
-      ended-more (take (a .n) (now (a .up))) (l .loop .stop) (l .loop .i - 1) (c .run-end .result) (rw e (v .5)) (c .run-end .ensures) (omega (arith, v .0, v .2, v .4)),
+      stops-more (take (a .n) (now (a .up))) (l .loop .stop) (l .loop .i - 1) (c .run-end .result) (rw e (v .5)) (c .run-end .ensures) (omega (arith, v .0, v .2, v .4)),
       drop-set-lt (a .n) (l .loop .stop) (l .loop .i - 1) (c .run-end .result) (omega (arith, v .0)) ∙ v .6,
     )
 
@@ -83,7 +83,7 @@ returns c =
     let v = l .loop .inv in
     let len = length-take-le (a .n) (now (a .up)) (v .1) in
     let z : l .loop .i ≡ 0 = omega (arith, c .loop-test .left) in
-    ended-laid (take (a .n) (now (a .up))) (l .loop .stop) (now (a .stop)) (rw z at (v .5)) (omega (arith, len, v .2)) (v .4) (rw len (v .6))
+    stops-laid (take (a .n) (now (a .up))) (l .loop .stop) (now (a .stop)) (rw z at (v .5)) (omega (arith, len, v .2)) (v .4) (rw len (v .6))
 
 pub stops-spec : {M : Type 1} → statement M
 stops-spec =
