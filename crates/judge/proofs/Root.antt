@@ -1,12 +1,12 @@
 -- A root with all under it in the lines: its children by number, the best worth, and the judgement. Assumes nothing.
 use Prim.Native.Nat.{ℕ, zero, suc, _+_, _-_, _*_, _≤_, _<_}
 use mathlib.Core.Path.{_≡_, refl, sym, ap, ap₂, subst, _∙_}
-use mathlib.Core.List.{List, [], _∷_}
+use mathlib.Core.List.{List, []}
 use mathlib.Core.Option.{Option, none, some}
 use native.Mathlib.Decide.{decLe}
 use native.Mathlib.Omega.{arith}
 use lib.ListN.{length, getD, getElem?, take, drop, length-append, length-drop}
-use lib.Seq.{take-all, take-at}
+use lib.Seq.{take-all, take-at, getD-take}
 use lib.IntN.{ℤ, pos, negsuc}
 use Rattle.line.specs.Line.{letterCode}
 use Rattle.table.specs.Tree.{MAX, MIN, CHANCE, Forest, end, leaf, inner}
@@ -216,12 +216,6 @@ module _ (S : List ℕ) (g : Scale) (n : ℕ) (s : List ℕ) where
 
 -- ---- the root's letter
 
-getD-take : (m k : ℕ) (l : List ℕ) → k < m → getD (take m l) k 0 ≡ getD l k 0
-getD-take zero k l h = absurd (omega arith)
-getD-take (suc m) k [] h = refl
-getD-take (suc m) zero (x ∷ l) h = refl
-getD-take (suc m) (suc k) (x ∷ l) h = getD-take m k l (omega arith)
-
 module _ (S : List ℕ) (lo : ℤ) (n : ℕ) (s : List ℕ) where
   -- the root has a line
   pub root-line : (f : Forest ℕ) → Lays S lo 0 n s f → Rooted f → 1 ≤ n
@@ -236,7 +230,7 @@ module _ (S : List ℕ) (lo : ℤ) (n : ℕ) (s : List ℕ) where
 
   module _ (q : ℕ) (letter : q ≡ letterCode (getD s 5 0)) where
     code : q ≡ kindIn (take 25 s)
-    code = letter ∙ ap letterCode (sym (getD-take 25 5 s (omega arith)))
+    code = letter ∙ ap letterCode (sym (getD-take 25 s 5 0 (omega arith)))
 
     pub root-m : (f : Forest ℕ) → Lays S lo 0 n s f → Rooted f → q ≡ 1 → rootOf f ≡ decided AtM
     unfolding Lays

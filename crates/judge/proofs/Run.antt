@@ -1,12 +1,11 @@
 -- The root's children in the lines, one after another: each one's run is a part of them. Assumes nothing.
-use Prim.Native.Nat.{ℕ, zero, suc, _+_, _-_, _*_, _≤_, _<_}
+use Prim.Native.Nat.{ℕ, _+_, _-_, _*_, _≤_, _<_}
 use mathlib.Core.Path.{_≡_, refl, sym, ap, subst, _∙_}
 use mathlib.Core.Bool.{false}
 use mathlib.Core.List.{List, [], _∷_, _++_, map, append-assoc, append-nil}
 use native.Mathlib.Omega.{arith}
 use lib.ListN.{length, getD, set, take, drop, length-append, length-drop}
-use lib.Seq.{length-take-le, take-nil, take-take, drop-drop}
-use lib.IntN.{ℤ}
+use lib.Seq.{length-take-le, take-take, drop-drop}
 use Rattle.line.proofs.Signs.{true-ne-false}
 use Rattle.table.specs.Tree.{MAX, Forest, end, leaf, inner, isEnd}
 use Rattle.table.specs.Accepted.{Filled}
@@ -16,18 +15,10 @@ use Rattle.worth.specs.declared.Scale.{Scale}
 use Rattle.worth.specs.Worth.{Share}
 use Rattle.worth.specs.Heights.{tallest, heightValue, heightShares, Small}
 use Rattle.worth.specs.Inside.{kindIn, weightIn, heightIn, Lays, Ready, Worthy}
-use Rattle.worth.proofs.Run.{lays-le}
+use Rattle.worth.proofs.Run.{drop-take, lays-le, lays-none}
 use Rattle.judge.specs.Inside.{worthsOf, Here, Room, Under}
 
 -- ---- a part of the lines
-
-drop-take : (a n : ℕ) (l : List ℕ) → drop a (take n l) ≡ take (n - a) (drop a l)
-drop-take zero n l = let z : n ≡ n - 0 = omega arith in ap (λ (m : ℕ). take m l) z
-drop-take (suc a) zero l = let z : 0 ≡ 0 - suc a = omega arith in ap (λ (m : ℕ). take m (drop (suc a) l)) z
-drop-take (suc a) (suc n) [] = sym (take-nil (suc n - suc a))
-drop-take (suc a) (suc n) (x ∷ l) =
-    let z : n - a ≡ suc n - suc a = omega arith in
-    drop-take a n l ∙ ap (λ (m : ℕ). take m (drop a l)) z
 
 module _ (c j : ℕ) (s : List ℕ) (h : c < j) where
   -- the first line of the part
@@ -185,16 +176,6 @@ module _ (S : List ℕ) (g : Scale) (n : ℕ) (s : List ℕ) (room : Room S g n 
     part-worth r w =
         subst (λ (m : ℕ). Worthy S g MAX i m (take (25 * m - 25 * i) (drop (25 * i) s)) r) stop w (C .ready) ∙ C .worth
 
--- no lines are left, and so no nodes
-nothing-left : (S : List ℕ) (lo : ℤ) (T G c e : ℕ) (s : List ℕ) (f : Forest ℕ) → Lays S lo c e s f → e ≤ c → heightShares T G f ≡ []
-unfolding Lays heightShares
-nothing-left S lo T G c e s end l h = refl
-nothing-left S lo T G c e s (leaf n w v rest) l h =
-    absurd (omega (arith, l .1, lays-le S lo (getD S c 0) e (drop (25 * (getD S c 0 - c)) s) rest (l .4)))
-nothing-left S lo T G c e s (inner n w k under rest) l h =
-    let j : ℕ = getD S c 0 in
-    absurd (omega (arith, lays-le S lo (c + 1) j (take (25 * (j - (c + 1))) (drop 25 s)) under (l .2), lays-le S lo j e (drop (25 * (j - c)) s) rest (l .3)))
-
 -- ---- listing the worths
 
 -- up to node i: those `done` stand at the list's front
@@ -253,7 +234,7 @@ module _ (S : List ℕ) (g : Scale) (n : ℕ) (s came : List ℕ) where
     pub list-end : n ≤ i → (m ≡ length (worthsOf g (U .nodes))) × (list ≡ laid (worthsOf g (U .nodes)) came)
     list-end h =
         let L = all U in
-        let none = nothing-left S (g .lowest) (g .total) (g .grain) i n (drop (25 * i) s) (L .rest) (L .here .lays) h in
+        let none = lays-none S (g .lowest) (g .total) (g .grain) i n (drop (25 * i) s) (L .rest) (L .here .lays) h in
         let whole : worthsOf g (U .nodes) ≡ L .done =
         L .same ∙ ap (λ (xs : List (Share ℕ)). L .done ++ map (λ (v : Share ℕ). v .worth) xs) none ∙ append-nil (L .done) in
         (sym (ap length whole ∙ L .count), L .front ∙ ap (λ (v : List ℕ). laid v came) (sym whole))

@@ -8,5 +8,6 @@ pub mod Worked
 pub mod Chain
 pub mod Codes
 pub mod Run
+pub mod Lone
 pub mod Text
 pub mod Judged

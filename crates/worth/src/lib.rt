@@ -149,10 +149,13 @@ fn worth_under(k: u8, run: &[u8], stop: &[u16], c: usize, e: usize, g: Scale) ->
     seal(k, g.total, a)
 }
 
-// The worth of one node: its run of lines, nodes c up to e.
+// The worth of one node: its run of lines, nodes c up to e. One line alone is a leaf, which needs no call: the judge asks for every root child.
 pub fn worth_of(run: &[u8], stop: &[u16], c: usize, e: usize, g: Scale) -> u64
     requires { ⌜ Ready (now stop) g MAX c e (now run) ⌝ }
     ensures { λ r. ⌜ Worthy (now (stop .entry)) g MAX c e (now (run .entry)) r ⌝ }
 {
+    if c + 1 == e {
+        return leaf_worth(run, g.lowest, g.grain);
+    }
     worth_under(1, run, stop, c, e, g)
 }
