@@ -2,6 +2,8 @@
 ghost use mathlib.Core.Path.{_≡_};
 ghost use Prim.Native.Nat.{_<_, _≤_};
 ghost use lib.ListN.{length, getD, take};
+ghost use Rattle.table.specs.Tree.{MAX};
+ghost use Rattle.worth.specs.Inside.{Ready, Worthy};
 ghost use Rattle.judge.specs.Heights.{heightLoss, Ahead};
 ghost use Rattle.judge.specs.Inside.{sideIf, Chain, Played, Under, Listed, better, bestIn, AllAhead, levelOne, levelsIn, Whole, WellJudged, Decided, WellDecided};
 use worth::Scale;
@@ -67,6 +69,17 @@ fn level_one(max: bool, best: u64, h: u64, grain: u64) -> u64
     0
 }
 
+// The worth of a root child, by its run of lines, nodes i up to e: one line alone is a leaf, and its worth needs no call of the recursion.
+fn child_worth(run: &[u8], stop: &[u16], i: usize, e: usize, g: Scale) -> u64
+    requires { ⌜ Ready (now stop) g MAX i e (now run) ⌝ }
+    ensures { λ r. ⌜ Worthy (now (stop .entry)) g MAX i e (now (run .entry)) r ⌝ }
+{
+    if i + 1 == e {
+        return worth::leaf_worth(run, g.lowest, g.grain);
+    }
+    worth::worth_of(run, stop, i, e, g)
+}
+
 // The worth of each of the root's children, first to last, to the list's front; it gives their number. Each run is a part of the lines.
 fn list_worths(lines: &[u8], stop: &[u16], n: usize, g: Scale, list: &mut [u64]) -> usize
     requires { ⌜ Under (now stop) g n (now lines) (length (now list)) ⌝ }
@@ -76,7 +89,7 @@ fn list_worths(lines: &[u8], stop: &[u16], n: usize, g: Scale, list: &mut [u64])
     let mut i: usize = 1;
     while i < n {
         let e = stop_at(stop, i);
-        list[m] = worth::worth_of(&lines[25 * i..25 * e], stop, i, e, g);
+        list[m] = child_worth(&lines[25 * i..25 * e], stop, i, e, g);
         m += 1;
         i = e;
     }

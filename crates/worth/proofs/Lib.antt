@@ -8,6 +8,5 @@ pub mod Worked
 pub mod Chain
 pub mod Codes
 pub mod Run
-pub mod Lone
 pub mod Text
 pub mod Judged

@@ -47,7 +47,7 @@ fn weight_in(line: &[u8]) -> u64
 }
 
 // A leaf's grains above the lowest end.
-fn leaf_worth(line: &[u8], lowest: i64, grain: u64) -> u64
+pub fn leaf_worth(line: &[u8], lowest: i64, grain: u64) -> u64
     requires { ⌜ (length (now line) ≡ 25) × (mag lowest ≤ 1000000) × (grain ≤ 16777216) ⌝ }
     ensures { λ r. ⌜ r ≡ heightIn lowest (now (line .entry)) * grain ⌝ }
 {
@@ -149,13 +149,10 @@ fn worth_under(k: u8, run: &[u8], stop: &[u16], c: usize, e: usize, g: Scale) ->
     seal(k, g.total, a)
 }
 
-// The worth of one node: its run of lines, nodes c up to e. One line alone is a leaf, which needs no call: the judge asks for every root child.
+// The worth of one node: its run of lines, nodes c up to e.
 pub fn worth_of(run: &[u8], stop: &[u16], c: usize, e: usize, g: Scale) -> u64
     requires { ⌜ Ready (now stop) g MAX c e (now run) ⌝ }
     ensures { λ r. ⌜ Worthy (now (stop .entry)) g MAX c e (now (run .entry)) r ⌝ }
 {
-    if c + 1 == e {
-        return leaf_worth(run, g.lowest, g.grain);
-    }
     worth_under(1, run, stop, c, e, g)
 }
