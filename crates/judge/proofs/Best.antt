@@ -31,7 +31,7 @@ other-m e = let z : _≡_ {A = ℕ} 0 1 = cc in absurd (omega arith)
 other-n : decided AtN ≡ decided AtM → ⊥
 other-n e = let z : _≡_ {A = ℕ} 0 1 = cc in absurd (omega arith)
 
-kind-side : (k : Kind) (s : Side) → sideOf k ≡ decided s → k ≡ kindAt s
+pub kind-side : (k : Kind) (s : Side) → sideOf k ≡ decided s → k ≡ kindAt s
 kind-side MAX AtM e = refl
 kind-side MAX AtN e = absurd (other-m e)
 kind-side MIN AtM e = absurd (other-n e)

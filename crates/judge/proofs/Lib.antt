@@ -6,6 +6,8 @@ pub mod Worked
 pub mod Losses
 pub mod Walk
 pub mod Run
+pub mod Lone
+pub mod Worths
 pub mod Root
 pub mod Answer
 pub mod Plays

@@ -1,12 +1,12 @@
--- The loss by the root's side, and whether it is level. Assumes nothing.
-use Prim.Native.Nat.{ℕ, _-_, _≤_, _<_}
-use mathlib.Core.Path.{_≡_, sym, ap, subst}
+-- The better of two and the loss by the root's side, and whether it is level. Assumes nothing.
+use Prim.Native.Nat.{ℕ, _-_, _≤_, _<_, min, max}
+use mathlib.Core.Path.{_≡_, sym, ap, subst, _∙_}
 use mathlib.Core.Bool.{Bool, true, false, cond}
 use native.Mathlib.Omega.{arith}
 use borrow.Author.Tests.{lt-ltb, le-ltb}
 use Rattle.judge.specs.Judge.{Side}
 use Rattle.judge.specs.Heights.{heightLoss, Ahead}
-use Rattle.judge.specs.Inside.{sideIf, levelOne}
+use Rattle.judge.specs.Inside.{sideIf, better, levelOne}
 
 module _ (m : Bool) (best h : ℕ) where
   pub ahead-m : m ≡ true → Ahead (sideIf m) best h → h ≤ best
@@ -14,6 +14,12 @@ module _ (m : Bool) (best h : ℕ) where
 
   pub ahead-n : m ≡ false → Ahead (sideIf m) best h → best ≤ h
   ahead-n e a = subst (λ (b : Bool). Ahead (sideIf b) best h) e a
+
+  pub better-m : (r : ℕ) → m ≡ true → r ≡ max best h → r ≡ better (sideIf m) best h
+  better-m r e f = f ∙ ap (λ (b : Bool). better (sideIf b) best h) (sym e)
+
+  pub better-n : (r : ℕ) → m ≡ false → r ≡ min best h → r ≡ better (sideIf m) best h
+  better-n r e f = f ∙ ap (λ (b : Bool). better (sideIf b) best h) (sym e)
 
   pub loss-m : m ≡ true → best - h ≡ heightLoss (sideIf m) best h
   loss-m e = ap (λ (b : Bool). heightLoss (sideIf b) best h) (sym e)

@@ -1,31 +1,32 @@
 -- A root with all under it in the lines: its children by number, the best worth, and the judgement. Assumes nothing.
 use Prim.Native.Nat.{ℕ, zero, suc, _+_, _-_, _*_, _≤_, _<_}
 use mathlib.Core.Path.{_≡_, refl, sym, ap, ap₂, subst, _∙_}
-use mathlib.Core.List.{List, [], _∷_}
+use mathlib.Core.List.{List, []}
 use mathlib.Core.Option.{Option, none, some}
 use native.Mathlib.Decide.{decLe}
 use native.Mathlib.Omega.{arith}
-use lib.ListN.{length, getD, getElem?, take, drop, length-drop}
-use lib.Seq.{take-all}
+use lib.ListN.{length, getD, getElem?, take, drop, length-append, length-drop}
+use lib.Seq.{take-all, take-at, getD-take}
 use lib.IntN.{ℤ, pos, negsuc}
 use Rattle.line.specs.Line.{letterCode}
 use Rattle.table.specs.Tree.{MAX, MIN, CHANCE, Forest, end, leaf, inner}
 use Rattle.table.specs.Accepted.{Filled, Rooted}
+use Rattle.table.specs.Slices.{laid}
 use Rattle.worth.specs.declared.Scale.{Scale}
 use Rattle.worth.specs.Worth.{Share}
-use Rattle.worth.specs.Heights.{tallest, heightValue, heightShares, firstHeight, Small}
-use Rattle.worth.specs.Inside.{kindIn, Lays, Worthy}
-use Rattle.worth.proofs.Bounds.{Each}
+use Rattle.worth.specs.Heights.{heightShares, firstHeight, Small}
+use Rattle.worth.specs.Inside.{kindIn, Lays}
 use Rattle.worth.proofs.Run.{lays-le}
 use Rattle.judge.specs.declared.Play.{Play}
 use Rattle.judge.specs.declared.Play.the-variants.{Child as Kid, NoPlay}
 use Rattle.judge.specs.Judge.{Side, AtM, AtN, Root, undecided, decided, rootOf, children, numbered, noDecision, judged, noSuchChild, playOf}
 use Rattle.judge.specs.Heights.{heightLoss, heightLevels, heightJudgeChild, heightJudgeAt, Ahead}
-use Rattle.judge.specs.Inside.{Chained, Chain, AllAhead, Here, Room, Under, Levelled, forestJudge, Decided}
+use Rattle.judge.specs.Inside.{Chained, Chain, Here, Room, Under, Listed, bestIn, AllAhead, levelsIn, forestJudge, Decided}
 use Rattle.judge.proofs.Best.{no-decision, best-ahead}
 use Rattle.judge.proofs.Shift.{numbered-each}
 use Rattle.judge.proofs.Walk.{none-left}
 use Rattle.judge.proofs.Run.{starts, Child, child-at}
+use Rattle.judge.proofs.Worths.{worths, kids-some, best-root, all-ahead, levels-worths}
 
 -- ---- the children by number
 
@@ -97,17 +98,6 @@ play-none (some j) e = let z : _≡_ {A = ℕ} 0 1 = cc in absurd (omega arith)
 
 -- ---- the root
 
-all-ahead : (side : Side) (best : ℕ) (xs : List (Share ℕ)) → Each (Ahead side best) xs → AllAhead side best xs
-all-ahead side best [] e = tt
-all-ahead side best (x ∷ xs) e = (e .0, all-ahead side best xs (e .1))
-
--- one node is worth to a MAX what it is worth
-root-worth : (T G : ℕ) (f : Forest ℕ) → Rooted f → heightValue T MAX (heightShares T G f) ≡ firstHeight (heightShares T G f)
-unfolding heightValue heightShares tallest
-root-worth T G end r = absurd r
-root-worth T G (leaf n w h rest) r = rw (r .2) refl
-root-worth T G (inner n w k under rest) r = rw (r .2) refl
-
 module _ (S : List ℕ) (g : Scale) (n : ℕ) (s : List ℕ) where
   -- the lines after the root's own are its children's
   children-here : (side : Side) (f : Forest ℕ) → Lays S (g .lowest) 0 n s f → Filled f → Small (g .total) (g .grain) (g .top) f
@@ -153,21 +143,37 @@ module _ (S : List ℕ) (g : Scale) (n : ℕ) (s : List ℕ) where
           room = room-of .room;
         }
 
-    pub best-of : (r : ℕ) → Worthy S g MAX 0 n s r → r ≡ height
-    best-of r w = w (D .whole .ready) ∙ root-worth (g .total) (g .grain) tree (D .whole .rooted)
+    pub under-of : (came : List ℕ) → 1024 ≤ length came → Under S g n s (length came)
+    under-of came h = record { nodes = children tree; here = here; fits = room-of; place = omega (arith, room-of .few) }
 
-    pub under-of : (best : ℕ) → best ≡ height → Under S g n s side best
-    under-of best e =
-        record {
-          nodes = children tree;
-          here = here;
-          ahead = rw e (all-ahead side height kids (best-ahead (g .total) (g .grain) side tree (D .root)));
-          fits = room-of;
-        }
+    -- ---- the list of the worths
 
-    pub level-of : (best r : ℕ) → best ≡ height → Levelled S g n s side best r → r ≡ heightLevels side (g .grain) height kids
-    unfolding under-of
-    level-of best r e l = l (under-of best e) ∙ ap (λ (b : ℕ). heightLevels side (g .grain) b kids) e
+    module _ (came list : List ℕ) (m : ℕ) (place : 1024 ≤ length came) (listed : Listed S g n s m came list) where
+      told : (m ≡ length (worths kids)) × (list ≡ laid (worths kids) came)
+      unfolding under-of
+      told = listed (under-of came place)
+
+      front : take m list ≡ worths kids
+      front =
+          ap (take m) (told .1) ∙ take-at (worths kids) (drop (length (worths kids)) came) m (sym (told .0))
+
+      pub list-some : 0 < m
+      list-some = omega (arith, told .0, kids-some (g .total) (g .grain) side tree (D .whole .ready .fits .filled) (D .root))
+
+      pub list-room : m ≤ length list
+      list-room = omega (arith, told .0, ap length (told .1), length-append (worths kids) (drop (length (worths kids)) came))
+
+      pub best-of : (r : ℕ) → r ≡ bestIn side (take m list) → r ≡ height
+      best-of r e =
+          e ∙ ap (bestIn side) front ∙ best-root (g .total) (g .grain) side tree (D .whole .ready .fits .filled) (D .root)
+
+      module _ (best : ℕ) (b : best ≡ height) where
+        pub ahead-of : AllAhead side best (take m list)
+        ahead-of =
+            rw (b, front) (all-ahead side height kids (best-ahead (g .total) (g .grain) side tree (D .root)))
+
+        pub level-of : (r : ℕ) → r ≡ levelsIn side (g .grain) best (take m list) → r ≡ heightLevels side (g .grain) height kids
+        level-of r e = e ∙ ap₂ (levelsIn side (g .grain)) b front ∙ levels-worths side (g .grain) height kids
 
     -- ---- the child of a number
 
@@ -204,16 +210,11 @@ module _ (S : List ℕ) (g : Scale) (n : ℕ) (s : List ℕ) where
         ap₂ (λ (m : ℕ) (v : ℕ). judged (pos m) v) (x ∙ ap₂ (heightLoss side) b w) y
         ∙ sym (decided-judge z ∙ ap (heightJudgeChild side (g .grain) height kids) (K .there))
 
-    pub found-ahead : (z : ℤ) (i : ℕ) (K : Found z i) → Ahead side height (K .child .share .worth)
-    found-ahead z i K = numbered-each (Ahead side height) kids z (K .child .share) (best-ahead (g .total) (g .grain) side tree (D .root)) (K .there)
+    pub found-ahead : (z : ℤ) (i : ℕ) (K : Found z i) (best h : ℕ) → best ≡ height → h ≡ K .child .share .worth → Ahead side best h
+    found-ahead z i K best h b w =
+        rw (b, w) (numbered-each (Ahead side height) kids z (K .child .share) (best-ahead (g .total) (g .grain) side tree (D .root)) (K .there))
 
 -- ---- the root's letter
-
-getD-take : (m k : ℕ) (l : List ℕ) → k < m → getD (take m l) k 0 ≡ getD l k 0
-getD-take zero k l h = absurd (omega arith)
-getD-take (suc m) k [] h = refl
-getD-take (suc m) zero (x ∷ l) h = refl
-getD-take (suc m) (suc k) (x ∷ l) h = getD-take m k l (omega arith)
 
 module _ (S : List ℕ) (lo : ℤ) (n : ℕ) (s : List ℕ) where
   -- the root has a line
@@ -229,7 +230,7 @@ module _ (S : List ℕ) (lo : ℤ) (n : ℕ) (s : List ℕ) where
 
   module _ (q : ℕ) (letter : q ≡ letterCode (getD s 5 0)) where
     code : q ≡ kindIn (take 25 s)
-    code = letter ∙ ap letterCode (sym (getD-take 25 5 s (omega arith)))
+    code = letter ∙ ap letterCode (sym (getD-take 25 s 5 0 (omega arith)))
 
     pub root-m : (f : Forest ℕ) → Lays S lo 0 n s f → Rooted f → q ≡ 1 → rootOf f ≡ decided AtM
     unfolding Lays

@@ -1,34 +1,24 @@
 -- The root's children in the lines, one after another: each one's run is a part of them. Assumes nothing.
-use Prim.Native.Nat.{ℕ, zero, suc, _+_, _-_, _*_, _≤_, _<_}
+use Prim.Native.Nat.{ℕ, _+_, _-_, _*_, _≤_, _<_}
 use mathlib.Core.Path.{_≡_, refl, sym, ap, subst, _∙_}
-use mathlib.Core.Bool.{Bool, true, false, cond}
-use mathlib.Core.List.{List, [], _∷_}
+use mathlib.Core.Bool.{false}
+use mathlib.Core.List.{List, [], _∷_, _++_, map, append-assoc, append-nil}
 use native.Mathlib.Omega.{arith}
-use lib.ListN.{getD, take, drop, length-drop}
-use lib.Seq.{length-take-le, take-nil, take-take, drop-drop}
-use lib.Dec.{ltb}
-use lib.IntN.{ℤ}
+use lib.ListN.{length, getD, set, take, drop, length-append, length-drop}
+use lib.Seq.{length-take-le, take-take, drop-drop}
 use Rattle.line.proofs.Signs.{true-ne-false}
 use Rattle.table.specs.Tree.{MAX, Forest, end, leaf, inner, isEnd}
 use Rattle.table.specs.Accepted.{Filled}
+use Rattle.table.specs.Slices.{laid}
+use Rattle.table.proofs.Gather.{laid-more}
 use Rattle.worth.specs.declared.Scale.{Scale}
 use Rattle.worth.specs.Worth.{Share}
 use Rattle.worth.specs.Heights.{tallest, heightValue, heightShares, Small}
 use Rattle.worth.specs.Inside.{kindIn, weightIn, heightIn, Lays, Ready, Worthy}
-use Rattle.worth.proofs.Run.{lays-le}
-use Rattle.judge.specs.Judge.{Side}
-use Rattle.judge.specs.Heights.{heightLoss, heightLevels, Ahead}
-use Rattle.judge.specs.Inside.{levelOne, AllAhead, Here, Room, Under}
+use Rattle.worth.proofs.Run.{drop-take, lays-le, lays-none}
+use Rattle.judge.specs.Inside.{worthsOf, Here, Room, Under}
 
 -- ---- a part of the lines
-
-drop-take : (a n : ℕ) (l : List ℕ) → drop a (take n l) ≡ take (n - a) (drop a l)
-drop-take zero n l = let z : n ≡ n - 0 = omega arith in ap (λ (m : ℕ). take m l) z
-drop-take (suc a) zero l = let z : 0 ≡ 0 - suc a = omega arith in ap (λ (m : ℕ). take m (drop (suc a) l)) z
-drop-take (suc a) (suc n) [] = sym (take-nil (suc n - suc a))
-drop-take (suc a) (suc n) (x ∷ l) =
-    let z : n - a ≡ suc n - suc a = omega arith in
-    drop-take a n l ∙ ap (λ (m : ℕ). take m (drop a l)) z
 
 module _ (c j : ℕ) (s : List ℕ) (h : c < j) where
   -- the first line of the part
@@ -186,85 +176,65 @@ module _ (S : List ℕ) (g : Scale) (n : ℕ) (s : List ℕ) (room : Room S g n 
     part-worth r w =
         subst (λ (m : ℕ). Worthy S g MAX i m (take (25 * m - 25 * i) (drop (25 * i) s)) r) stop w (C .ready) ∙ C .worth
 
--- no lines are left, and so no nodes
-nothing-left : (S : List ℕ) (lo : ℤ) (T G c e : ℕ) (s : List ℕ) (f : Forest ℕ) → Lays S lo c e s f → e ≤ c → heightShares T G f ≡ []
-unfolding Lays heightShares
-nothing-left S lo T G c e s end l h = refl
-nothing-left S lo T G c e s (leaf n w v rest) l h =
-    absurd (omega (arith, l .1, lays-le S lo (getD S c 0) e (drop (25 * (getD S c 0 - c)) s) rest (l .4)))
-nothing-left S lo T G c e s (inner n w k under rest) l h =
-    let j : ℕ = getD S c 0 in
-    absurd (omega (arith, lays-le S lo (c + 1) j (take (25 * (j - (c + 1))) (drop 25 s)) under (l .2), lays-le S lo j e (drop (25 * (j - c)) s) rest (l .3)))
+-- ---- listing the worths
 
--- ---- counting the level children
-
-level-low : (b : Bool) → cond b 1 0 ≤ 1
-level-low true = omega arith
-level-low false = omega arith
-
--- up to node i there are `count` level ones
-pub record Counting (S : List ℕ) (g : Scale) (n : ℕ) (s : List ℕ) (side : Side) (best : ℕ) (f : Forest ℕ) (count i : ℕ) : Type 0 where
+-- up to node i: those `done` stand at the list's front
+pub record Listing (S : List ℕ) (g : Scale) (n : ℕ) (s came : List ℕ) (f : Forest ℕ) (list : List ℕ) (m i : ℕ) : Type 0 where
+  pub done : List ℕ
   pub rest : Forest ℕ
   pub here : Here S g n s i rest
-  pub ahead : AllAhead side best (heightShares (g .total) (g .grain) rest)
-  pub low : count ≤ i
+  pub count : length done ≡ m
+  pub low : m < i
   pub upto : i ≤ n
-  pub same : heightLevels side (g .grain) best (heightShares (g .total) (g .grain) f)
-      ≡ count + heightLevels side (g .grain) best (heightShares (g .total) (g .grain) rest)
+  pub same : worthsOf g f ≡ done ++ worthsOf g rest
+  pub front : list ≡ laid done came
 
-module _ (S : List ℕ) (g : Scale) (n : ℕ) (s : List ℕ) (side : Side) (best : ℕ) where
-  abbrev pub CountingAll : ℕ → ℕ → Type 0
-  CountingAll count i = (U : Under S g n s side best) → Counting S g n s side best (U .nodes) count i
+module _ (S : List ℕ) (g : Scale) (n : ℕ) (s came : List ℕ) where
+  abbrev pub ListingAll : List ℕ → ℕ → ℕ → Type 0
+  ListingAll list m i = (U : Under S g n s (length came)) → Listing S g n s came (U .nodes) list m i
 
-  pub count-start : CountingAll 0 1
-  count-start U =
+  pub list-start : ListingAll came 0 1
+  list-start U =
       record {
+        done = [];
         rest = U .nodes;
         here = U .here;
-        ahead = U .ahead;
+        count = refl;
         low = omega arith;
         upto = lays-le S (g .lowest) 1 n (drop (25 * 1) s) (U .nodes) (U .here .lays);
-        same = omega arith;
+        same = refl;
+        front = refl;
       }
 
-  module _ (count i : ℕ) (U : Under S g n s side best) (all : CountingAll count i) where
-    pub count-child : i < n → Child S g n s i (all U .rest)
-    count-child h = child-at S g n s (U .fits) i (all U .rest) (all U .here) h
+  module _ (list : List ℕ) (m i : ℕ) (U : Under S g n s (length came)) (all : ListingAll list m i) where
+    pub list-child : i < n → Child S g n s i (all U .rest)
+    list-child h = child-at S g n s (U .fits) i (all U .rest) (all U .here) h
 
-    both : (h : i < n) → Ahead side best (count-child h .share .worth) × AllAhead side best (heightShares (g .total) (g .grain) (count-child h .rest))
-    both h = subst (AllAhead side best) (count-child h .shares) (all U .ahead)
-
-    pub count-ahead : (h : i < n) → Ahead side best (count-child h .share .worth)
-    count-ahead h = both h .0
-
-    pub count-turn : (h : i < n) (w more j : ℕ) → w ≡ count-child h .share .worth → more ≡ count + levelOne side (g .grain) best w → j ≡ getD S i 0
-        → Counting S g n s side best (U .nodes) more j
-    unfolding heightLevels
-    count-turn h w more j x y z =
-        let C = count-child h in
-        let T : ℕ = g .total in
-        let G : ℕ = g .grain in
-        let step : more ≡ count + levelOne side G best (C .share .worth) = y ∙ ap (λ (v : ℕ). count + levelOne side G best v) x in
-        let sum : heightLevels side G best (heightShares T G (U .nodes)) ≡ count + (levelOne side G best (C .share .worth) + heightLevels side G best (heightShares T G (C .rest))) =
-        all U .same ∙ ap (λ (xs : List (Share ℕ)). count + heightLevels side G best xs) (C .shares) in
+    pub list-turn : (h : i < n) (w more j : ℕ) → w ≡ list-child h .share .worth → more ≡ m + 1 → j ≡ getD S i 0
+        → Listing S g n s came (U .nodes) (set list m w) more j
+    list-turn h w more j x y z =
+        let L = all U in
+        let C = list-child h in
+        let one : List ℕ = w ∷ [] in
+        let next : worthsOf g (L .rest) ≡ w ∷ worthsOf g (C .rest) =
+        ap (map (λ (v : Share ℕ). v .worth)) (C .shares) ∙ ap (λ (v : ℕ). v ∷ worthsOf g (C .rest)) (sym x) in
         rw z
         (record {
+          done = L .done ++ one;
           rest = C .rest;
           here = C .here;
-          ahead = both h .1;
-          low = omega (arith, step, all U .low, C .later, level-low (ltb (heightLoss side best (C .share .worth)) G));
+          count = omega (arith, length-append (L .done) one, L .count);
+          low = omega (arith, L .low, C .later);
           upto = C .within;
-          same = omega (arith, sum, step);
+          same = L .same ∙ ap (λ (v : List ℕ). L .done ++ v) next ∙ sym (append-assoc (L .done) one (worthsOf g (C .rest)));
+          front = ap (λ (v : List ℕ). set v m w) (L .front) ∙ ap (λ (k : ℕ). set (laid (L .done) came) k w) (sym (L .count))
+              ∙ sym (laid-more (L .done) came w (omega (arith, L .count, L .low, L .upto, U .place)));
         })
 
-    pub count-low : (w : ℕ) → i < n → count + levelOne side (g .grain) best w ≤ 1025
-    count-low w h = omega (arith, all U .low, U .fits .few, level-low (ltb (heightLoss side best w) (g .grain)))
-
-    pub count-end : n ≤ i → count ≡ heightLevels side (g .grain) best (heightShares (g .total) (g .grain) (U .nodes))
-    unfolding heightLevels
-    count-end h =
-        let C = all U in
-        let none = nothing-left S (g .lowest) (g .total) (g .grain) i n (drop (25 * i) s) (C .rest) (C .here .lays) h in
-        let sum : heightLevels side (g .grain) best (heightShares (g .total) (g .grain) (U .nodes)) ≡ count + 0 =
-        C .same ∙ ap (λ (xs : List (Share ℕ)). count + heightLevels side (g .grain) best xs) none in
-        omega (arith, sum)
+    pub list-end : n ≤ i → (m ≡ length (worthsOf g (U .nodes))) × (list ≡ laid (worthsOf g (U .nodes)) came)
+    list-end h =
+        let L = all U in
+        let none = lays-none S (g .lowest) (g .total) (g .grain) i n (drop (25 * i) s) (L .rest) (L .here .lays) h in
+        let whole : worthsOf g (U .nodes) ≡ L .done =
+        L .same ∙ ap (λ (xs : List (Share ℕ)). L .done ++ map (λ (v : Share ℕ). v .worth) xs) none ∙ append-nil (L .done) in
+        (sym (ap length whole ∙ L .count), L .front ∙ ap (λ (v : List ℕ). laid v came) (sym whole))

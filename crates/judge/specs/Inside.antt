@@ -1,14 +1,14 @@
 -- The judge straight from the text: what its code asks of the lines and of the stops, and what it answers. Assumes nothing.
-use Prim.Native.Nat.{ℕ, _*_, _≤_, _<_}
+use Prim.Native.Nat.{ℕ, _+_, _*_, _≤_, _<_, min, max}
 use mathlib.Core.Path.{_≡_}
 use mathlib.Core.Bool.{Bool, true, false, cond}
-use mathlib.Core.List.{List, [], _∷_}
-use mathlib.Core.Option.{Option, none, some}
+use mathlib.Core.List.{List, [], _∷_, map}
 use lib.Dec.{ltb}
 use lib.ListN.{length, getD, drop}
 use lib.IntN.{ℤ, pos}
 use Rattle.table.specs.Tree.{MAX, Forest}
 use Rattle.table.specs.Accepted.{Filled, Rooted}
+use Rattle.table.specs.Slices.{laid}
 use Rattle.worth.specs.declared.Scale.{Scale}
 use Rattle.worth.specs.Worth.{Share}
 use Rattle.worth.specs.Heights.{heightShares, firstHeight, Small}
@@ -17,7 +17,7 @@ use Rattle.judge.specs.declared.Play.{Play}
 use Rattle.judge.specs.declared.Judged.{Judged}
 use Rattle.judge.specs.declared.Judged.the-variants.{NoDecision, Judged as Told, NoChild}
 use Rattle.judge.specs.Judge.{Side, AtM, AtN, decided, rootOf, children, numbered, Judgement, noDecision, judged, noSuchChild, playOf}
-use Rattle.judge.specs.Heights.{heightLoss, heightLevels, heightJudgeAt, Ahead}
+use Rattle.judge.specs.Heights.{heightLoss, heightJudgeAt, Ahead}
 
 abbrev pub sideIf : Bool → Side
 sideIf true = AtM
@@ -39,14 +39,11 @@ pub record Chain (S : List ℕ) (n : ℕ) : Type 0 where
 abbrev pub Played : List ℕ → ℕ → ℤ → Play → Type 0
 Played S n i r = (C : Chain S n) → r ≡ playOf (numbered i (C .nodes))
 
--- ---- level children
+-- ---- the worths of the root's children
 
-abbrev pub levelOne : Side → (G best height : ℕ) → ℕ
-levelOne s G best height = cond (ltb (heightLoss s best height) G) 1 0
-
-abbrev pub AllAhead : Side → ℕ → List (Share ℕ) → Type 0
-AllAhead s best [] = Unit {0}
-AllAhead s best (x ∷ xs) = Ahead s best (x .worth) × AllAhead s best xs
+-- the worths of nodes with one parent, first to last
+abbrev pub worthsOf : Scale → Forest ℕ → List ℕ
+worthsOf g f = map (λ (x : Share ℕ). x .worth) (heightShares (g .total) (g .grain) f)
 
 -- the lines s from node i on are these nodes, and their worths fit
 pub record Here (S : List ℕ) (g : Scale) (n : ℕ) (s : List ℕ) (i : ℕ) (f : Forest ℕ) : Type 0 where
@@ -61,16 +58,44 @@ pub record Room (S : List ℕ) (g : Scale) (n : ℕ) (s : List ℕ) : Type 0 whe
   pub few : n ≤ 1024
   pub scale : OkScale g
 
--- the lines of a root with its children, none of which is better than `best`
-pub record Under (S : List ℕ) (g : Scale) (n : ℕ) (s : List ℕ) (side : Side) (best : ℕ) : Type 0 where
+-- the lines of a root with its children, and a list of this length, which holds as many worths
+pub record Under (S : List ℕ) (g : Scale) (n : ℕ) (s : List ℕ) (length : ℕ) : Type 0 where
   pub nodes : Forest ℕ
   pub here : Here S g n s 1 nodes
-  pub ahead : AllAhead side best (heightShares (g .total) (g .grain) nodes)
   pub fits : Room S g n s
+  pub place : n ≤ length
 
-abbrev pub Levelled : List ℕ → Scale → ℕ → List ℕ → Side → ℕ → ℕ → Type 0
-Levelled S g n s side best r =
-    (U : Under S g n s side best) → r ≡ heightLevels side (g .grain) best (heightShares (g .total) (g .grain) (U .nodes))
+-- the worths stand at the list's front, and r is their number
+abbrev pub Listed : List ℕ → Scale → ℕ → List ℕ → ℕ → (came left : List ℕ) → Type 0
+Listed S g n s r came left =
+    (U : Under S g n s (length came)) → (r ≡ length (worthsOf g (U .nodes))) × (left ≡ laid (worthsOf g (U .nodes)) came)
+
+-- ---- the best worth and those level with it
+
+abbrev pub better : Side → ℕ → ℕ → ℕ
+better AtM a h = max a h
+better AtN a h = min a h
+
+-- the best of a and all of the list
+unfoldable pub bestFrom : Side → ℕ → List ℕ → ℕ
+bestFrom s a [] = a
+bestFrom s a (h ∷ hs) = bestFrom s (better s a h) hs
+
+-- the best of a list
+abbrev pub bestIn : Side → List ℕ → ℕ
+bestIn s [] = 0
+bestIn s (h ∷ hs) = bestFrom s h hs
+
+abbrev pub AllAhead : Side → ℕ → List ℕ → Type 0
+AllAhead s best [] = Unit {0}
+AllAhead s best (h ∷ hs) = Ahead s best h × AllAhead s best hs
+
+abbrev pub levelOne : Side → (G best height : ℕ) → ℕ
+levelOne s G best height = cond (ltb (heightLoss s best height) G) 1 0
+
+unfoldable pub levelsIn : Side → (G best : ℕ) → List ℕ → ℕ
+levelsIn s G best [] = 0
+levelsIn s G best (h ∷ hs) = levelOne s G best h + levelsIn s G best hs
 
 -- ---- the judgement
 

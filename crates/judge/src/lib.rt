@@ -1,9 +1,11 @@
 // Judging the play made: the loss of a root child, and how many root children are level with the best.
 ghost use mathlib.Core.Path.{_≡_};
-ghost use Prim.Native.Nat.{_<_};
-ghost use lib.ListN.{length, getD};
+ghost use Prim.Native.Nat.{_<_, _≤_};
+ghost use lib.ListN.{length, getD, take};
+ghost use Rattle.table.specs.Tree.{MAX};
+ghost use Rattle.worth.specs.Inside.{Ready, Worthy};
 ghost use Rattle.judge.specs.Heights.{heightLoss, Ahead};
-ghost use Rattle.judge.specs.Inside.{sideIf, Chain, Played, levelOne, Under, Levelled, Whole, WellJudged, Decided, WellDecided};
+ghost use Rattle.judge.specs.Inside.{sideIf, Chain, Played, Under, Listed, better, bestIn, AllAhead, levelOne, levelsIn, Whole, WellJudged, Decided, WellDecided};
 use worth::Scale;
 
 // The node of the root child of a number, if there is one.
@@ -67,18 +69,66 @@ fn level_one(max: bool, best: u64, h: u64, grain: u64) -> u64
     0
 }
 
-// The level children, each run a part of the lines.
-fn count_levels(lines: &[u8], stop: &[u16], n: usize, g: Scale, max: bool, best: u64) -> u64
-    requires { ⌜ Under (now stop) g n (now lines) (sideIf max) best ⌝ }
-    ensures { λ r. ⌜ Levelled (now (stop .entry)) g n (now (lines .entry)) (sideIf max) best r ⌝ }
+// The worth of a root child, by its run of lines, nodes i up to e: one line alone is a leaf, and its worth needs no call of the recursion.
+fn child_worth(run: &[u8], stop: &[u16], i: usize, e: usize, g: Scale) -> u64
+    requires { ⌜ Ready (now stop) g MAX i e (now run) ⌝ }
+    ensures { λ r. ⌜ Worthy (now (stop .entry)) g MAX i e (now (run .entry)) r ⌝ }
 {
-    let mut count: u64 = 0;
+    if i + 1 == e {
+        return worth::leaf_worth(run, g.lowest, g.grain);
+    }
+    worth::worth_of(run, stop, i, e, g)
+}
+
+// The worth of each of the root's children, first to last, to the list's front; it gives their number. Each run is a part of the lines.
+fn list_worths(lines: &[u8], stop: &[u16], n: usize, g: Scale, list: &mut [u64]) -> usize
+    requires { ⌜ Under (now stop) g n (now lines) (length (now list)) ⌝ }
+    ensures { λ r. ⌜ Listed (now (stop .entry)) g n (now (lines .entry)) r (now (list .entry)) (now (list .exit)) ⌝ }
+{
+    let mut m: usize = 0;
     let mut i: usize = 1;
     while i < n {
         let e = stop_at(stop, i);
-        let h = worth::worth_of(&lines[25 * i..25 * e], stop, i, e, g);
-        count = count + level_one(max, best, h, g.grain);
+        list[m] = child_worth(&lines[25 * i..25 * e], stop, i, e, g);
+        m += 1;
         i = e;
+    }
+    m
+}
+
+fn better_of(max: bool, a: u64, h: u64) -> u64
+    ensures { λ r. ⌜ r ≡ better (sideIf max) a h ⌝ }
+{
+    if max {
+        return if a < h { h } else { a };
+    }
+    if h < a { h } else { a }
+}
+
+// The best of the first m worths.
+fn best_of(list: &[u64], m: usize, max: bool) -> u64
+    requires { ⌜ (0 < m) × (m ≤ length (now list)) ⌝ }
+    ensures { λ r. ⌜ r ≡ bestIn (sideIf max) (take m (now (list .entry))) ⌝ }
+{
+    let mut best = list[0];
+    let mut k: usize = 1;
+    while k < m {
+        best = better_of(max, best, list[k]);
+        k += 1;
+    }
+    best
+}
+
+// How many of the first m worths are level with the best.
+fn count_levels(list: &[u64], m: usize, max: bool, best: u64, grain: u64) -> u64
+    requires { ⌜ (m ≤ length (now list)) × AllAhead (sideIf max) best (take m (now list)) ⌝ }
+    ensures { λ r. ⌜ r ≡ levelsIn (sideIf max) grain best (take m (now (list .entry))) ⌝ }
+{
+    let mut count: u64 = 0;
+    let mut k: usize = 0;
+    while k < m {
+        count = count + level_one(max, best, list[k], grain);
+        k += 1;
     }
     count
 }
@@ -92,9 +142,11 @@ fn judge_root(lines: &[u8], stop: &[u16], n: usize, g: Scale, max: bool, number:
         Play::NoPlay => Judged::NoChild,
         Play::Child(i) => {
             let e = stop_at(stop, i);
-            let best = worth::worth_of(lines, stop, 0, n, g);
             let h = worth::worth_of(&lines[25 * i..25 * e], stop, i, e, g);
-            let level = count_levels(lines, stop, n, g, max, best);
+            let mut list = [0u64; 1024];
+            let m = list_worths(lines, stop, n, g, &mut list);
+            let best = best_of(&list, m, max);
+            let level = count_levels(&list, m, max, best, g.grain);
             Judged::Judged(loss(max, best, h), level)
         }
     }

@@ -47,7 +47,7 @@ fn weight_in(line: &[u8]) -> u64
 }
 
 // A leaf's grains above the lowest end.
-fn leaf_worth(line: &[u8], lowest: i64, grain: u64) -> u64
+pub fn leaf_worth(line: &[u8], lowest: i64, grain: u64) -> u64
     requires { ⌜ (length (now line) ≡ 25) × (mag lowest ≤ 1000000) × (grain ≤ 16777216) ⌝ }
     ensures { λ r. ⌜ r ≡ heightIn lowest (now (line .entry)) * grain ⌝ }
 {

@@ -1,6 +1,9 @@
 -- `judge::judge_root` meets its contract. Assumes nothing.
+use Prim.Native.Nat.{ℕ}
 use mathlib.Core.Path.{_≡_, ap, _∙_}
+use mathlib.Core.List.{List}
 use lib.IntN.{ℤ}
+use lib.ListN.{replicate}
 use native.Mathlib.Omega.{arith}
 use borrow.Author.Needs.{needs}
 use denote.Ref.{now}
@@ -9,7 +12,7 @@ use mir.ValLaws.{toZ-ofZ}
 use Rattle.judge.specs.Judge.{numbered, playOf}
 use Rattle.judge.specs.Inside.{sideIf, Room, Decided}
 use Rattle.judge.proofs.Run.{part-ready, part-worth}
-use Rattle.judge.proofs.Root.{height, room-of, chain-of, best-of, under-of, level-of, Found, found, found-ahead, well-none, well-lost}
+use Rattle.judge.proofs.Root.{height, room-of, chain-of, under-of, list-some, list-room, best-of, ahead-of, level-of, Found, found, found-ahead, well-none, well-lost}
 use Rattle.judge.proofs.judge_root.Statement.{statement}
 use Rattle.judge.proofs.judge_root.Tie as tie
 
@@ -54,91 +57,128 @@ child c D =
 room : (s : tie.Start) → Room (now (s .args .stop)) (s .args .g) (s .args .n) (now (s .args .lines))
 room s = room-of (now (s .args .stop)) (s .args .g) (s .args .n) (now (s .args .lines)) (sideIf (s .args .max)) (s .pre)
 
+abbrev start-of : tie.After-i → tie.Start
+start-of i = i .before .before .before .before .before
+
 stop-at-requires : tie.Need-stop-at-requires
 stop-at-requires c κs =
-    let s = c .before .before .before .before .before .before in
+    let s = start-of (c .before) in
     let k = child (c .before) (s .pre) .child in
     omega (arith, k .later, k .within, room s .room)
 
-worth-of-requires : tie.Need-worth-of-requires
-worth-of-requires c κs = search needs
-
 mul-worth-of : tie.Need-mul-worth-of
 mul-worth-of c =
-    let i = c .before .before .before in
-    let s = i .before .before .before .before .before in
+    let i = c .before .before in
+    let s = start-of i in
     let k = child i (s .pre) .child in
     record { fits = omega (arith, k .later, k .within, room s .few) }
 
 mul-worth-of-2 : tie.Need-mul-worth-of-2
 mul-worth-of-2 c =
-    let i = c .before .before .before in
-    let s = i .before .before .before .before .before in
-    let k = child i (s .pre) .child in
-    record { fits = omega (arith, c .before .stop-at .ensures, k .within, room s .few) }
+    let i = c .before .before in
+    let s = start-of i in
+    record { fits = omega (arith, c .stop-at .ensures, child i (s .pre) .child .within, room s .few) }
 
 sub-worth-of : tie.Need-sub-worth-of
 sub-worth-of c =
-    let i = c .before .before .before in
-    let s = i .before .before .before .before .before in
-    omega (arith, c .before .stop-at .ensures, child i (s .pre) .child .later)
+    let i = c .before .before in
+    omega (arith, c .stop-at .ensures, child i (start-of i .pre) .child .later)
 
 part-worth-of-start : tie.Need-part-worth-of-start
 part-worth-of-start c =
-    let i = c .before .before .before in
-    let s = i .before .before .before .before .before in
-    omega (arith, c .before .stop-at .ensures, child i (s .pre) .child .later)
+    let i = c .before .before in
+    omega (arith, c .stop-at .ensures, child i (start-of i .pre) .child .later)
 
 part-worth-of-end : tie.Need-part-worth-of-end
 part-worth-of-end c =
-    let i = c .before .before .before in
-    let s = i .before .before .before .before .before in
-    omega (arith, c .before .stop-at .ensures, child i (s .pre) .child .within, room s .long)
+    let i = c .before .before in
+    let s = start-of i in
+    omega (arith, c .stop-at .ensures, child i (s .pre) .child .within, room s .long)
 
-worth-of-requires-2 : tie.Need-worth-of-requires-2
-worth-of-requires-2 c κs =
-    let i = c .before .before .before .before in
-    let s = i .before .before .before .before .before in
+worth-of-requires : tie.Need-worth-of-requires
+worth-of-requires c κs =
+    let t = c .before in
+    let i = t .before .before in
+    let s = start-of i in
     let a = s .args in
     let K = child i (s .pre) in
-    part-ready (now (a .stop)) (a .g) (a .n) (now (a .lines)) (room s) (i .i .given .0 .0) (K .rest) (K .child) (c .before .before .stop-at .result) (c .before .before .stop-at .ensures)
+    part-ready (now (a .stop)) (a .g) (a .n) (now (a .lines)) (room s) (i .i .given .0 .0) (K .rest) (K .child) (t .stop-at .result) (t .stop-at .ensures)
 
--- the best worth, and the child's
-best : (c : tie.After-worth-of)
-    → let s = c .before .before .before .before .before .before .before .before in
-    let a = s .args in
-    (D : At s) → c .worth-of .result ≡ height (now (a .stop)) (a .g) (a .n) (now (a .lines)) (sideIf (a .max)) D
-best c D =
-    let a = c .before .before .before .before .before .before .before .before .args in
-    best-of (now (a .stop)) (a .g) (a .n) (now (a .lines)) (sideIf (a .max)) D (c .worth-of .result) (c .worth-of .ensures)
+-- what the child is worth
+abbrev found-at : tie.After-worth-of → tie.After-i
+found-at c = c .before .before .before .before
 
-worth : (c : tie.After-worth-of2)
-    → let i = c .before .before .before .before .before in
-    (D : At (i .before .before .before .before .before)) → c .worth-of2 .result ≡ child i D .child .share .worth
+worth : (c : tie.After-worth-of) (D : At (start-of (found-at c))) → c .worth-of .result ≡ child (found-at c) D .child .share .worth
 worth c D =
-    let i = c .before .before .before .before .before in
-    let s = i .before .before .before .before .before in
+    let i = found-at c in
+    let s = start-of i in
     let a = s .args in
     let K = child i D in
-    let t = c .before .before .before in
-    part-worth (now (a .stop)) (a .g) (a .n) (now (a .lines)) (room s) (i .i .given .0 .0) (K .rest) (K .child) (t .stop-at .result) (t .stop-at .ensures) (c .worth-of2 .result) (c .worth-of2 .ensures)
+    let t = c .before .before in
+    part-worth (now (a .stop)) (a .g) (a .n) (now (a .lines)) (room s) (i .i .given .0 .0) (K .rest) (K .child) (t .stop-at .result) (t .stop-at .ensures) (c .worth-of .result) (c .worth-of .ensures)
+
+slice-aggregate-list-worths : tie.Need-slice-aggregate-list-worths
+slice-aggregate-list-worths c = search needs
+
+list-worths-requires : tie.Need-list-worths-requires
+list-worths-requires c κs =
+    let s = start-of (found-at (c .before)) in
+    let a = s .args in
+    under-of (now (a .stop)) (a .g) (a .n) (now (a .lines)) (sideIf (a .max)) (s .pre) (replicate 1024 0) (omega arith)
+
+-- the start, and the list of the worths
+abbrev start-at : tie.After-list-worths → tie.Start
+start-at L = start-of (found-at (L .before .before))
+
+abbrev list-at : tie.After-list-worths → List ℕ
+list-at L = L .list-worths .last .1 .1 .1 .1 .0
+
+slice-aggregate-best-of : tie.Need-slice-aggregate-best-of
+slice-aggregate-best-of c = search needs
+
+best-of-requires : tie.Need-best-of-requires
+best-of-requires c κs =
+    let L = c .before .before in
+    let s = start-at L in
+    let a = s .args in (
+      list-some (now (a .stop)) (a .g) (a .n) (now (a .lines)) (sideIf (a .max)) (s .pre) (replicate 1024 0) (list-at L) (L .list-worths .result) (omega arith) (L .list-worths .ensures),
+      list-room (now (a .stop)) (a .g) (a .n) (now (a .lines)) (sideIf (a .max)) (s .pre) (replicate 1024 0) (list-at L) (L .list-worths .result) (omega arith) (L .list-worths .ensures),
+    )
+
+-- the best worth
+abbrev listed-at : tie.After-best-of → tie.After-list-worths
+listed-at c = c .before .before .before
+
+best : (c : tie.After-best-of)
+    → let s = start-at (listed-at c) in
+    let a = s .args in
+    (D : At s) → c .best-of .result ≡ height (now (a .stop)) (a .g) (a .n) (now (a .lines)) (sideIf (a .max)) D
+best c D =
+    let L = listed-at c in
+    let a = start-at L .args in
+    best-of (now (a .stop)) (a .g) (a .n) (now (a .lines)) (sideIf (a .max)) D (replicate 1024 0) (list-at L) (L .list-worths .result) (omega arith) (L .list-worths .ensures) (c .best-of .result) (c .best-of .ensures)
+
+slice-aggregate-count-levels : tie.Need-slice-aggregate-count-levels
+slice-aggregate-count-levels c = search needs
 
 count-levels-requires : tie.Need-count-levels-requires
 count-levels-requires c κs =
-    let s = c .before .before .before .before .before .before .before .before .before .before in
-    let a = s .args in
-    let W = c .before .before in
-    under-of (now (a .stop)) (a .g) (a .n) (now (a .lines)) (sideIf (a .max)) (s .pre) (W .worth-of .result) (best W (s .pre))
+    let B = c .before in
+    let L = listed-at B in
+    let s = start-at L in
+    let a = s .args in (
+      list-room (now (a .stop)) (a .g) (a .n) (now (a .lines)) (sideIf (a .max)) (s .pre) (replicate 1024 0) (list-at L) (L .list-worths .result) (omega arith) (L .list-worths .ensures),
+      ahead-of (now (a .stop)) (a .g) (a .n) (now (a .lines)) (sideIf (a .max)) (s .pre) (replicate 1024 0) (list-at L) (L .list-worths .result) (omega arith) (L .list-worths .ensures) (B .best-of .result) (best B (s .pre)),
+    )
 
 loss-requires : tie.Need-loss-requires
 loss-requires c κs =
-    let H = c .before in
-    let W = H .before .before in
-    let i = W .before .before .before in
-    let s = i .before .before .before .before .before in
+    let B = c .before .before in
+    let W = listed-at B .before .before in
+    let i = found-at W in
+    let s = start-of i in
     let a = s .args in
-    let K = child i (s .pre) in
-    rw (best W (s .pre), worth H (s .pre)) (found-ahead (now (a .stop)) (a .g) (a .n) (now (a .lines)) (sideIf (a .max)) (s .pre) (a .number) (i .i .given .0 .0) K)
+    found-ahead (now (a .stop)) (a .g) (a .n) (now (a .lines)) (sideIf (a .max)) (s .pre) (a .number) (i .i .given .0 .0) (child i (s .pre)) (B .best-of .result) (W .worth-of .result) (best B (s .pre)) (worth W (s .pre))
 
 returns : tie.Need-returns
 returns c =
@@ -148,12 +188,13 @@ returns c =
 
 returns-2 : tie.Need-returns-2
 returns-2 c =
-    let L = c .before in
-    let H = L .before in
-    let W = H .before .before in
-    let i = W .before .before .before in
-    let a = i .before .before .before .before .before .args in
-    λ D. well-lost (now (a .stop)) (a .g) (a .n) (now (a .lines)) (sideIf (a .max)) D (a .number) (i .i .given .0 .0) (child i D) (W .worth-of .result) (H .worth-of2 .result) (c .loss .result) (L .count-levels .result) (best W D) (worth H D) (c .loss .ensures) (level-of (now (a .stop)) (a .g) (a .n) (now (a .lines)) (sideIf (a .max)) D (W .worth-of .result) (L .count-levels .result) (best W D) (L .count-levels .ensures))
+    let Q = c .before in
+    let B = Q .before .before in
+    let L = listed-at B in
+    let W = L .before .before in
+    let i = found-at W in
+    let a = start-of i .args in
+    λ D. well-lost (now (a .stop)) (a .g) (a .n) (now (a .lines)) (sideIf (a .max)) D (a .number) (i .i .given .0 .0) (child i D) (B .best-of .result) (W .worth-of .result) (c .loss .result) (Q .count-levels .result) (best B D) (worth W D) (c .loss .ensures) (level-of (now (a .stop)) (a .g) (a .n) (now (a .lines)) (sideIf (a .max)) D (replicate 1024 0) (list-at L) (L .list-worths .result) (omega arith) (L .list-worths .ensures) (B .best-of .result) (best B D) (Q .count-levels .result) (Q .count-levels .ensures))
 
 pub judge-root-spec : {M : Type 1} → statement M
 judge-root-spec =
@@ -163,13 +204,17 @@ judge-root-spec =
     enum-told
     enum-known-i
     stop-at-requires
-    worth-of-requires
     mul-worth-of
     mul-worth-of-2
     sub-worth-of
     part-worth-of-start
     part-worth-of-end
-    worth-of-requires-2
+    worth-of-requires
+    slice-aggregate-list-worths
+    list-worths-requires
+    slice-aggregate-best-of
+    best-of-requires
+    slice-aggregate-count-levels
     count-levels-requires
     loss-requires
     returns

@@ -1,0 +1,159 @@
+-- The worths of the root's children as a list of numbers: the best of them, and those level with it. Assumes nothing.
+use Prim.Native.Nat.{ℕ, suc, _+_, _≤_, _<_}
+use mathlib.Core.Path.{_≡_, refl, sym, ap, ap₂, _∙_}
+use mathlib.Core.Bool.{Bool, true, false, cond}
+use mathlib.Core.List.{List, [], _∷_, map}
+use native.Mathlib.Omega.{arith}
+use lib.ListN.{length, getD, take, drop}
+use lib.Seq.{length-take-le, getD-take, drop-cons, drop-length}
+use lib.Dec.{ltb}
+use Rattle.table.specs.Tree.{Forest, end, leaf, inner}
+use Rattle.table.specs.Accepted.{Filled}
+use Rattle.worth.specs.Worth.{Share}
+use Rattle.worth.specs.Heights.{tallest, shortest, heightValue, heightShares, firstHeight}
+use Rattle.worth.proofs.Bounds.{Each}
+use Rattle.worth.proofs.Shift.{Some, some-shares}
+use Rattle.judge.specs.Judge.{Side, AtM, AtN, decided, rootOf, children}
+use Rattle.judge.specs.Heights.{heightLoss, heightLevels, Ahead}
+use Rattle.judge.specs.Inside.{better, bestFrom, bestIn, AllAhead, levelOne, levelsIn}
+use Rattle.judge.proofs.Best.{no-decision, kindAt, kind-side}
+
+-- ---- of shares
+
+abbrev pub worths : List (Share ℕ) → List ℕ
+worths xs = map (λ (x : Share ℕ). x .worth) xs
+
+-- one child more
+value-more : (T : ℕ) (s : Side) (x y : Share ℕ) (ys : List (Share ℕ))
+    → heightValue T (kindAt s) (x ∷ y ∷ ys) ≡ better s (x .worth) (heightValue T (kindAt s) (y ∷ ys))
+unfolding heightValue tallest shortest
+value-more T AtM x y ys = refl
+value-more T AtN x y ys = refl
+
+value-one : (T : ℕ) (s : Side) (x : Share ℕ) → heightValue T (kindAt s) (x ∷ []) ≡ x .worth
+unfolding heightValue tallest shortest
+value-one T AtM x = refl
+value-one T AtN x = refl
+
+better-assoc : (s : Side) (a b c : ℕ) → better s (better s a b) c ≡ better s a (better s b c)
+better-assoc AtM a b c = omega arith
+better-assoc AtN a b c = omega arith
+
+best-from : (T : ℕ) (s : Side) (a : ℕ) (x : Share ℕ) (xs : List (Share ℕ))
+    → bestFrom s a (worths (x ∷ xs)) ≡ better s a (heightValue T (kindAt s) (x ∷ xs))
+unfolding bestFrom
+best-from T s a x [] = ap (better s a) (sym (value-one T s x))
+best-from T s a x (y ∷ ys) =
+    best-from T s (better s a (x .worth)) y ys ∙ better-assoc s a (x .worth) (heightValue T (kindAt s) (y ∷ ys))
+    ∙ ap (better s a) (sym (value-more T s x y ys))
+
+best-value : (T : ℕ) (s : Side) (xs : List (Share ℕ)) → Some xs → bestIn s (worths xs) ≡ heightValue T (kindAt s) xs
+unfolding bestFrom
+best-value T s [] m = absurd m
+best-value T s (x ∷ []) m = sym (value-one T s x)
+best-value T s (x ∷ y ∷ ys) m = best-from T s (x .worth) y ys ∙ sym (value-more T s x y ys)
+
+module _ (T G : ℕ) where
+  -- an M or N node has a child
+  pub kids-some : (s : Side) (F : Forest ℕ) → Filled F → rootOf F ≡ decided s → 0 < length (worths (heightShares T G (children F)))
+  kids-some s end f e = absurd (no-decision s e)
+  kids-some s (leaf n w v rest) f e = absurd (no-decision s e)
+  kids-some s (inner n w k under rest) f e = some-long (heightShares T G under) (some-shares T G under (f .0))
+    where
+      some-long : (xs : List (Share ℕ)) → Some xs → 0 < length (worths xs)
+      some-long [] m = absurd m
+      some-long (x ∷ xs) m = omega arith
+
+  -- and is worth the best of its children's worths
+  pub best-root : (s : Side) (F : Forest ℕ) → Filled F → rootOf F ≡ decided s
+      → bestIn s (worths (heightShares T G (children F))) ≡ firstHeight (heightShares T G F)
+  unfolding heightShares
+  best-root s end f e = absurd (no-decision s e)
+  best-root s (leaf n w v rest) f e = absurd (no-decision s e)
+  best-root s (inner n w k under rest) f e =
+      rw (kind-side k s e) (best-value T s (heightShares T G under) (some-shares T G under (f .0)))
+
+pub all-ahead : (s : Side) (best : ℕ) (xs : List (Share ℕ)) → Each (Ahead s best) xs → AllAhead s best (worths xs)
+all-ahead s best [] e = tt
+all-ahead s best (x ∷ xs) e = (e .0, all-ahead s best xs (e .1))
+
+pub levels-worths : (s : Side) (G best : ℕ) (xs : List (Share ℕ)) → levelsIn s G best (worths xs) ≡ heightLevels s G best xs
+unfolding levelsIn heightLevels
+levels-worths s G best [] = refl
+levels-worths s G best (x ∷ xs) = ap (λ (k : ℕ). levelOne s G best (x .worth) + k) (levels-worths s G best xs)
+
+-- ---- the first m entries, one after another
+
+module _ (m : ℕ) (l : List ℕ) (room : m ≤ length l) where
+  -- entry k and those after it
+  pub entry-on : (k : ℕ) → k < m → drop k (take m l) ≡ getD l k 0 ∷ drop (k + 1) (take m l)
+  entry-on k h =
+      let long : length (take m l) ≡ m = length-take-le m l room in
+      let up : suc k ≡ k + 1 = omega arith in
+      drop-cons (take m l) k 0 (omega (arith, long))
+      ∙ ap₂ (λ (v : ℕ) (j : ℕ). v ∷ drop j (take m l)) (getD-take m l k 0 h) up
+
+  -- past the last
+  pub entry-none : (k : ℕ) → k ≡ m → drop k (take m l) ≡ []
+  entry-none k e = ap (λ (j : ℕ). drop j (take m l)) (e ∙ sym (length-take-le m l room)) ∙ drop-length (take m l)
+
+-- `best` is the best of the first k
+abbrev pub BestSo : Side → (m : ℕ) (l : List ℕ) (best k : ℕ) → Type 0
+BestSo s m l best k = bestIn s (take m l) ≡ bestFrom s best (drop k (take m l))
+
+module _ (s : Side) (m : ℕ) (l : List ℕ) (room : m ≤ length l) where
+  pub best-start : 0 < m → BestSo s m l (getD l 0 0) 1
+  best-start h = ap (bestIn s) (entry-on m l room 0 h)
+
+  pub best-turn : (best k v : ℕ) → k < m → BestSo s m l best k → v ≡ better s best (getD l k 0) → BestSo s m l v (k + 1)
+  unfolding bestFrom
+  best-turn best k v h b e =
+      b ∙ ap (bestFrom s best) (entry-on m l room k h) ∙ ap (λ (a : ℕ). bestFrom s a (drop (k + 1) (take m l))) (sym e)
+
+  pub best-end : (best k : ℕ) → k ≡ m → BestSo s m l best k → best ≡ bestIn s (take m l)
+  unfolding bestFrom
+  best-end best k e b = sym (b ∙ ap (bestFrom s best) (entry-none m l room k e))
+
+level-low : (b : Bool) → cond b 1 0 ≤ 1
+level-low true = omega arith
+level-low false = omega arith
+
+-- k entries were looked at
+pub record Counting (s : Side) (G best m : ℕ) (l : List ℕ) (count k : ℕ) : Type 0 where
+  pub low : count ≤ k
+  pub upto : k ≤ m
+  pub ahead : AllAhead s best (drop k (take m l))
+  pub same : levelsIn s G best (take m l) ≡ count + levelsIn s G best (drop k (take m l))
+
+module _ (s : Side) (G best m : ℕ) (l : List ℕ) (room : m ≤ length l) where
+  pub count-start : AllAhead s best (take m l) → Counting s G best m l 0 0
+  count-start a = record { low = omega arith; upto = omega arith; ahead = a; same = omega arith }
+
+  module _ (count k : ℕ) (C : Counting s G best m l count k) where
+    both : k < m → Ahead s best (getD l k 0) × AllAhead s best (drop (k + 1) (take m l))
+    both h = rw (entry-on m l room k h) at (C .ahead)
+
+    pub count-ahead : k < m → Ahead s best (getD l k 0)
+    count-ahead h = both h .0
+
+    pub count-low : k < m → count + levelOne s G best (getD l k 0) ≤ m
+    count-low h = omega (arith, C .low, level-low (ltb (heightLoss s best (getD l k 0)) G))
+
+    pub count-turn : (more : ℕ) → k < m → more ≡ count + levelOne s G best (getD l k 0) → Counting s G best m l more (k + 1)
+    unfolding levelsIn
+    count-turn more h e =
+        let step : levelsIn s G best (take m l) ≡ count + (levelOne s G best (getD l k 0) + levelsIn s G best (drop (k + 1) (take m l))) =
+        C .same ∙ ap (λ (d : List ℕ). count + levelsIn s G best d) (entry-on m l room k h) in
+        record {
+          low = omega (arith, e, C .low, level-low (ltb (heightLoss s best (getD l k 0)) G));
+          upto = omega arith;
+          ahead = both h .1;
+          same = omega (arith, step, e);
+        }
+
+    pub count-end : m ≤ k → count ≡ levelsIn s G best (take m l)
+    unfolding levelsIn
+    count-end h =
+        let last : levelsIn s G best (take m l) ≡ count + 0 =
+        C .same ∙ ap (λ (d : List ℕ). count + levelsIn s G best d) (entry-none m l room k (omega (arith, C .upto))) in
+        omega (arith, last)

@@ -1,0 +1,139 @@
+-- `judge::list_worths` meets its contract. Assumes nothing.
+use Prim.Native.Nat.{_+_, _-_, _<_}
+use mathlib.Core.Path.{_≡_, refl, _∙_}
+use native.Mathlib.Omega.{arith}
+use denote.Ref.{now}
+use lib.ListN.{length, length-set}
+use Rattle.judge.specs.Inside.{Under}
+use Rattle.judge.proofs.Run.{Child, part-ready, part-worth, ListingAll, list-start, list-child, list-turn, list-end}
+use Rattle.judge.proofs.list_worths.Statement.{statement}
+use Rattle.judge.proofs.list_worths.Tie as tie
+
+abbrev Inv-loop : tie.InvT-loop
+Inv-loop lines stop n g list₀ m₀ i₀ list m i = (length list ≡ length list₀) × ListingAll stop g n lines list₀ list m i
+
+abbrev μ-loop : tie.MeasureT-loop
+μ-loop lines stop n g list₀ m₀ i₀ list m i = n - i
+
+loop-holds : tie.Need-loop-holds Inv-loop μ-loop
+loop-holds c =
+    let a = c .before .before .before .args in
+    (refl, list-start (now (a .stop)) (a .g) (a .n) (now (a .lines)) (now (a .list)))
+
+abbrev start-of : tie.In-loop Inv-loop μ-loop → tie.Start Inv-loop μ-loop
+start-of c = c .before .before .before .before .before
+
+-- the child at node i
+child : (c : tie.In-loop Inv-loop μ-loop)
+    → let a = start-of c .args in
+    (U : Under (now (a .stop)) (a .g) (a .n) (now (a .lines)) (length (now (a .list))))
+    → Child (now (a .stop)) (a .g) (a .n) (now (a .lines)) (c .before .loop .i) (c .before .loop .inv .1 U .rest)
+child c U =
+    let a = start-of c .args in
+    let l = c .before .loop in
+    list-child (now (a .stop)) (a .g) (a .n) (now (a .lines)) (now (a .list)) (l .list) (l .m) (l .i) U (l .inv .1) (c .loop-test .taken)
+
+stop-at-requires : tie.Need-stop-at-requires Inv-loop μ-loop
+stop-at-requires c κs = omega (arith, c .loop-test .taken, start-of c .pre .fits .room)
+
+mul-child-worth : tie.Need-mul-child-worth Inv-loop μ-loop
+mul-child-worth c = record { fits = omega (arith, c .before .loop-test .taken, start-of (c .before) .pre .fits .few) }
+
+mul-child-worth-2 : tie.Need-mul-child-worth-2 Inv-loop μ-loop
+mul-child-worth-2 c =
+    let U = start-of (c .before) .pre in
+    record { fits = omega (arith, c .stop-at .ensures, child (c .before) U .within, U .fits .few) }
+
+sub-child-worth : tie.Need-sub-child-worth Inv-loop μ-loop
+sub-child-worth c = omega (arith, c .stop-at .ensures, child (c .before) (start-of (c .before) .pre) .later)
+
+part-child-worth-start : tie.Need-part-child-worth-start Inv-loop μ-loop
+part-child-worth-start c = omega (arith, c .stop-at .ensures, child (c .before) (start-of (c .before) .pre) .later)
+
+part-child-worth-end : tie.Need-part-child-worth-end Inv-loop μ-loop
+part-child-worth-end c =
+    let U = start-of (c .before) .pre in
+    omega (arith, c .stop-at .ensures, child (c .before) U .within, U .fits .long)
+
+child-worth-requires : tie.Need-child-worth-requires Inv-loop μ-loop
+child-worth-requires c κs =
+    let q = c .before .before in
+    let s = start-of q in
+    let a = s .args in
+    part-ready (now (a .stop)) (a .g) (a .n) (now (a .lines)) (s .pre .fits) (q .before .loop .i) (q .before .loop .inv .1 (s .pre) .rest) (child q (s .pre)) (c .before .stop-at .result) (c .before .stop-at .ensures)
+
+-- what the child is worth
+worth : (c : tie.After-child-worth Inv-loop μ-loop)
+    → let q = c .before .before .before in
+    let a = start-of q .args in
+    (U : Under (now (a .stop)) (a .g) (a .n) (now (a .lines)) (length (now (a .list)))) → c .child-worth .result ≡ child q U .share .worth
+worth c U =
+    let q = c .before .before .before in
+    let a = start-of q .args in
+    let t = c .before .before .stop-at in
+    part-worth (now (a .stop)) (a .g) (a .n) (now (a .lines)) (U .fits) (q .before .loop .i) (q .before .loop .inv .1 U .rest) (child q U) (t .result) (t .ensures) (c .child-worth .result) (c .child-worth .ensures)
+
+-- the list has an entry m
+entry : (c : tie.In-loop Inv-loop μ-loop) → (c .before .loop .m < 1024) × (c .before .loop .m < length (c .before .loop .list))
+entry c =
+    let l = c .before .loop in
+    let U = start-of c .pre in
+    let L = l .inv .1 U in
+    (omega (arith, L .low, L .upto, U .fits .few), omega (arith, l .inv .0, L .low, L .upto, U .place))
+
+mul-list : tie.Need-mul-list Inv-loop μ-loop
+mul-list c = record { fits = omega (arith, entry (c .before .before .before) .0) }
+
+slice-write-list : tie.Need-slice-write-list Inv-loop μ-loop
+slice-write-list c = entry (c .before .before .before) .1
+
+add-m : tie.Need-add-m Inv-loop μ-loop
+add-m c = record { fits = omega (arith, entry (c .before .before .before) .0) }
+
+loop-less : tie.Need-loop-less Inv-loop μ-loop
+loop-less c =
+    let q = c .before .before .before in
+    let k = child q (start-of q .pre) in
+    omega (arith, c .before .before .stop-at .ensures, k .later, k .within, q .loop-test .taken)
+
+loop-again : tie.Need-loop-again Inv-loop μ-loop
+unfolding child
+loop-again c =
+    let q = c .before .before .before in
+    let l = q .before .loop in
+    let a = start-of q .args in
+    let t = c .before .before .stop-at in (
+      length-set (l .list) (l .m) (c .child-worth .result) ∙ l .inv .0,
+      λ U. list-turn (now (a .stop)) (a .g) (a .n) (now (a .lines)) (now (a .list)) (l .list) (l .m) (l .i) U (l .inv .1) (q .loop-test .taken) (c .child-worth .result) (l .m + 1) (t .result) (worth c U) refl (t .ensures),
+    )
+
+same-length : tie.Need-same-length Inv-loop μ-loop
+same-length c = c .before .loop .inv .0
+
+returns : tie.Need-returns Inv-loop μ-loop
+returns c =
+    let l = c .before .loop in
+    let a = c .before .before .before .before .before .args in
+    λ U. list-end (now (a .stop)) (a .g) (a .n) (now (a .lines)) (now (a .list)) (l .list) (l .m) (l .i) U (l .inv .1) (c .loop-test .left)
+
+pub list-worths-spec : {M : Type 1} → statement M
+list-worths-spec =
+    tie.close
+    (tie.spec
+    Inv-loop
+    μ-loop
+    loop-holds
+    stop-at-requires
+    mul-child-worth
+    mul-child-worth-2
+    sub-child-worth
+    part-child-worth-start
+    part-child-worth-end
+    child-worth-requires
+    mul-list
+    slice-write-list
+    add-m
+    loop-less
+    loop-again
+    same-length
+    returns)
