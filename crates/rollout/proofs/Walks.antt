@@ -20,7 +20,7 @@ use Rattle.rollout.specs.Rollout.{pick, spend, over, candidate}
 use Rattle.rollout.specs.Heights.{natural}
 use Rattle.rollout.specs.Sound.{Filled, Sound}
 use Rattle.rollout.specs.Lists.{Store, lowAt, highAt, put, lowsS, highsS, candidatesS, WalkS, keep, walkS}
-use Rattle.rollout.specs.Inside.{stored, Row, boundsIn, chosen, Children, Counted, Choice, Chosen, Updated, Ready, WalkLeft}
+use Rattle.rollout.specs.Inside.{stored, Row, boundsIn, chosen, Children, Choice, Named, Chosen, Updated, Ready, WalkLeft}
 use Rattle.rollout.proofs.Folds.{Some, over-any}
 use Rattle.rollout.proofs.Listed.{inner-candidate}
 use Rattle.rollout.proofs.Rows.{row-le, spans-row, one-more, live, down-is, down-some, candidates-some}
@@ -212,10 +212,9 @@ pub record Window (K : List ℕ) (st : Store) (c α β y a b : ℕ) : Type 0 whe
   pub alpha : a ≡ max α (lowAt st c)
   pub beta : b ≡ min β (highAt st c)
 
--- of the m candidates under it number j, which the policy bytes p name, is at entry i
-pub record Choosing (S : List ℕ) (c e a b : ℕ) (st : Store) (p : List ℕ) (m j i : ℕ) : Type 0 where
-  pub count : Counted S (c + 1) e a b st m
-  pub named : j ≡ pick m p
+-- of the candidates under it number j, which the policy bytes p name, is at entry i
+pub record Choosing (S : List ℕ) (c e a b : ℕ) (st : Store) (p : List ℕ) (j i : ℕ) : Type 0 where
+  pub named : Named S (c + 1) e a b st p j
   pub found : Chosen S (c + 1) e a b st j i
 
 module _ {K S H : List ℕ} {G c e α β : ℕ} {st : Store} (R : Ready K S H G c e α β st) where
@@ -252,27 +251,31 @@ module _ {K S H : List ℕ} {G c e α β : ℕ} {st : Store} (R : Ready K S H G 
     pub inner-some : c + 1 < e
     inner-some = candidates-some a b st S (c + 1) e under row (node .more)
 
-    pub inner-more : (m : ℕ) → Counted S (c + 1) e a b st m → 0 < m
-    inner-more m n = omega (arith, n under row, node .more)
-
-    few : (p : List ℕ) (m j : ℕ) → Counted S (c + 1) e a b st m → j ≡ pick m p → j < candidatesS a b under st
-    few p m j n q = omega (arith, q, n under row, pick-less m p (inner-more m n))
-
-    pub inner-choice : (p : List ℕ) (m j : ℕ) → Counted S (c + 1) e a b st m → j ≡ pick m p → Choice S (c + 1) e a b st j
-    inner-choice p m j n q =
+    choice-of : (j : ℕ) → j < candidatesS a b under st → Choice S (c + 1) e a b st j
+    choice-of j l =
         record {
           nodes = under;
           row = row;
-          some = few p m j n q;
+          some = l;
           room = omega (arith, inner-within, R .stops);
           low = omega (arith, inner-within, R .low);
           high = omega (arith, inner-within, R .high);
+          few = omega (arith, inner-within, R .few);
         }
 
-    module _ {p : List ℕ} {m j i : ℕ} (g : Choosing S c e a b st p m j i) where
+    pub inner-more : Choice S (c + 1) e a b st 0
+    inner-more = choice-of 0 (node .more)
+
+    named-less : (p : List ℕ) (j : ℕ) → Named S (c + 1) e a b st p j → j < candidatesS a b under st
+    named-less p j q = omega (arith, q under row, pick-less (candidatesS a b under st) p (node .more))
+
+    pub inner-choice : (p : List ℕ) (j : ℕ) → Named S (c + 1) e a b st p j → Choice S (c + 1) e a b st j
+    inner-choice p j q = choice-of j (named-less p j q)
+
+    module _ {p : List ℕ} {j i : ℕ} (g : Choosing S c e a b st p j i) where
       pub inner-child : Child at G e a b st (c + 1) i (λ (s : List ℕ). walkS G a b j s under st)
       inner-child =
-          let l : j < candidatesS a b under st = few p m j (g .count) (g .named) in
+          let l : j < candidatesS a b under st = named-less p j (g .named) in
           subst (λ (x : ℕ). Child at G e a b st (c + 1) x (λ (s : List ℕ). walkS G a b j s under st)) (sym (g .found under row l))
           (child-of at G e a b st (c + 1) j under (subst (λ (x : ℕ). Spans at (c + 1) x under) (R .stop) (node .spans)) (node .sound) l)
 
@@ -322,7 +325,7 @@ module _ {K S H : List ℕ} {G c e α β : ℕ} {st : Store} (R : Ready K S H G 
           unfolding child-ready
           all =
               node .walk p
-              ∙ ap (λ (n : ℕ). updated (node .kind) under c (walkS G a b n (spend p) under st)) (sym (g .named ∙ ap (λ (n : ℕ). pick n p) (g .count under row)))
+              ∙ ap (λ (n : ℕ). updated (node .kind) under c (walkS G a b n (spend p) under st)) (sym (g .named under row))
               ∙ ap (updated (node .kind) under c) (ap (λ (s : List ℕ). walkS G a b j s under st) (sym eu) ∙ inner-child .walk (drop u P))
 
           pub inner-done : WalkLeft (walkS G α β 0 p (R .nodes) st) r P (stored low high)

@@ -12,7 +12,7 @@ use Rattle.table.specs.Slices.{Spans, heightTree, laid}
 use Rattle.table.specs.Accepted.{span}
 use Rattle.search.specs.Inside.{slices}
 use Rattle.rollout.specs.declared.Step.{Step}
-use Rattle.rollout.specs.Rollout.{over, candidate}
+use Rattle.rollout.specs.Rollout.{pick, over, candidate}
 use Rattle.rollout.specs.Heights.{natural}
 use Rattle.rollout.specs.Sound.{Sound}
 use Rattle.rollout.specs.Lists.{Store, lowAt, highAt, candidatesS, WalkS, RolledS, keep, walkS, rollS}
@@ -63,6 +63,11 @@ pub record Choice (S : List ℕ) (c e α β : ℕ) (st : Store) (j : ℕ) : Type
   pub room : e ≤ length S
   pub low : e ≤ length (st .low)
   pub high : e ≤ length (st .high)
+  pub few : e ≤ 1024
+
+-- r is the number of the candidate that the policy bytes p name
+abbrev pub Named : (S : List ℕ) (c e α β : ℕ) → Store → List ℕ → ℕ → Type 0
+Named S c e α β st p r = (F : Forest ℕ) → Row S c e F → r ≡ pick (candidatesS α β F st) p
 
 abbrev pub Chosen : (S : List ℕ) (c e α β : ℕ) → Store → (j r : ℕ) → Type 0
 Chosen S c e α β st j r = (F : Forest ℕ) → Row S c e F → j < candidatesS α β F st → r ≡ chosen α β j F st

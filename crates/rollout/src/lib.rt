@@ -4,15 +4,21 @@ ghost use mathlib.Core.Bool.{cond};
 ghost use Prim.Native.Nat.{_+_, _*_, _<_, _≤_, min, max};
 ghost use lib.ListN.{length, getD, set, drop};
 ghost use Rattle.table.specs.Tree.{kindOf};
-ghost use Rattle.rollout.specs.Rollout.{pick, spend, joined, candidate};
+ghost use Rattle.rollout.specs.Rollout.{spend, joined, candidate};
 ghost use Rattle.rollout.specs.Heights.{natural};
 ghost use Rattle.rollout.specs.Filled.{filled};
-ghost use Rattle.rollout.specs.Inside.{stored, Children, Counted, Choice, Chosen, Extreme, Updated, Ready, Walked, ReadyRoll, WellRolled};
+ghost use Rattle.rollout.specs.Inside.{stored, Children, Counted, Choice, Named, Chosen, Extreme, Updated, Ready, Walked, ReadyRoll, WellRolled};
 
 // What a walk gives: the leaf that it read, and how many policy bytes are used.
 struct Step {
     pub leaf: usize,
     pub used: usize,
+}
+
+// The extremes of the bounds of a node's children.
+struct Ends {
+    pub low: u64,
+    pub high: u64,
 }
 
 fn max_of(a: u64, b: u64) -> u64
@@ -137,18 +143,20 @@ fn join(kind: u8, x: u64, y: u64) -> u64
     max_of(x, y)
 }
 
-// Lines 15 and 16: the maximum or minimum over all children, unread ones included.
-fn extreme(kind: u8, stop: &[u16], bound: &[u64], c: usize, e: usize) -> u64
-    requires { ⌜ Children (now stop) c e × (c < e) × (e ≤ length (now bound)) ⌝ }
-    ensures { λ r. ⌜ Extreme (kindOf kind) (now (stop .entry)) c e (now (bound .entry)) r ⌝ }
+// Lines 15 and 16: the maximum or minimum over all children, unread ones included. Each child is come to once, for both bounds.
+fn extremes(kind: u8, stop: &[u16], low: &[u64], high: &[u64], c: usize, e: usize) -> Ends
+    requires { ⌜ Children (now stop) c e × (c < e) × (e ≤ length (now low)) × (e ≤ length (now high)) ⌝ }
+    ensures { λ r. ⌜ Extreme (kindOf kind) (now (stop .entry)) c e (now (low .entry)) (r .low) × Extreme (kindOf kind) (now (stop .entry)) c e (now (high .entry)) (r .high) ⌝ }
 {
-    let mut x = bound_at(bound, c);
+    let mut l = bound_at(low, c);
+    let mut h = bound_at(high, c);
     let mut i = stop_at(stop, c);
     while i < e {
-        x = join(kind, x, bound_at(bound, i));
+        l = join(kind, l, bound_at(low, i));
+        h = join(kind, h, bound_at(high, i));
         i = stop_at(stop, i);
     }
-    x
+    Ends { low: l, high: h }
 }
 
 // The node c, whose children are the entries after it up to e, gets the extremes of their bounds.
@@ -156,10 +164,9 @@ fn update(kind: u8, stop: &[u16], low: &mut [u64], high: &mut [u64], c: usize, e
     requires { ⌜ Children (now stop) (c + 1) e × (c + 1 < e) × (e ≤ length (now low)) × (e ≤ length (now high)) ⌝ }
     ensures { λ _. ⌜ Updated (kindOf kind) (now (stop .entry)) c e (now (low .entry)) (now (low .exit)) × Updated (kindOf kind) (now (stop .entry)) c e (now (high .entry)) (now (high .exit)) ⌝ }
 {
-    let l = extreme(kind, stop, low, c + 1, e);
-    let h = extreme(kind, stop, high, c + 1, e);
-    low[c] = l;
-    high[c] = h;
+    let x = extremes(kind, stop, low, high, c + 1, e);
+    low[c] = x.low;
+    high[c] = x.high;
 }
 
 // The leaf c is read: both bounds are its height in grains.
@@ -172,13 +179,23 @@ fn read_leaf(height: &[u32], low: &mut [u64], high: &mut [u64], c: usize, grain:
     high[c] = v;
 }
 
-// Which of m candidates the policy byte at `at` names: past the list's end the first.
-fn choice(policy: &[u8], at: usize, m: usize) -> usize
-    requires { ⌜ 0 < m ⌝ }
-    ensures { λ r. ⌜ r ≡ pick m (drop at (now (policy .entry))) ⌝ }
+// Which of the candidates the policy byte at `at` names: past the list's end the first, whatever their number, so that none are counted.
+fn choice(
+    stop: &[u16],
+    low: &[u64],
+    high: &[u64],
+    policy: &[u8],
+    at: usize,
+    c: usize,
+    e: usize,
+    alpha: u64,
+    beta: u64,
+) -> usize
+    requires { ⌜ Choice (now stop) c e alpha beta (stored (now low) (now high)) 0 ⌝ }
+    ensures { λ r. ⌜ Named (now (stop .entry)) c e alpha beta (stored (now (low .entry)) (now (high .entry))) (drop at (now (policy .entry))) r ⌝ }
 {
     if at < policy.len() {
-        return index8(policy[at]) % m;
+        return index8(policy[at]) % count(stop, low, high, c, e, alpha, beta);
     }
     0
 }
@@ -218,8 +235,7 @@ fn walk(
     }
     let a = max_of(alpha, bound_at(low, c));
     let b = min_of(beta, bound_at(high, c));
-    let m = count(stop, low, high, c + 1, e, a, b);
-    let j = choice(policy, at, m);
+    let j = choice(stop, low, high, policy, at, c + 1, e, a, b);
     let i = find(stop, low, high, c + 1, e, a, b, j);
     let x = stop_at(stop, i);
     let u = consume(policy, at);

@@ -15,7 +15,6 @@ use Rattle.rollout.proofs.+walk.Lts-walk as walk-lts
 use Rattle.rollout.proofs.bound_at.Reads as bound-at-reads
 use Rattle.rollout.proofs.choice.Reads as choice-reads
 use Rattle.rollout.proofs.consume.Reads as consume-reads
-use Rattle.rollout.proofs.count.Reads as count-reads
 use Rattle.rollout.proofs.find.Reads as find-reads
 use Rattle.rollout.proofs.kind_at.Reads as kind-at-reads
 use Rattle.rollout.proofs.max_of.Reads as max-of-reads
@@ -49,8 +48,6 @@ walk-claims t = (
   max-of-reads.Learnt,
   min-of-reads.Asked,
   min-of-reads.Learnt,
-  count-reads.Asked,
-  count-reads.Learnt,
   choice-reads.Asked,
   choice-reads.Learnt,
   find-reads.Asked,
@@ -121,47 +118,39 @@ window t c =
       beta = c .min-of .ensures ∙ ap (min (a .beta)) (c .before .bound-at2 .ensures);
     }
 
-walk-add-count : (t : ℕ) → walk-lts.Need-add-count (walk-claims t) (walk-at t) walk.Post
-walk-add-count t c =
+walk-add-choice : (t : ℕ) → walk-lts.Need-add-choice (walk-claims t) (walk-at t) walk.Post
+walk-add-choice t c =
     let R = start-of t (c .before .before) .pre .1 in
     record { fits = omega (arith, R .some, R .few) }
 
-walk-count-requires : (t : ℕ) → walk-lts.Need-count-requires (walk-claims t) (walk-at t) walk.Post
-walk-count-requires t c κs =
-    let w = c .before .before in
-    let R = start-of t w .pre .1 in
-    let up = inner-within R (window t w) in
-    (inner-children R (window t w), omega (arith, up, R .low), omega (arith, up, R .high))
-
 walk-choice-requires : (t : ℕ) → walk-lts.Need-choice-requires (walk-claims t) (walk-at t) walk.Post
 walk-choice-requires t c κs =
-    let w = c .before .before .before in
-    inner-more (start-of t w .pre .1) (window t w) (c .count .result) (c .count .ensures)
+    let w = c .before .before in
+    inner-more (start-of t w .pre .1) (window t w)
 
 walk-add-find : (t : ℕ) → walk-lts.Need-add-find (walk-claims t) (walk-at t) walk.Post
 walk-add-find t c =
-    let R = start-of t (c .before .before .before .before .before .before) .pre .1 in
+    let R = start-of t (c .before .before .before .before .before) .pre .1 in
     record { fits = omega (arith, R .some, R .few) }
 
 walk-find-requires : (t : ℕ) → walk-lts.Need-find-requires (walk-claims t) (walk-at t) walk.Post
 walk-find-requires t c κs =
-    let w = c .before .before .before .before .before .before in
+    let w = c .before .before .before .before .before in
     let a = start-of t w .args in
-    let m = c .before .before .before .count in
     let j = c .before .before .choice in
-    inner-choice (start-of t w .pre .1) (window t w) (drop (a .at) (now (a .policy))) (m .result) (j .result) (m .ensures) (j .ensures)
+    inner-choice (start-of t w .pre .1) (window t w) (drop (a .at) (now (a .policy))) (j .result) (j .ensures)
 
 -- where the child was found
 
 abbrev window-of : (t : ℕ) → walk-lts.After-find (walk-claims t) (walk-at t) walk.Post → walk-lts.After-min-of (walk-claims t) (walk-at t) walk.Post
-window-of t c = c .before .before .before .before .before .before .before
+window-of t c = c .before .before .before .before .before .before
 
 choosing : (t : ℕ) (c : walk-lts.After-find (walk-claims t) (walk-at t) walk.Post)
     → let w = window-of t c in
     let a = start-of t w .args in
     Choosing (now (a .stop)) (a .c) (a .e) (w .before .before .before .max-of .result) (w .min-of .result) (stored (now (a .low)) (now (a .high))) (drop (a .at) (now (a .policy)))
-    (c .before .before .before .before .count .result) (c .before .before .before .choice .result) (c .find .result)
-choosing t c = record { count = c .before .before .before .before .count .ensures; named = c .before .before .before .choice .ensures; found = c .find .ensures }
+    (c .before .before .before .choice .result) (c .find .result)
+choosing t c = record { named = c .before .before .before .choice .ensures; found = c .find .ensures }
 
 walk-stop-at-requires : (t : ℕ) → walk-lts.Need-stop-at-requires (walk-claims t) (walk-at t) walk.Post
 walk-stop-at-requires t c κs =
@@ -218,8 +207,7 @@ pub +walk-spec : {M : Type 1} → statement M
     (walk-max-of-requires t)
     (walk-bound-at-requires-2 t)
     (walk-min-of-requires t)
-    (walk-add-count t)
-    (walk-count-requires t)
+    (walk-add-choice t)
     (walk-choice-requires t)
     (walk-add-find t)
     (walk-find-requires t)
