@@ -14,6 +14,7 @@ pub mod Listed
 pub mod Worked
 pub mod Rows
 pub mod Walks
+pub mod Paths
 pub mod Looped
 pub mod Filling
 pub mod Given

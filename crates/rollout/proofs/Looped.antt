@@ -14,7 +14,7 @@ use Rattle.table.specs.Slices.{heightTree, laid}
 use Rattle.table.specs.Accepted.{span}
 use Rattle.table.proofs.Accepted.{accepted-size, accepted-grain, heights-rooted}
 use Rattle.search.specs.Inside.{slices}
-use Rattle.search.proofs.Call.{root-stop, root-some}
+use Rattle.search.proofs.Call.{root-some}
 use Rattle.rollout.specs.declared.Step.{Step}
 use Rattle.rollout.specs.Rollout.{firstOr, candidate}
 use Rattle.rollout.specs.Heights.{natural}
@@ -83,7 +83,7 @@ module _ {K S H : List ℕ} {G n : ℕ} {st0 : Store} (came P : List ℕ) (R : R
         (record { store = refl; used = L .count; leaves = L .leaves })
 
     module _ (a b : ℕ) (ea : a ≡ lowAt st 0) (eb : b ≡ highAt st 0) (o : a < b) where
-      pub rolling-ready : Ready K S H G 0 n a b st
+      pub rolling-ready : Ready K S H G 0 a b st
       rolling-ready =
           let s = R .text in
           let t = R .table in
@@ -95,7 +95,6 @@ module _ {K S H : List ℕ} {G n : ℕ} {st0 : Store} (came P : List ℕ) (R : R
             upto = n;
             spans = R .spans;
             some = some;
-            stop = root-stop (slices K S (R .weights) H) n F (R .spans) (heights-rooted s t h);
             sound = subst (λ (g : ℕ). Sound (keep g F st)) (sym (R .grained)) (going-sound s t h P st0 (L .read) (drop at P) st (L .going));
             live = subst₂ (λ (x y : ℕ). candidate natural x y (lowAt st 0) (highAt st 0) ≡ true) (sym ea) (sym eb) (own-window (lowAt st 0) (highAt st 0) (omega (arith, ea, eb)));
             grain = omega (arith, R .grained, accepted-grain s t h);
@@ -111,7 +110,7 @@ module _ {K S H : List ℕ} {G n : ℕ} {st0 : Store} (came P : List ℕ) (R : R
       one = walkS (grain (R .table)) (lowAt st 0) (highAt st 0) 0 (drop at P) F st
 
       -- r and st2 are what a walk left
-      module _ (r : Step) (st2 : Store) (told : Walked K S H G 0 n a b (drop at P) st r P st2) where
+      module _ (r : Step) (st2 : Store) (told : Walked K S H G a b (drop at P) st r P st2) where
         walked : WalkLeft one r P st2
         unfolding rolling-ready
         walked =

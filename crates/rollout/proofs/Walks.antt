@@ -12,15 +12,14 @@ use Rattle.table.specs.Tree.{Kind, Forest, end, leaf, inner, codeOf, kindOf}
 use Rattle.table.specs.Slices.{Slices, Spans}
 use Rattle.search.specs.Inside.{slices}
 use Rattle.table.proofs.Spans.{spans-le}
-use Rattle.search.proofs.Forest.{stopOf, step}
+use Rattle.search.proofs.Forest.{stopOf}
 use Rattle.search.proofs.Rules.{code-pos}
 use Rattle.worth.proofs.Codes.{kind-code}
-use Rattle.rollout.specs.declared.Step.{Step}
 use Rattle.rollout.specs.Rollout.{pick, spend, over, candidate}
 use Rattle.rollout.specs.Heights.{natural}
 use Rattle.rollout.specs.Sound.{Filled, Sound}
 use Rattle.rollout.specs.Lists.{Store, lowAt, highAt, put, lowsS, highsS, candidatesS, WalkS, keep, walkS}
-use Rattle.rollout.specs.Inside.{stored, Row, boundsIn, chosen, Children, Counted, Choice, Chosen, Updated, Ready, WalkLeft}
+use Rattle.rollout.specs.Inside.{Row, boundsIn, chosen, Choice, Named, Chosen, Ready, readAt, updated, Rung}
 use Rattle.rollout.proofs.Folds.{Some, over-any}
 use Rattle.rollout.proofs.Listed.{inner-candidate}
 use Rattle.rollout.proofs.Rows.{row-le, spans-row, one-more, live, down-is, down-some, candidates-some}
@@ -44,15 +43,6 @@ unfolding keep boundsIn
 bounds-some G end st f b = absurd f
 bounds-some G (leaf n w x rest) st f b = tt
 bounds-some G (inner n w k under rest) st f b = tt
-
--- what node c leaves after the walk r under it
-abbrev updated : Kind → Forest ℕ → ℕ → WalkS → WalkS
-updated k under c r =
-    record {
-      store = put (r .store) c (over natural k 0 (boundsIn under (r .store .low))) (over natural k 0 (boundsIn under (r .store .high)));
-      read = r .read;
-      policy = r .policy;
-    }
 
 module _ (G α β : ℕ) (p : List ℕ) (st : Store) where
   leaf-now : (n w x : ℕ) (rest : Forest ℕ) → live α β st n ≡ true
@@ -205,33 +195,28 @@ pick-less m (b ∷ p) h = mod-lt b h
 
 -- ---- the calls of a walk
 
--- at an inner node c, whose kind was read as y: its own window a, b
-pub record Window (K : List ℕ) (st : Store) (c α β y a b : ℕ) : Type 0 where
+-- at an inner node c, whose kind was read as y, and where its run stops as e: its own window a, b
+pub record Window (K S : List ℕ) (st : Store) (c α β y e a b : ℕ) : Type 0 where
   pub kind : y ≡ getD K c 0
   pub inside : y ≡ 0 → ⊥
+  pub stop : e ≡ getD S c 0
   pub alpha : a ≡ max α (lowAt st c)
   pub beta : b ≡ min β (highAt st c)
 
--- of the m candidates under it number j, which the policy bytes p name, is at entry i
-pub record Choosing (S : List ℕ) (c e a b : ℕ) (st : Store) (p : List ℕ) (m j i : ℕ) : Type 0 where
-  pub count : Counted S (c + 1) e a b st m
-  pub named : j ≡ pick m p
+-- of the candidates under it number j, which the policy bytes p name, is at entry i
+pub record Choosing (S : List ℕ) (c e a b : ℕ) (st : Store) (p : List ℕ) (j i : ℕ) : Type 0 where
+  pub named : Named S (c + 1) e a b st p j
   pub found : Chosen S (c + 1) e a b st j i
 
-module _ {K S H : List ℕ} {G c e α β : ℕ} {st : Store} (R : Ready K S H G c e α β st) where
+module _ {K S H : List ℕ} {G c α β : ℕ} {st : Store} (R : Ready K S H G c α β st) where
   abbrev at : Slices
   at = slices K S (R .weights) H
 
   -- y is the kind that was read
-  pub ready-leaf : (y : ℕ) → y ≡ getD K c 0 → y ≡ 0 → (P : List ℕ) (used : ℕ) (low high : List ℕ)
-      → low ≡ set (st .low) c (getD H c 0 * G) → high ≡ set (st .high) c (getD H c 0 * G)
-      → WalkLeft (walkS G α β 0 (drop used P) (R .nodes) st) (record { leaf = c; used = used }) P (stored low high)
-  ready-leaf y q z P used low high l h =
-      subst (λ (w : WalkS). WalkLeft w (record { leaf = c; used = used }) P (stored low high))
-      (sym (at-leaf at G α β c (R .upto) st (R .nodes) (R .spans) (R .some) (sym q ∙ z) (R .live) (drop used P)))
-      (record { store = ap₂ stored l h; read = refl; policy = refl; small = omega (arith, R .some, R .few) })
+  pub ready-leaf : (y : ℕ) → y ≡ getD K c 0 → y ≡ 0 → (p : List ℕ) → walkS G α β 0 p (R .nodes) st ≡ readAt st c (getD H c 0 * G) p
+  ready-leaf y q z p = at-leaf at G α β c (R .upto) st (R .nodes) (R .spans) (R .some) (sym q ∙ z) (R .live) p
 
-  module _ {y a b : ℕ} (w : Window K st c α β y a b) where
+  module _ {y e a b : ℕ} (w : Window K S st c α β y e a b) where
     pub node : Inner at G α β c (R .upto) st a b (R .nodes)
     node =
         subst₂ (λ (x v : ℕ). Inner at G α β c (R .upto) st x v (R .nodes)) (sym (w .alpha)) (sym (w .beta))
@@ -240,99 +225,80 @@ module _ {K S H : List ℕ} {G c e α β : ℕ} {st : Store} (R : Ready K S H G 
     abbrev under : Forest ℕ
     under = node .under
 
-    row : Row S (c + 1) e under
-    row = subst (λ (x : ℕ). Row S (c + 1) x under) (R .stop) (spans-row at (c + 1) (stopOf at c) under (node .spans))
+    row : Row S (c + 1) (getD S c 0) under
+    row = spans-row at (c + 1) (stopOf at c) under (node .spans)
 
-    pub inner-within : e ≤ R .upto
-    inner-within = omega (arith, R .stop, node .within)
+    row-to : Row S (c + 1) e under
+    row-to = subst (λ (x : ℕ). Row S (c + 1) x under) (sym (w .stop)) row
 
-    pub inner-children : Children S (c + 1) e
-    inner-children = record { nodes = under; row = row; room = omega (arith, inner-within, R .stops); few = omega (arith, inner-within, R .few) }
+    within : e ≤ R .upto
+    within = omega (arith, w .stop, node .within)
 
-    pub inner-some : c + 1 < e
-    inner-some = candidates-some a b st S (c + 1) e under row (node .more)
-
-    pub inner-more : (m : ℕ) → Counted S (c + 1) e a b st m → 0 < m
-    inner-more m n = omega (arith, n under row, node .more)
-
-    few : (p : List ℕ) (m j : ℕ) → Counted S (c + 1) e a b st m → j ≡ pick m p → j < candidatesS a b under st
-    few p m j n q = omega (arith, q, n under row, pick-less m p (inner-more m n))
-
-    pub inner-choice : (p : List ℕ) (m j : ℕ) → Counted S (c + 1) e a b st m → j ≡ pick m p → Choice S (c + 1) e a b st j
-    inner-choice p m j n q =
+    choice-of : (j : ℕ) → j < candidatesS a b under st → Choice S (c + 1) e a b st j
+    choice-of j l =
         record {
           nodes = under;
-          row = row;
-          some = few p m j n q;
-          room = omega (arith, inner-within, R .stops);
-          low = omega (arith, inner-within, R .low);
-          high = omega (arith, inner-within, R .high);
+          row = row-to;
+          some = l;
+          room = omega (arith, within, R .stops);
+          low = omega (arith, within, R .low);
+          high = omega (arith, within, R .high);
+          few = omega (arith, within, R .few);
         }
 
-    module _ {p : List ℕ} {m j i : ℕ} (g : Choosing S c e a b st p m j i) where
-      pub inner-child : Child at G e a b st (c + 1) i (λ (s : List ℕ). walkS G a b j s under st)
+    pub inner-more : Choice S (c + 1) e a b st 0
+    inner-more = choice-of 0 (node .more)
+
+    pub inner-rung : Rung S c (R .upto)
+    inner-rung = record { under = under; row = row; some = candidates-some a b st S (c + 1) (getD S c 0) under row (node .more); within = node .within }
+
+    named-less : (p : List ℕ) (j : ℕ) → Named S (c + 1) e a b st p j → j < candidatesS a b under st
+    named-less p j q = omega (arith, q under row-to, pick-less (candidatesS a b under st) p (node .more))
+
+    pub inner-choice : (p : List ℕ) (j : ℕ) → Named S (c + 1) e a b st p j → Choice S (c + 1) e a b st j
+    inner-choice p j q = choice-of j (named-less p j q)
+
+    module _ {p : List ℕ} {j i : ℕ} (g : Choosing S c e a b st p j i) where
+      pub inner-child : Child at G (getD S c 0) a b st (c + 1) i (λ (s : List ℕ). walkS G a b j s under st)
       inner-child =
-          let l : j < candidatesS a b under st = few p m j (g .count) (g .named) in
-          subst (λ (x : ℕ). Child at G e a b st (c + 1) x (λ (s : List ℕ). walkS G a b j s under st)) (sym (g .found under row l))
-          (child-of at G e a b st (c + 1) j under (subst (λ (x : ℕ). Spans at (c + 1) x under) (R .stop) (node .spans)) (node .sound) l)
+          let l : j < candidatesS a b under st = named-less p j (g .named) in
+          subst (λ (x : ℕ). Child at G (getD S c 0) a b st (c + 1) x (λ (s : List ℕ). walkS G a b j s under st)) (sym (g .found under row-to l))
+          (child-of at G (getD S c 0) a b st (c + 1) j under (node .spans) (node .sound) l)
 
-      -- its run goes up to x
-      module _ (x : ℕ) (ex : x ≡ getD S i 0) where
-        pub child-ready : Ready K S H G i x a b st
-        child-ready =
-            let C = inner-child in
-            let up = inner-within in
-            record {
-              weights = R .weights;
-              nodes = C .nodes;
-              upto = e;
-              spans = C .spans;
-              some = C .some;
-              stop = sym ex;
-              sound = C .sound;
-              live = C .live;
-              grain = R .grain;
-              kinds = omega (arith, R .kinds, up);
-              stops = omega (arith, R .stops, up);
-              heights = omega (arith, R .heights, up);
-              low = omega (arith, R .low, up);
-              high = omega (arith, R .high, up);
-              few = omega (arith, R .few, up);
-            }
+      pub child-ready : Ready K S H G i a b st
+      child-ready =
+          let C = inner-child in
+          let up = node .within in
+          record {
+            weights = R .weights;
+            nodes = C .nodes;
+            upto = getD S c 0;
+            spans = C .spans;
+            some = C .some;
+            sound = C .sound;
+            live = C .live;
+            grain = R .grain;
+            kinds = omega (arith, R .kinds, up);
+            stops = omega (arith, R .stops, up);
+            heights = omega (arith, R .heights, up);
+            low = omega (arith, R .low, up);
+            high = omega (arith, R .high, up);
+            few = omega (arith, R .few, up);
+          }
 
-        pub child-less : x - i < e - c
-        child-less =
-            let C = inner-child in
-            let s = step at i e (C .nodes) (C .spans) (C .some) in
-            omega (arith, ex, s .within, C .from, C .some)
+      pub child-upto : child-ready .upto ≤ R .upto
+      unfolding child-ready
+      child-upto = node .within
 
-        -- r and st2 are what the walk under it left, and the node is updated
-        module _ (P : List ℕ) (u : ℕ) (eu : drop u P ≡ spend p) (r : Step) (st2 : Store) (told : WalkLeft (walkS G a b 0 (drop u P) (child-ready .nodes) st) r P st2)
-            (low high : List ℕ) (el : Updated (kindOf y) S c e (st2 .low) low) (eh : Updated (kindOf y) S c e (st2 .high) high) where
-          abbrev far : WalkS
-          far = walkS G a b 0 (drop u P) (child-ready .nodes) st
+      kind-is : kindOf (getD K c 0) ≡ node .kind
+      kind-is = ap kindOf (node .code) ∙ kind-code (node .kind)
 
-          kind-is : kindOf y ≡ node .kind
-          kind-is = ap kindOf (w .kind ∙ node .code) ∙ kind-code (node .kind)
-
-          set-is : (came now : List ℕ) → Updated (kindOf y) S c e came now → now ≡ set came c (over natural (node .kind) 0 (boundsIn under came))
-          set-is came now h = h under row ∙ ap (λ (k : Kind). set came c (over natural k 0 (boundsIn under came))) kind-is
-
-          all : walkS G α β 0 p (R .nodes) st ≡ updated (node .kind) under c far
-          unfolding child-ready
-          all =
-              node .walk p
-              ∙ ap (λ (n : ℕ). updated (node .kind) under c (walkS G a b n (spend p) under st)) (sym (g .named ∙ ap (λ (n : ℕ). pick n p) (g .count under row)))
-              ∙ ap (updated (node .kind) under c) (ap (λ (s : List ℕ). walkS G a b j s under st) (sym eu) ∙ inner-child .walk (drop u P))
-
-          pub inner-done : WalkLeft (walkS G α β 0 p (R .nodes) st) r P (stored low high)
-          inner-done =
-              subst (λ (z : WalkS). WalkLeft z r P (stored low high)) (sym all)
-              (record {
-                store =
-                    ap₂ stored (set-is (st2 .low) low el) (set-is (st2 .high) high eh)
-                    ∙ ap (λ (s : Store). put s c (over natural (node .kind) 0 (boundsIn under (s .low))) (over natural (node .kind) 0 (boundsIn under (s .high)))) (told .store);
-                read = told .read;
-                policy = told .policy;
-                small = told .small;
-              })
+      -- the walk from the node is the walk from the child, and the node is updated
+      pub inner-walk : (s : List ℕ) → s ≡ spend p
+          → walkS G α β 0 p (R .nodes) st ≡ updated (kindOf (getD K c 0)) (inner-rung .under) c (walkS G a b 0 s (child-ready .nodes) st)
+      unfolding inner-rung child-ready
+      inner-walk s q =
+          node .walk p
+          ∙ ap (λ (n : ℕ). updated (node .kind) under c (walkS G a b n (spend p) under st)) (sym (g .named under row-to))
+          ∙ ap (updated (node .kind) under c) (ap (λ (l : List ℕ). walkS G a b j l under st) (sym q) ∙ inner-child .walk s)
+          ∙ ap (λ (k : Kind). updated k under c (walkS G a b 0 s (child-ready .nodes) st)) (sym kind-is)

@@ -1,21 +1,21 @@
 -- What the contracts of the code cite. Assumes nothing: these are definitions.
-use Prim.Native.Nat.{ℕ, pred, _+_, _*_, _≤_, _<_}
+use Prim.Native.Nat.{ℕ, zero, suc, pred, _+_, _*_, _≤_, _<_}
 use mathlib.Core.Path.{_≡_}
 use mathlib.Core.Bool.{Bool, true, _&&_, cond}
 use mathlib.Core.List.{List, [], _∷_}
 use lib.Dec.{eqb}
 use lib.ListN.{length, getD, set, drop}
 use Rattle.line.specs.Refusal.{fine}
-use Rattle.table.specs.Tree.{Kind, Forest, end, leaf, inner, leaves}
+use Rattle.table.specs.Tree.{Kind, kindOf, Forest, end, leaf, inner, leaves}
 use Rattle.table.specs.Table.{Table, readText, grain}
 use Rattle.table.specs.Slices.{Spans, heightTree, laid}
 use Rattle.table.specs.Accepted.{span}
 use Rattle.search.specs.Inside.{slices}
 use Rattle.rollout.specs.declared.Step.{Step}
-use Rattle.rollout.specs.Rollout.{over, candidate}
+use Rattle.rollout.specs.Rollout.{pick, over, candidate}
 use Rattle.rollout.specs.Heights.{natural}
 use Rattle.rollout.specs.Sound.{Sound}
-use Rattle.rollout.specs.Lists.{Store, lowAt, highAt, candidatesS, WalkS, RolledS, keep, walkS, rollS}
+use Rattle.rollout.specs.Lists.{Store, lowAt, highAt, put, candidatesS, WalkS, RolledS, keep, walkS, rollS}
 use Rattle.rollout.specs.Lists as lists
 
 abbrev pub stored : (low high : List ℕ) → Store
@@ -63,6 +63,11 @@ pub record Choice (S : List ℕ) (c e α β : ℕ) (st : Store) (j : ℕ) : Type
   pub room : e ≤ length S
   pub low : e ≤ length (st .low)
   pub high : e ≤ length (st .high)
+  pub few : e ≤ 1024
+
+-- r is the number of the candidate that the policy bytes p name
+abbrev pub Named : (S : List ℕ) (c e α β : ℕ) → Store → List ℕ → ℕ → Type 0
+Named S c e α β st p r = (F : Forest ℕ) → Row S c e F → r ≡ pick (candidatesS α β F st) p
 
 abbrev pub Chosen : (S : List ℕ) (c e α β : ℕ) → Store → (j r : ℕ) → Type 0
 Chosen S c e α β st j r = (F : Forest ℕ) → Row S c e F → j < candidatesS α β F st → r ≡ chosen α β j F st
@@ -76,14 +81,13 @@ Updated k S c e came now = (F : Forest ℕ) → Row S (c + 1) e F → now ≡ se
 
 -- ---- a walk
 
--- node c, whose run goes up to e, is a candidate in the window α, β
-pub record Ready (K S H : List ℕ) (G c e α β : ℕ) (st : Store) : Type 0 where
+-- node c is a candidate in the window α, β
+pub record Ready (K S H : List ℕ) (G c α β : ℕ) (st : Store) : Type 0 where
   pub weights : List ℕ
   pub nodes : Forest ℕ
   pub upto : ℕ
   pub spans : Spans (slices K S weights H) c upto nodes
   pub some : c < upto
-  pub stop : getD S c 0 ≡ e
   pub sound : Sound (keep G nodes st)
   pub live : candidate natural α β (lowAt st c) (highAt st c) ≡ true
   pub grain : G ≤ 16777216
@@ -101,9 +105,72 @@ pub record WalkLeft (w : WalkS) (r : Step) (P : List ℕ) (st : Store) : Type 0 
   pub policy : w .policy ≡ drop (r .used) P
   pub small : r .leaf < 1024
 
+-- the walk from node c that reads it, as a leaf of height v
+abbrev pub readAt : Store → (c v : ℕ) → List ℕ → WalkS
+readAt st c v p = record { store = put st c v v; read = c ∷ []; policy = p }
+
+-- what a node c of kind k with the children `under` leaves of the walk w under it
+abbrev pub updated : Kind → Forest ℕ → ℕ → WalkS → WalkS
+updated k under c w =
+    record {
+      store = put (w .store) c (over natural k 0 (boundsIn under (w .store .low))) (over natural k 0 (boundsIn under (w .store .high)));
+      read = w .read;
+      policy = w .policy;
+    }
+
+-- node c has children, and its run ends before `upto`
+pub record Rung (S : List ℕ) (c upto : ℕ) : Type 0 where
+  pub under : Forest ℕ
+  pub row : Row S (c + 1) (getD S c 0) under
+  pub some : c + 1 < getD S c 0
+  pub within : getD S c 0 ≤ upto
+
+-- the whole walk is what is left of the walk w when the first d nodes of the path Q are updated, the last first
+module _ (K S Q : List ℕ) (upto : ℕ) (whole : WalkS) where
+  unfoldable pub Up : ℕ → WalkS → Type 0
+  Up zero w = whole ≡ w
+  Up (suc d) w = (r : Rung S (getD Q d 0) upto) × Up d (updated (kindOf (getD K (getD Q d 0) 0)) (r .under) (getD Q d 0) w)
+
+-- the root is a candidate in the window α, β, and there is room for a path
+pub record ReadyDown (K S : List ℕ) (α β : ℕ) (st : Store) (Q : List ℕ) : Type 0 where
+  pub heights : List ℕ
+  pub grain : ℕ
+  pub ready : Ready K S heights grain 0 α β st
+  pub path : 1024 ≤ length Q
+
+-- the walk `whole` goes down the path Q to the leaf of r
+pub record Landed (K S H : List ℕ) (G upto : ℕ) (whole : WalkS) (st : Store) (P Q : List ℕ) (r : Step) : Type 0 where
+  pub rungs : Up K S Q upto whole (r .depth) (readAt st (r .leaf) (getD H (r .leaf) 0 * G) (drop (r .used) P))
+  pub some : r .leaf < upto
+  pub deep : r .depth ≤ length Q
+
+abbrev pub WentDown : (K S : List ℕ) (α β : ℕ) → Store → (at : ℕ) (P : List ℕ) → Step → List ℕ → Type 0
+WentDown K S α β st at P r Q =
+    (H : List ℕ) (G : ℕ) (R : Ready K S H G 0 α β st) → Landed K S H G (R .upto) (walkS G α β 0 (drop at P) (R .nodes) st) st P Q r
+
+-- the store is what the last walk down the first d nodes of the path Q left
+pub record Climb (K S Q : List ℕ) (d : ℕ) (st : Store) : Type 0 where
+  pub upto : ℕ
+  pub whole : WalkS
+  pub last : WalkS
+  pub rungs : Up K S Q upto whole d last
+  pub store : last .store ≡ st
+  pub path : d ≤ length Q
+  pub kinds : upto ≤ length K
+  pub stops : upto ≤ length S
+  pub low : upto ≤ length (st .low)
+  pub high : upto ≤ length (st .high)
+  pub few : upto ≤ 1024
+
+abbrev pub Climbed : (K S Q : List ℕ) (d : ℕ) → (st now : Store) → Type 0
+Climbed K S Q d st now = (C : Climb K S Q d st) → now ≡ C .whole .store
+
+abbrev pub ReadyWalk : (K S H : List ℕ) (G α β : ℕ) → Store → List ℕ → Type 0
+ReadyWalk K S H G α β st Q = Ready K S H G 0 α β st × (1024 ≤ length Q)
+
 -- a walk from the store st with the policy bytes p left gives r and the store `now`
-abbrev pub Walked : (K S H : List ℕ) (G c e α β : ℕ) (p : List ℕ) → Store → Step → List ℕ → Store → Type 0
-Walked K S H G c e α β p st r P now = (R : Ready K S H G c e α β st) → WalkLeft (walkS G α β 0 p (R .nodes) st) r P now
+abbrev pub Walked : (K S H : List ℕ) (G α β : ℕ) (p : List ℕ) → Store → Step → List ℕ → Store → Type 0
+Walked K S H G α β p st r P now = (R : Ready K S H G 0 α β st) → WalkLeft (walkS G α β 0 p (R .nodes) st) r P now
 
 -- ---- walks while the root is open
 

@@ -4,15 +4,22 @@ ghost use mathlib.Core.Bool.{cond};
 ghost use Prim.Native.Nat.{_+_, _*_, _<_, _≤_, min, max};
 ghost use lib.ListN.{length, getD, set, drop};
 ghost use Rattle.table.specs.Tree.{kindOf};
-ghost use Rattle.rollout.specs.Rollout.{pick, spend, joined, candidate};
+ghost use Rattle.rollout.specs.Rollout.{spend, joined, candidate};
 ghost use Rattle.rollout.specs.Heights.{natural};
 ghost use Rattle.rollout.specs.Filled.{filled};
-ghost use Rattle.rollout.specs.Inside.{stored, Children, Counted, Choice, Chosen, Extreme, Updated, Ready, Walked, ReadyRoll, WellRolled};
+ghost use Rattle.rollout.specs.Inside.{stored, Children, Counted, Choice, Named, Chosen, Extreme, Updated, ReadyDown, WentDown, Climb, Climbed, ReadyWalk, Walked, ReadyRoll, WellRolled};
 
-// What a walk gives: the leaf that it read, and how many policy bytes are used.
+// Where a walk ends: the leaf, how many inner nodes lead to it, and how many policy bytes are used.
 struct Step {
     pub leaf: usize,
+    pub depth: usize,
     pub used: usize,
+}
+
+// The extremes of the bounds of a node's children.
+struct Ends {
+    pub low: u64,
+    pub high: u64,
 }
 
 fn max_of(a: u64, b: u64) -> u64
@@ -137,18 +144,20 @@ fn join(kind: u8, x: u64, y: u64) -> u64
     max_of(x, y)
 }
 
-// Lines 15 and 16: the maximum or minimum over all children, unread ones included.
-fn extreme(kind: u8, stop: &[u16], bound: &[u64], c: usize, e: usize) -> u64
-    requires { ⌜ Children (now stop) c e × (c < e) × (e ≤ length (now bound)) ⌝ }
-    ensures { λ r. ⌜ Extreme (kindOf kind) (now (stop .entry)) c e (now (bound .entry)) r ⌝ }
+// Lines 15 and 16: the maximum or minimum over all children, unread ones included. Each child is come to once, for both bounds.
+fn extremes(kind: u8, stop: &[u16], low: &[u64], high: &[u64], c: usize, e: usize) -> Ends
+    requires { ⌜ Children (now stop) c e × (c < e) × (e ≤ length (now low)) × (e ≤ length (now high)) ⌝ }
+    ensures { λ r. ⌜ Extreme (kindOf kind) (now (stop .entry)) c e (now (low .entry)) (r .low) × Extreme (kindOf kind) (now (stop .entry)) c e (now (high .entry)) (r .high) ⌝ }
 {
-    let mut x = bound_at(bound, c);
+    let mut l = bound_at(low, c);
+    let mut h = bound_at(high, c);
     let mut i = stop_at(stop, c);
     while i < e {
-        x = join(kind, x, bound_at(bound, i));
+        l = join(kind, l, bound_at(low, i));
+        h = join(kind, h, bound_at(high, i));
         i = stop_at(stop, i);
     }
-    x
+    Ends { low: l, high: h }
 }
 
 // The node c, whose children are the entries after it up to e, gets the extremes of their bounds.
@@ -156,10 +165,9 @@ fn update(kind: u8, stop: &[u16], low: &mut [u64], high: &mut [u64], c: usize, e
     requires { ⌜ Children (now stop) (c + 1) e × (c + 1 < e) × (e ≤ length (now low)) × (e ≤ length (now high)) ⌝ }
     ensures { λ _. ⌜ Updated (kindOf kind) (now (stop .entry)) c e (now (low .entry)) (now (low .exit)) × Updated (kindOf kind) (now (stop .entry)) c e (now (high .entry)) (now (high .exit)) ⌝ }
 {
-    let l = extreme(kind, stop, low, c + 1, e);
-    let h = extreme(kind, stop, high, c + 1, e);
-    low[c] = l;
-    high[c] = h;
+    let x = extremes(kind, stop, low, high, c + 1, e);
+    low[c] = x.low;
+    high[c] = x.high;
 }
 
 // The leaf c is read: both bounds are its height in grains.
@@ -172,13 +180,23 @@ fn read_leaf(height: &[u32], low: &mut [u64], high: &mut [u64], c: usize, grain:
     high[c] = v;
 }
 
-// Which of m candidates the policy byte at `at` names: past the list's end the first.
-fn choice(policy: &[u8], at: usize, m: usize) -> usize
-    requires { ⌜ 0 < m ⌝ }
-    ensures { λ r. ⌜ r ≡ pick m (drop at (now (policy .entry))) ⌝ }
+// Which of the candidates the policy byte at `at` names: past the list's end the first, whatever their number, so that none are counted.
+fn choice(
+    stop: &[u16],
+    low: &[u64],
+    high: &[u64],
+    policy: &[u8],
+    at: usize,
+    c: usize,
+    e: usize,
+    alpha: u64,
+    beta: u64,
+) -> usize
+    requires { ⌜ Choice (now stop) c e alpha beta (stored (now low) (now high)) 0 ⌝ }
+    ensures { λ r. ⌜ Named (now (stop .entry)) c e alpha beta (stored (now (low .entry)) (now (high .entry))) (drop at (now (policy .entry))) r ⌝ }
 {
     if at < policy.len() {
-        return index8(policy[at]) % m;
+        return index8(policy[at]) % count(stop, low, high, c, e, alpha, beta);
     }
     0
 }
@@ -193,7 +211,67 @@ fn consume(policy: &[u8], at: usize) -> usize
     at
 }
 
-// Lines 6 to 17: from node c, a candidate in the window alpha, beta whose run goes up to e, down to a leaf, and up again.
+// A node goes to its place in a list.
+fn list_node(list: &mut [u16], place: usize, node: usize)
+    requires { ⌜ (place < length (now list)) × (node < 1024) ⌝ }
+    ensures { λ _. ⌜ now (list .exit) ≡ set (now (list .entry)) place node ⌝ }
+{
+    list[place] = node as u16;
+}
+
+// Lines 6 to 13: from the root, a candidate in the window alpha, beta, down to a leaf. The inner nodes on the way are listed in `path`.
+fn down(
+    kind: &[u8],
+    stop: &[u16],
+    low: &[u64],
+    high: &[u64],
+    policy: &[u8],
+    path: &mut [u16],
+    used: usize,
+    alpha: u64,
+    beta: u64,
+) -> Step
+    requires { ⌜ ReadyDown (now kind) (now stop) alpha beta (stored (now low) (now high)) (now path) ⌝ }
+    ensures { λ r. ⌜ WentDown (now (kind .entry)) (now (stop .entry)) alpha beta (stored (now (low .entry)) (now (high .entry))) used (now (policy .entry)) r (now (path .exit)) ⌝ }
+{
+    let mut c: usize = 0;
+    let mut depth: usize = 0;
+    let mut at = used;
+    let mut a = alpha;
+    let mut b = beta;
+    loop {
+        if kind_at(kind, c) == 0 {
+            return Step {
+                leaf: c,
+                depth: depth,
+                used: at,
+            };
+        }
+        list_node(path, depth, c);
+        a = max_of(a, bound_at(low, c));
+        b = min_of(b, bound_at(high, c));
+        let e = stop_at(stop, c);
+        let j = choice(stop, low, high, policy, at, c + 1, e, a, b);
+        c = find(stop, low, high, c + 1, e, a, b, j);
+        at = consume(policy, at);
+        depth = depth + 1;
+    }
+}
+
+// Lines 14 to 17: the nodes of the path are updated, the last first.
+fn up(kind: &[u8], stop: &[u16], low: &mut [u64], high: &mut [u64], path: &[u16], depth: usize)
+    requires { ⌜ Climb (now kind) (now stop) (now path) depth (stored (now low) (now high)) ⌝ }
+    ensures { λ _. ⌜ Climbed (now (kind .entry)) (now (stop .entry)) (now (path .entry)) depth (stored (now (low .entry)) (now (high .entry))) (stored (now (low .exit)) (now (high .exit))) ⌝ }
+{
+    let mut d = depth;
+    while 0 < d {
+        d = d - 1;
+        let c = stop_at(path, d);
+        update(kind_at(kind, c), stop, low, high, c, stop_at(stop, c));
+    }
+}
+
+// Lines 6 to 17: from the root, a candidate in the window alpha, beta, down to a leaf, which is read, and up again.
 fn walk(
     kind: &[u8],
     stop: &[u16],
@@ -201,39 +279,19 @@ fn walk(
     low: &mut [u64],
     high: &mut [u64],
     policy: &[u8],
+    path: &mut [u16],
     at: usize,
     grain: u64,
-    c: usize,
-    e: usize,
     alpha: u64,
     beta: u64,
 ) -> Step
-    requires { ⌜ Ready (now kind) (now stop) (now height) grain c e alpha beta (stored (now low) (now high)) ⌝ }
-    ensures { λ r. ⌜ Walked (now (kind .entry)) (now (stop .entry)) (now (height .entry)) grain c e alpha beta (drop at (now (policy .entry))) (stored (now (low .entry)) (now (high .entry))) r (now (policy .entry)) (stored (now (low .exit)) (now (high .exit))) ⌝ }
+    requires { ⌜ ReadyWalk (now kind) (now stop) (now height) grain alpha beta (stored (now low) (now high)) (now path) ⌝ }
+    ensures { λ r. ⌜ Walked (now (kind .entry)) (now (stop .entry)) (now (height .entry)) grain alpha beta (drop at (now (policy .entry))) (stored (now (low .entry)) (now (high .entry))) r (now (policy .entry)) (stored (now (low .exit)) (now (high .exit))) ⌝ }
 {
-    let k = kind_at(kind, c);
-    if k == 0 {
-        read_leaf(height, low, high, c, grain);
-        return Step { leaf: c, used: at };
-    }
-    let a = max_of(alpha, bound_at(low, c));
-    let b = min_of(beta, bound_at(high, c));
-    let m = count(stop, low, high, c + 1, e, a, b);
-    let j = choice(policy, at, m);
-    let i = find(stop, low, high, c + 1, e, a, b, j);
-    let x = stop_at(stop, i);
-    let u = consume(policy, at);
-    let r = walk(kind, stop, height, low, high, policy, u, grain, i, x, a, b);
-    update(k, stop, low, high, c, e);
+    let r = down(kind, stop, low, high, policy, path, at, alpha, beta);
+    read_leaf(height, low, high, r.leaf, grain);
+    up(kind, stop, low, high, path, r.depth);
     r
-}
-
-// The leaf goes to its place in the list.
-fn list_leaf(leaves: &mut [u16], used: usize, leaf: usize)
-    requires { ⌜ (used < length (now leaves)) × (leaf < 1024) ⌝ }
-    ensures { λ _. ⌜ now (leaves .exit) ≡ set (now (leaves .entry)) used leaf ⌝ }
-{
-    leaves[used] = leaf as u16;
 }
 
 // The rollouts of the table whose nodes are the entries up to n, from a store where every node has the ends as bounds: lines 2 to 4. The
@@ -252,6 +310,7 @@ pub fn rollouts(
     requires { ⌜ ReadyRoll (now kind) (now stop) (now height) grain n (stored (now low) (now high)) (length (now leaves)) ⌝ }
     ensures { λ r. ⌜ WellRolled (now (kind .entry)) (now (stop .entry)) (now (height .entry)) grain n (now (policy .entry)) (stored (now (low .entry)) (now (high .entry))) (stored (now (low .exit)) (now (high .exit))) r (now (leaves .entry)) (now (leaves .exit)) ⌝ }
 {
+    let mut path = [0u16; 1024];
     let mut used: usize = 0;
     let mut at: usize = 0;
     loop {
@@ -260,8 +319,20 @@ pub fn rollouts(
         if b <= a {
             return used;
         }
-        let r = walk(kind, stop, height, low, high, policy, at, grain, 0, n, a, b);
-        list_leaf(leaves, used, r.leaf);
+        let r = walk(
+            kind,
+            stop,
+            height,
+            low,
+            high,
+            policy,
+            &mut path,
+            at,
+            grain,
+            a,
+            b,
+        );
+        list_node(leaves, used, r.leaf);
         used = used + 1;
         at = r.used;
     }

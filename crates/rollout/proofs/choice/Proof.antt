@@ -1,12 +1,13 @@
 -- `rollout::choice` meets its contract. Assumes nothing.
-use Prim.Native.Nat.{ℕ, _%_}
+use Prim.Native.Nat.{ℕ, _%_, _<_}
 use mathlib.Core.List.{List}
-use mathlib.Core.Path.{_≡_, refl, sym, ap, _∙_}
+use mathlib.Core.Path.{_≡_, sym, ap, ap₂, _∙_}
 use native.Mathlib.Omega.{arith}
 use denote.Ref.{now}
 use lib.ListN.{drop, drop-of-length-le}
 use lib.Seq.{drop-cons}
 use Rattle.rollout.specs.Rollout.{pick}
+use Rattle.rollout.specs.Lists.{candidatesS}
 use borrow.Author.Needs.{needs}
 use Rattle.rollout.proofs.choice.Statement.{statement}
 use Rattle.rollout.proofs.choice.Tie as tie
@@ -17,20 +18,31 @@ shared-slice-read-index8 c = search needs
 index8-requires : tie.Need-index8-requires
 index8-requires c κs = search needs
 
+count-requires : tie.Need-count-requires
+count-requires c κs =
+    let R = c .before .before .before .before .before .before .before .pre in
+    (record { nodes = R .nodes; row = R .row; room = R .room; few = R .few }, R .low, R .high)
+
+-- there is a candidate
+counted : (c : tie.After-count) → 0 < c .count .result
+counted c = let R = c .before .before .before .before .before .before .before .before .pre in omega (arith, R .some, c .count .ensures (R .nodes) (R .row))
+
 rem-result : tie.Need-rem-result
-rem-result c = search needs
+rem-result c = counted c
 
 returns : tie.Need-returns
 returns c =
-    let s = c .before .before .before .before in
-    let m = s .args .m in
-    ap (λ (b : ℕ). b % m) (c .index8 .ensures) ∙ sym (ap (pick m) (drop-cons (now (s .args .policy)) (s .args .at) 0 (c .before .before .if1 .taken)))
+    let a = c .before .before .before .before .before .before .before .before .args in
+    λ F h.
+    ap₂ (λ (b m : ℕ). b % m) (c .before .index8 .ensures) (c .count .ensures F h)
+    ∙ sym (ap (pick (candidatesS _ _ F _)) (drop-cons (now (a .policy)) (a .at) 0 (c .before .before .before .if1 .taken)))
 
 returns-2 : tie.Need-returns-2
 returns-2 c =
-    let s = c .before .before in
-    sym (ap (pick (s .args .m)) (drop-of-length-le (now (s .args .policy)) {i = s .args .at} (c .if1 .left)))
+    let a = c .before .before .before .before .before .args in
+    λ F h. sym (ap (pick (candidatesS _ _ F _)) (drop-of-length-le (now (a .policy)) {i = a .at} (c .if1 .left)))
 
 pub choice-spec : {M : Type 1} → statement M
 choice-spec =
-    tie.close (tie.spec shared-slice-read-index8 index8-requires rem-result returns returns-2)
+    tie.close
+    (tie.spec shared-slice-read-index8 index8-requires count-requires rem-result returns returns-2)

@@ -6,17 +6,11 @@ use borrow.Author.Needs.{needs}
 use Rattle.rollout.proofs.update.Statement.{statement}
 use Rattle.rollout.proofs.update.Tie as tie
 
-add-extreme : tie.Need-add-extreme
-add-extreme c = search needs
+add-extremes : tie.Need-add-extremes
+add-extremes c = search needs
 
-extreme-requires : tie.Need-extreme-requires
-extreme-requires c κs = search needs
-
-add-extreme-2 : tie.Need-add-extreme-2
-add-extreme-2 c = search needs
-
-extreme-requires-2 : tie.Need-extreme-requires-2
-extreme-requires-2 c κs = search needs
+extremes-requires : tie.Need-extremes-requires
+extremes-requires c κs = search needs
 
 mul-low : tie.Need-mul-low
 mul-low c = search needs
@@ -38,17 +32,16 @@ same-length-2 c = search needs
 
 returns : tie.Need-returns
 returns c =
-    let a = c .before .before .before .before .before .before .before .args in
-    ((λ F h. ap (set (now (a .low)) (a .c)) (c .before .before .extreme .ensures F h)), (λ F h. ap (set (now (a .high)) (a .c)) (c .extreme2 .ensures F h)))
+    let a = c .before .before .before .before .before .before .args in
+    let x = c .extremes .ensures in
+    ((λ F h. ap (set (now (a .low)) (a .c)) (x .0 F h)), (λ F h. ap (set (now (a .high)) (a .c)) (x .1 F h)))
 
 pub update-spec : {M : Type 1} → statement M
 update-spec =
     tie.close
     (tie.spec
-    add-extreme
-    extreme-requires
-    add-extreme-2
-    extreme-requires-2
+    add-extremes
+    extremes-requires
     mul-low
     slice-write-low
     mul-high
