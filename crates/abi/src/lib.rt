@@ -1,5 +1,5 @@
-// The calls for programs in C and Rust. Each writes its answer's numbers into a slice of the caller's, as many as it has room for, and
-// returns 0; where it refuses, it writes nothing and returns the refusal's line and number as one, so that 309 is refusal 9 at line 3.
+// The calls for programs in C and Rust. Each writes its answer's numbers into a slice of the caller's, as many as it has room for (turning
+// has none), and returns 0; where it refuses, it writes nothing and returns the refusal's line and number as one, so that 309 is refusal 9 at line 3.
 ghost use mathlib.Core.Path.{_≡_};
 ghost use Prim.Native.Nat.{_<_, _≤_, _^_};
 ghost use lib.ListN.{length, set};

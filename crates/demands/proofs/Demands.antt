@@ -1,36 +1,33 @@
 -- The customer's demands at the public calls. Assumes nothing.
-use Prim.Native.Nat.{ℕ, zero, suc, _≤_}
+use Prim.Native.Nat.{ℕ, _≤_}
 use mathlib.Core.Path.{_≡_, refl, sym, ap, ap₂, subst, _∙_}
 use mathlib.Core.Bool.{Bool, true, false, _||_, cond}
-use mathlib.Core.List.{List, [], _∷_, List·Memᴰ}
+use mathlib.Core.List.{List}
 use mathlib.Core.Option.{Option, none, some}
 use native.Mathlib.Omega.{arith}
-use borrow.Author.Tests.{ltb-false, le-ltb}
-use lib.Dec.{eqb, leb, ltb}
+use borrow.Author.Tests.{le-ltb}
+use lib.Dec.{ltb}
 use lib.ListN.{length}
 use lib.IntN.{ℤ, pos, negsuc, negℤ, _+ℤ_}
 use lib.Signed.{leZ, ltZ}
-use Rattle.line.specs.declared.Line.{Line}
-use Rattle.line.specs.declared.Head.{Head}
 use Rattle.line.specs.declared.Refusal.{Refusal}
 use Rattle.line.specs.declared.Refusal.the-variants.{NoRoom, HasChance}
 use Rattle.line.specs.Refusal.{Verdict, refused, fine, unless}
 use Rattle.line.specs.Line.{toNat}
 use Rattle.line.proofs.Checks.{or-left}
-use Rattle.table.specs.Tree.{Forest, leaf, inner, kindOf, run, after, forest, grow, leaves}
+use Rattle.table.specs.Tree.{leaves}
 use Rattle.table.specs.Table.{Table, tree, readText, grain}
 use Rattle.table.specs.Slices.{laid}
 use Rattle.worth.specs.Worth.{worthOf}
 use Rattle.judge.specs.Judge.{playOf}
-use Rattle.judge.specs.declared.Play.{Play}
-use Rattle.judge.specs.declared.Play.the-variants.{Child, NoPlay}
+use Rattle.judge.specs.declared.Play.the-variants.{Child}
 use Rattle.turn.specs.Text.{tableText}
 use Rattle.turn.specs.Turn.{turnTable, turnedText}
 use Rattle.turn.proofs.Tree.{tree-turned, turn-twice}
 use Rattle.turn.proofs.Accepted.{turned-accepted, turned-length}
 use Rattle.search.specs.Search.{Seen, nodeOf}
-use Rattle.search.specs.Whole.{searched, playWorth}
-use Rattle.search.specs.Unread.{Alike, alike-end, alike-leaf, alike-inner, ReadBy}
+use Rattle.search.specs.Whole.{searched}
+use Rattle.search.specs.Unread.{Alike, ReadBy}
 use Rattle.search.specs.Turned.{Turns}
 use Rattle.search.proofs.Demand.{contains, width, play-near}
 use Rattle.search.proofs.Changed as changed
@@ -46,8 +43,8 @@ use Rattle.engine.specs.declared.Rolled
 use Rattle.engine.specs.declared.Rolled.the-variants.{Done}
 use Rattle.engine.specs.declared.Turned
 use Rattle.engine.specs.declared.Exact.the-variants.{Grains}
-use Rattle.engine.specs.Calls.{exactCall, badMargin, Sought, sought, boundsOf, searchAnswer, searchList, searchCall, searchReads, rolls, rollAnswer, rollList, rollRecords, rollCall, recorded, turnOf, turnAnswer, turnWritten}
-use Rattle.demands.specs.Demands.{childWorth, Promised, LongEnough, SameLines, Differ, Mirrors, Answers, Sentence1, Sentence2, GivenText, Sentence3, TurnAnswers, TurningTwice, RolloutsEnd, RollAnswers, SearchUntouched, TurnUntouched, RollUntouched}
+use Rattle.engine.specs.Calls.{exactCall, badMargin, Sought, sought, boundsOf, searchAnswer, searchList, searchReads, rolls, rollAnswer, rollList, rollRecords, rollCall, recorded, turnOf, turnAnswer, turnWritten}
+use Rattle.demands.specs.Demands.{childWorth, Promised, SameLines, Mirrors, Answers, Sentence1, Sentence2, GivenText, Sentence3, TurnAnswers, TurningTwice, RolloutsEnd, RollAnswers, SearchUntouched, TurnUntouched, RollUntouched}
 use Rattle.engine.proofs.Answered.{answered, answers, reads}
 use Rattle.engine.proofs.Turning.{turn-fine}
 use Rattle.demands.proofs.Utilities.{tree-alike, given-same, given-accepted}

@@ -18,7 +18,7 @@ use Rattle.judge.specs.Inside.{judgedOf, Whole, WellJudged}
 use Rattle.judge.proofs.Judge.{judge-heights}
 
 module _ (s : List ℕ) (t : Table) (h : readText s ≡ fine t) (a : List ℕ) (room : length (t .lines) ≤ length a) where
-  -- `a` is the slice that was lent for the ends of the runs; the nodes are named, so that the judgement is of these
+  -- `a` is the slice that was lent for the stops; the nodes are named, so that the judgement is of these
   pub accepted-whole : Whole (fitted (stopsOf t) a) (scaleOf t) (length (t .lines)) (drop 25 s)
   accepted-whole =
       let R = accepted-ready s t h a room in

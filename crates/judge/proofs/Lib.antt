@@ -1,7 +1,6 @@
 pub mod Best
 pub mod Shift
 pub mod Judge
-pub mod Child
 pub mod Worked
 pub mod Losses
 pub mod Walk

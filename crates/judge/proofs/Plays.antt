@@ -1,10 +1,9 @@
 -- The node that `find_child` gives for the text of an accepted table is that of the root child of the number. Assumes nothing.
-use Prim.Native.Nat.{ℕ, zero, suc, _+_, _≤_, _<_}
-use mathlib.Core.Path.{_≡_, refl, sym, ap, subst, _∙_}
-use mathlib.Core.List.{List, [], _∷_, _++_}
+use Prim.Native.Nat.{ℕ, _+_, _≤_, _<_}
+use mathlib.Core.Path.{_≡_, sym, ap, subst, _∙_}
+use mathlib.Core.List.{List, [], _∷_}
 use native.Mathlib.Omega.{arith}
-use lib.ListN.{length, getD, drop}
-use lib.Seq.{take-all}
+use lib.ListN.{length, getD}
 use lib.IntN.{ℤ}
 use Rattle.line.specs.Refusal.{fine}
 use Rattle.table.specs.Tree.{Forest, end, leaf, inner}
@@ -14,6 +13,7 @@ use Rattle.table.specs.Slices.{Slices, Spans, stopsOf, slicesOf, fitted, height
 use Rattle.table.proofs.Accepted.{accepted-spans, heights-rooted}
 use Rattle.table.proofs.Spans.{spans-le}
 use Rattle.table.proofs.Complete.{stops-long}
+use Rattle.table.proofs.Copied.{fitted-at}
 use Rattle.worth.proofs.Judged.{accepted-ready}
 use Rattle.judge.specs.declared.Play.{Play}
 use Rattle.judge.specs.Judge.{children, nodes, numbered, childNode, playOf}
@@ -42,7 +42,7 @@ spans-children t e (inner n w k under rest) x r =
     let stop : getD (t .stops) 0 0 ≡ e = subst (Spans t (getD (t .stops) 0 0) e) (r .2) (x .4) in
     subst (λ (i : ℕ). Spans t 1 i under) stop (x .3)
 
--- ---- a lent slice that begins with the same ends
+-- ---- a lent slice that begins with the same stops
 
 chained-other : (S U : List ℕ) (e : ℕ) → ((m : ℕ) → m < e → getD U m 0 ≡ getD S m 0) → (c : ℕ) (ns : List ℕ) → Chained S e c ns → Chained U e c ns
 chained-other S U e same c [] x = x
@@ -51,23 +51,16 @@ chained-other S U e same c (n ∷ ns) x =
     let q : getD U c 0 ≡ j = same c (omega (arith, x .1, chained-le S e j ns (x .2))) in
     (x .0, omega (arith, q, x .1), subst (λ (i : ℕ). Chained U e i ns) (sym q) (chained-other S U e same j ns (x .2)))
 
-getD-front : (xs ys : List ℕ) (m : ℕ) → m < length xs → getD (xs ++ ys) m 0 ≡ getD xs m 0
-getD-front [] ys m h = absurd (omega arith)
-getD-front (x ∷ xs) ys zero h = refl
-getD-front (x ∷ xs) ys (suc m) h = getD-front xs ys m (omega arith)
-
 -- ---- an accepted table
 
 module _ (s : List ℕ) (t : Table) (h : readText s ≡ fine t) (a : List ℕ) (room : length (t .lines) ≤ length a) where
-  -- `a` is the slice that was lent for the ends of the runs
+  -- `a` is the slice that was lent for the stops
   accepted-chain : Chain (fitted (stopsOf t) a) (length (t .lines))
   accepted-chain =
       record {
         nodes = nodes (children (heightTree t));
         chained = chained-other (stopsOf t) (fitted (stopsOf t) a) (length (t .lines))
-            (λ m l.
-            rw (take-all (length a) (stopsOf t) (omega (arith, stops-long (t .lines))))
-            (getD-front (stopsOf t) (drop (length (stopsOf t)) a) m (omega (arith, stops-long (t .lines)))))
+            (λ m l. fitted-at (stopsOf t) a (length (t .lines)) m (stops-long (t .lines)) room l)
             1 (nodes (children (heightTree t)))
             (spans-chained (slicesOf t) 1 (length (t .lines)) (children (heightTree t))
             (spans-children (slicesOf t) (length (t .lines)) (heightTree t) (accepted-spans s t h) (heights-rooted s t h)));

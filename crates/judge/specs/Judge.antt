@@ -27,7 +27,7 @@ sideOf MIN = decided AtN
 sideOf CHANCE = undecided
 
 module _ {A : Type 0} where
-  -- of the first node, which is "node 0, the root", in a table's tree
+  -- of the first node, which is "node 0, the root", in a table's tree; every accepted table has one
   abbrev pub rootOf : Forest A → Root
   rootOf end = undecided
   rootOf (leaf n w v rest) = undecided

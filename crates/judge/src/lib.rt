@@ -8,7 +8,7 @@ ghost use Rattle.judge.specs.Heights.{heightLoss, Ahead};
 ghost use Rattle.judge.specs.Inside.{sideIf, Chain, Played, Under, Listed, better, bestIn, AllAhead, levelOne, levelsIn, Whole, WellJudged, Decided, WellDecided};
 use worth::Scale;
 
-// The node of the root child of a number, if there is one.
+// A play: a root child, by its node number, or none.
 pub enum Play {
     Child(usize),
     NoPlay,

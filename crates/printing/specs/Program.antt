@@ -65,7 +65,7 @@ printed (r ∷ rs) = rowOf (columns (r .word)) (r .number) ++ printed rs
 
 -- ---- the output
 
--- how many of them stand up to n, with n: the place of n, from 1
+-- how many of them stand up to n, with n: the place of n, from 1; a play is among the root's children (`play-numbered`)
 unfoldable pub place : ℕ → List ℕ → ℕ
 place n [] = 0
 place n (m ∷ ms) = cond (eqb m n) 1 (suc (place n ms))

@@ -130,7 +130,3 @@ module _ (R : Rules ℕ) where
       → Holding e (worth (R .frame) e k f) (scan natural R e k f (begin e k a b l))
   unfolding worth
   contained e k f a b l q i = contain e k f _ _ (q .paid) i (kept-begin e k f a b l q)
-
-pub inside : (frame : ℕ → Forest ℕ → Frame ℕ) (e : Frame ℕ) (k : Kind) (f : Forest ℕ) → Sound e k f → Within frame e f → Inside e (worth frame e k f)
-unfolding worth
-inside frame e k f q i = bound-seal e k _ f q (bound frame e k f _ i)

@@ -1,13 +1,13 @@
 -- The search over the integers is the search over heights, from the lowest end up. Assumes nothing.
 use Prim.Native.Nat.{ℕ, _+_, _*_, _-_, _/_, min, max, _≤_, _<_}
-use mathlib.Core.Path.{_≡_, refl, ap, ap₂, _∙_}
+use mathlib.Core.Path.{_≡_, refl, sym, ap, ap₂, _∙_}
 use mathlib.Core.Bool.{Bool, true, false, not, _&&_, cond, true≢false, false≢true}
 use mathlib.Core.List.{List, [], _∷_, _++_}
 use native.Mathlib.Nat.{lt-mul-div-succ, mul-div-le, mul-le-mul-left, mul-sub, le-trans}
 use native.Mathlib.Omega.{arith}
 use lib.Dec.{T as Holds, leb, ltb, leb→le, le→leb, nleb→lt, lt→ltb, ltb→lt, not-T}
-use lib.IntN.{ℤ, pos, negℤ, _+ℤ_, _-ℤ_, _*ℤ_}
-use lib.Signed.{leZ}
+use lib.IntN.{ℤ, pos, negsuc, negℤ, _+ℤ_, _-ℤ_, _*ℤ_}
+use lib.Signed.{ltZ, leZ}
 use Rattle.table.specs.Tree.{Kind, MAX, MIN, CHANCE, Forest, end, leaf, inner, isEnd, weigh}
 use Rattle.search.specs.Search.{Frame, Play, noPlay, child, Seen, State, Rules, begin, lower, upper, beats, better, take, finish, cut, stop, point, enter, after, scan, search, searchRoot}
 use Rattle.worth.specs.Worth.{maxZ, minZ, floorZ}
@@ -27,6 +27,16 @@ is-ceil w z a b m n w-pos p l u = is-neg (floorZ (negℤ z) w) n m (is-floor w (
 ceil-lt : (x w : ℕ) → 0 < w → w * ceil x w < x + w
 unfolding ceil
 ceil-lt x w p = omega (arith, mul-div-le (x + (w - 1)) w)
+
+less-natural : (a b : ℕ) → ltb a b ≡ not (leb b a)
+less-natural a b =
+    same-test (ltb a b) (not (leb b a)) (λ h. not-T (leb b a) (λ x. omega (arith, leb→le b a x, ltb→lt a b h))) (λ h. lt→ltb a b (nleb→lt b a h))
+
+less-whole : (y z : ℤ) → ltZ y z ≡ not (leZ z y)
+less-whole (pos m) (pos n) = less-natural m n
+less-whole (pos m) (negsuc n) = refl
+less-whole (negsuc m) (pos n) = refl
+less-whole (negsuc m) (negsuc n) = less-natural n m
 
 isEnd-shift : (Lo : ℤ) (f : Forest ℕ) → isEnd (shift Lo f) ≡ isEnd f
 unfolding shift
@@ -189,10 +199,8 @@ module _ (p q : ℕ) where
       ∙ same-test (leb (p + a + q) (p + b + q)) (leb a b) (λ h. le→leb a b (omega (arith, leb→le (p + a + q) (p + b + q) h)))
       (λ h. le→leb (p + a + q) (p + b + q) (omega (arith, leb→le a b h)))
 
-  less-same : (a b : ℕ) (y z : ℤ) → Rel a y → Rel b z → not (leZ z y) ≡ ltb a b
-  less-same a b y z i j =
-      ap not (le-same b a z y j i)
-      ∙ same-test (not (leb b a)) (ltb a b) (λ h. lt→ltb a b (nleb→lt b a h)) (λ h. not-T (leb b a) (λ x. omega (arith, leb→le b a x, ltb→lt a b h)))
+  less-same : (a b : ℕ) (y z : ℤ) → Rel a y → Rel b z → ltZ y z ≡ ltb a b
+  less-same a b y z i j = less-whole y z ∙ ap not (le-same b a z y j i) ∙ sym (less-natural a b)
 
   same : (k : Kind) (l h bl bh : ℕ) (zl zh zbl zbh : ℤ) → Rel l zl → Rel h zh → Rel bl zbl → Rel bh zbh
       → beats whole k zl zh zbl zbh ≡ beats natural k l h bl bh

@@ -39,9 +39,6 @@ pub same-state : {s t : State ℕ} → s .alpha ≡ t .alpha → s .beta ≡ t .
     → s ≡ t
 same-state p q u v w r = λ i. record { alpha = p i; beta = q i; lo = u i; hi = v i; play = w i; read = r i }
 
-pub same-seen : {s t : Seen ℕ} → s .low ≡ t .low → s .high ≡ t .high → s .play ≡ t .play → s .read ≡ t .read → s ≡ t
-same-seen p q w r = λ i. record { low = p i; high = q i; play = w i; read = r i }
-
 -- a function of either answer of a test
 cond-map : {A B : Type 0} (h : A → B) (x y : A) (b : Bool) → cond b (h x) (h y) ≡ h (cond b x y)
 cond-map h x y true = refl

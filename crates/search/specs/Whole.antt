@@ -1,10 +1,10 @@
 -- The paper's arithmetic, whole numbers of grains, and the search of a table. Document 01, 'Grains' and 'The search'. Assumes nothing.
 use Prim.Native.Nat.{ℕ}
-use mathlib.Core.Bool.{not, cond}
+use mathlib.Core.Bool.{cond}
 use mathlib.Core.Option.{Option, none, some}
 use lib.Dec.{eqb}
 use lib.IntN.{ℤ, pos, negℤ, _+ℤ_, _-ℤ_, _*ℤ_}
-use lib.Signed.{leZ}
+use lib.Signed.{ltZ, leZ}
 use Rattle.table.specs.Tree.{Forest, end, leaf, inner}
 use Rattle.table.specs.Table.{Table, tree, grain}
 use Rattle.worth.specs.Worth.{maxZ, minZ, floorZ, shares, value}
@@ -34,7 +34,7 @@ abbrev pub whole : Arith ℤ
 whole = record {
   high-of = maxZ;
   low-of = minZ;
-  less = λ a b. not (leZ b a);
+  less = ltZ;
   near = λ ε a b. leZ b (a +ℤ pos ε);
   down = downZ;
   up = upZ;

@@ -33,10 +33,11 @@ lineStops (l ∷ ls) = (l .node + 1 + length (run (l .node) ls)) ∷ lineStops l
 abbrev pub stopsOf : Table → List ℕ
 stopsOf t = lineStops (t .lines)
 
--- a slice a with the numbers xs at its front, and with as many of them as it has room for
+-- a slice a with the numbers xs, for which it has room, at its front
 abbrev pub laid : List ℕ → List ℕ → List ℕ
 laid xs a = xs ++ drop (length xs) a
 
+-- the same with as many of xs as a has room for
 abbrev pub fitted : List ℕ → List ℕ → List ℕ
 fitted xs a = laid (take (length a) xs) a
 

@@ -1,5 +1,5 @@
 -- The turned text of an accepted table is accepted, and its table is the turned one. Assumes nothing.
-use Prim.Native.Nat.{ℕ, _<_}
+use Prim.Native.Nat.{ℕ}
 use mathlib.Core.Path.{_≡_, refl, ap, _∙_}
 use mathlib.Core.List.{List, [], _∷_, map}
 use lib.ListN.{length}
@@ -7,7 +7,6 @@ use Rattle.field.proofs.Bits.{abs-neg}
 use Rattle.line.specs.declared.Head.{Head}
 use Rattle.line.specs.declared.Line.{Line}
 use Rattle.line.specs.Refusal.{fine}
-use Rattle.line.specs.Line.{Step}
 use Rattle.table.specs.Tree.{childless, unbalanced}
 use Rattle.table.specs.Table.{Table, tree, readText}
 use Rattle.table.proofs.Accepted.{accepted-ranged}

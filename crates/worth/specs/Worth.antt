@@ -54,7 +54,7 @@ shares T G end = []
 shares T G (leaf n w u rest) = record { weight = w; worth = u *ℤ pos G } ∷ shares T G rest
 shares T G (inner n w k under rest) = record { weight = w; worth = value T k (shares T G under) } ∷ shares T G rest
 
--- the worth of the first node
+-- the worth of the first node; every accepted table has one
 abbrev pub firstWorth : List (Share ℤ) → ℤ
 firstWorth [] = pos 0
 firstWorth (x ∷ xs) = x .worth
