@@ -4,21 +4,26 @@ use mathlib.Core.Path.{_≡_, refl, sym, ap, subst, _∙_}
 use mathlib.Core.List.{List}
 use native.Mathlib.Nat.{le-trans}
 use native.Mathlib.Omega.{arith}
-use lib.ListN.{length, take, drop, replicate, length-drop}
+use lib.ListN.{length, take, drop, replicate, length-drop, length-map}
 use lib.Seq.{take-all}
 use lib.IntN.{ℤ, pos, _+ℤ_, _*ℤ_}
 use lib.Signed.{mag}
 use mir.Syntax.{w64}
 use mir.Val.{toZ, ofZ}
-use Rattle.line.specs.Refusal.{Verdict, fine}
+use Rattle.line.specs.declared.Line.{Line}
+use Rattle.line.specs.declared.Refusal.{Refusal}
+use Rattle.line.specs.Refusal.{Verdict, refused, fine}
 use Rattle.line.proofs.Signs.{mag-abs}
 use Rattle.table.specs.declared.Summary.{Summary}
 use Rattle.table.specs.declared.Reading.{Reading}
-use Rattle.table.specs.declared.Reading.the-variants.{Accepted}
+use Rattle.table.specs.declared.Reading.the-variants.{Accepted, Refused}
 use Rattle.table.specs.Tree.{MAX}
 use Rattle.table.specs.Table.{Table, readText, summary, answer, grain}
-use Rattle.table.specs.Slices.{kindsOf, stopsOf, weightsOf, heightsOf, fitted, decoded}
-use Rattle.table.proofs.Accepted.{answer-accepted, accepted-ranged, accepted-size, accepted-grain}
+use Rattle.table.specs.Slices.{kindsOf, stopsOf, weightsOf, heightsOf, heightOf, laid, fitted, decoded}
+use Rattle.table.specs.Inside.{Decoded}
+use Rattle.table.proofs.Copied.{fitted-all}
+use Rattle.table.proofs.Complete.{stops-long}
+use Rattle.table.proofs.Accepted.{answer-accepted, answer-refused, accepted-ranged, accepted-size, accepted-grain}
 use Rattle.worth.specs.declared.Scale.{Scale}
 use Rattle.worth.specs.Inside.{Ready, Worthy}
 use Rattle.worth.specs.Heights.{heightWorth}
@@ -63,14 +68,32 @@ pub record Taken (s : List ℕ) (t : Summary) (K S W H : List ℕ) : Type 0 wher
   pub heights : H ≡ fitted (decoded heightsOf (readText s)) zeros
 
 -- from the reading's contract
-pub taken-by : (s : List ℕ) {r : Reading} {t : Summary} {K S W H : List ℕ}
-    → (r ≡ answer (readText s))
-    × ((K ≡ fitted (decoded kindsOf (readText s)) zeros)
-    × ((S ≡ fitted (decoded stopsOf (readText s)) zeros)
-    × ((W ≡ fitted (decoded weightsOf (readText s)) zeros)
-    × (H ≡ fitted (decoded heightsOf (readText s)) zeros))))
-    → r ≡ Accepted t → Taken s t K S W H
-taken-by s (a, (k, (st, (w, h)))) e = record { accepted = sym a ∙ e; kinds = k; stops = st; weights = w; heights = h }
+decoded-answer : (v : Verdict Table) (r : Reading) (K S W H : List ℕ) → Decoded v r zeros zeros zeros zeros K S W H → r ≡ answer v
+decoded-answer (refused x) r K S W H d = d
+decoded-answer (fine T) r K S W H d = d .0
+
+pub refused-by : (s : List ℕ) (r : Reading) (x : Refusal) (K S W H : List ℕ) → Decoded (readText s) r zeros zeros zeros zeros K S W H → r ≡ Refused x
+    → readText s ≡ refused x
+refused-by s r x K S W H d e = answer-refused (readText s) x (sym (decoded-answer (readText s) r K S W H d) ∙ e)
+
+-- all entries of an accepted table fit
+all-fit : (s : List ℕ) (T : Table) → readText s ≡ fine T → (f : Table → List ℕ) {X : List ℕ} → length (f T) ≡ length (T .lines) → X ≡ laid (f T) zeros
+    → X ≡ fitted (decoded f (readText s)) zeros
+all-fit s T p f n e = e ∙ sym (fitted-all (f T) zeros (omega (arith, n, zeros-enough s T p))) ∙ ap (λ (v : Verdict Table). fitted (decoded f v) zeros) (sym p)
+
+pub taken-by : (s : List ℕ) {r : Reading} {t : Summary} {K S W H : List ℕ} → Decoded (readText s) r zeros zeros zeros zeros K S W H → r ≡ Accepted t
+    → Taken s t K S W H
+taken-by s {r} {t} {K} {S} {W} {H} d e =
+    let a = sym (decoded-answer (readText s) r K S W H d) ∙ e in
+    let (T, p, q) = answer-accepted (readText s) t a in
+    let f = subst (λ (v : Verdict Table). Decoded v r zeros zeros zeros zeros K S W H) p d in
+    record {
+      accepted = a;
+      kinds = all-fit s T p kindsOf (length-map (T .lines) (λ (l : Line). l .kind)) (f .1);
+      stops = all-fit s T p stopsOf (stops-long (T .lines)) (f .2);
+      weights = all-fit s T p weightsOf (length-map (T .lines) (λ (l : Line). l .weight)) (f .3);
+      heights = all-fit s T p heightsOf (length-map (T .lines) (heightOf (T .head .lowest))) (f .4);
+    }
 
 -- what holds of every accepted table and its slices holds of what was left
 pub of-table : {s : List ℕ} {t : Summary} {K S W H : List ℕ} → Taken s t K S W H → (C : Summary → (K S W H : List ℕ) → Type 0)

@@ -93,7 +93,7 @@ pub fn exact_worth(text: &[u8]) -> Exact
     let mut stop = [0u16; 1024];
     let mut weight = [0u8; 1024];
     let mut height = [0u32; 1024];
-    match table::read(text, &mut kind, &mut stop, &mut weight, &mut height) {
+    match table::decode(text, &mut kind, &mut stop, &mut weight, &mut height) {
         Reading::Refused(r) => Exact::Refused(r),
         Reading::Accepted(t) => {
             let g = scale_of(t);
@@ -111,7 +111,7 @@ pub fn judge_play(text: &[u8], number: i64) -> Opinion
     let mut stop = [0u16; 1024];
     let mut weight = [0u8; 1024];
     let mut height = [0u32; 1024];
-    match table::read(text, &mut kind, &mut stop, &mut weight, &mut height) {
+    match table::decode(text, &mut kind, &mut stop, &mut weight, &mut height) {
         Reading::Refused(r) => Opinion::Refused(r),
         Reading::Accepted(t) => {
             let g = scale_of(t);
@@ -158,7 +158,7 @@ pub fn search_table(text: &[u8], margin: i64, leaves: &mut [u16]) -> Bounded
     let mut stop = [0u16; 1024];
     let mut weight = [0u8; 1024];
     let mut height = [0u32; 1024];
-    match table::read(text, &mut kind, &mut stop, &mut weight, &mut height) {
+    match table::decode(text, &mut kind, &mut stop, &mut weight, &mut height) {
         Reading::Refused(r) => Bounded::Refused(r),
         Reading::Accepted(t) => {
             if is_bad_margin(margin) {
@@ -192,7 +192,7 @@ pub fn turn_table(text: &[u8], buffer: &mut [u8]) -> Turned
     let mut stop = [0u16; 1024];
     let mut weight = [0u8; 1024];
     let mut height = [0u32; 1024];
-    match table::read(text, &mut kind, &mut stop, &mut weight, &mut height) {
+    match table::decode(text, &mut kind, &mut stop, &mut weight, &mut height) {
         Reading::Refused(r) => Turned::Refused(r),
         Reading::Accepted(t) => {
             if buffer.len() < text.len() {

@@ -330,7 +330,8 @@ fn is_bad_length(n: usize) -> bool
     (n % 25 != 0) | (n < 50) | (25625 < n)
 }
 
-fn decode(
+// Reads any text into slices of 1,024 entries or more, for a caller to whom they are its own: a refused table may leave something in them.
+pub fn decode(
     text: &[u8],
     kind: &mut [u8],
     stop: &mut [u16],

@@ -7,31 +7,38 @@ use denote.Ref.{now}
 use lib.IntN.{ℤ}
 use mir.Syntax.{w64}
 use mir.Val.{toZ, ofZ}
-use Rattle.line.specs.Refusal.{Verdict}
+use Rattle.line.specs.declared.Refusal.{Refusal}
+use Rattle.line.specs.Refusal.{Verdict, refused}
 use Rattle.table.specs.declared.Summary.{Summary}
 use Rattle.table.specs.Table.{Table, readText}
-use Rattle.table.proofs.Accepted.{answer-refused}
+use Rattle.table.specs.declared.Reading.the-variants.{Refused}
 use Rattle.engine.specs.Calls.{judgeCall}
-use Rattle.engine.proofs.Known.{Taken, taken-by, spread-at, long, whole-at, given-at}
+use Rattle.engine.proofs.Known.{Taken, refused-by, taken-by, spread-at, long, whole-at, given-at}
 use Rattle.engine.proofs.judge_play.Statement.{statement}
 use Rattle.engine.proofs.judge_play.Tie as tie
 
-abbrev text-of : tie.After-read → List ℕ
+abbrev text-of : tie.After-decode → List ℕ
 text-of R = now (R .before .before .before .before .before .before .args .text)
 
-abbrev number-of : tie.After-read → ℤ
+abbrev number-of : tie.After-decode → ℤ
 number-of R = R .before .before .before .before .before .before .args .number
 
+-- the reading refused x
+refused-at : (R : tie.After-decode) (x : Refusal) → R .decode .result ≡ Refused x → readText (text-of R) ≡ refused x
+refused-at R x e =
+    let l = R .decode .last .1 in
+    refused-by (text-of R) (R .decode .result) x (l .0) (l .1 .0) (l .1 .1 .0) (l .1 .1 .1 .0) (R .decode .ensures) e
+
 -- at an accepted table: the reading, the summary, and what is left
-abbrev read-of : tie.After-known-told2 → tie.After-read
+abbrev read-of : tie.After-known-told2 → tie.After-decode
 read-of c = c .before .before .before .before .before .before .before
 
 abbrev summary-of : tie.After-known-told2 → Summary
 summary-of c = c .before .t .given .0 .0
 
 taken : (c : tie.After-known-told2)
-    → let x = read-of c .read .last .1 in Taken (text-of (read-of c)) (summary-of c) (x .0) (x .1 .0) (x .1 .1 .0) (x .1 .1 .1 .0)
-taken c = taken-by (text-of (read-of c)) (read-of c .read .ensures) (c .before .t .given .1)
+    → let x = read-of c .decode .last .1 in Taken (text-of (read-of c)) (summary-of c) (x .0) (x .1 .0) (x .1 .1 .0) (x .1 .1 .1 .0)
+taken c = taken-by (text-of (read-of c)) (read-of c .decode .ensures) (c .before .t .given .1)
 
 sub-judge-table : tie.Need-sub-judge-table
 sub-judge-table c = long (taken (c .before))
@@ -46,7 +53,7 @@ returns : tie.Need-returns
 returns c =
     let r = c .before .r .given in
     let R = c .before .before .before .before .before .before .before in
-    ap (λ (v : Verdict Table). judgeCall v (number-of R)) (sym (answer-refused (readText (text-of R)) (r .0 .0) (sym (R .read .ensures .0) ∙ r .1)))
+    ap (λ (v : Verdict Table). judgeCall v (number-of R)) (sym (refused-at R (r .0 .0) (r .1)))
 
 number-back : (s : tie.Start) → toZ w64 (ofZ w64 (s .args .number)) ≡ s .args .number
 number-back s = search needs

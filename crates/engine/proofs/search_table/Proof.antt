@@ -9,43 +9,50 @@ use lib.ListN.{length}
 use lib.IntN.{ℤ}
 use mir.Syntax.{w64}
 use mir.ValLaws.{toZ-ofZ}
+use Rattle.line.specs.declared.Refusal.{Refusal}
 use Rattle.line.specs.declared.Refusal.the-variants.{NoRoom, BadMargin}
 use Rattle.line.specs.Refusal.{Verdict, refused}
 use Rattle.table.specs.declared.Summary.{Summary}
 use Rattle.table.specs.Slices.{laid}
 use Rattle.table.specs.Table.{Table, readText}
-use Rattle.table.proofs.Accepted.{answer-refused}
+use Rattle.table.specs.declared.Reading.the-variants.{Refused}
 use Rattle.search.specs.declared.Found.{Found}
 use Rattle.engine.specs.declared.Bounded.the-variants.{Found as Given}
 use Rattle.engine.specs.Calls.{badMargin, Sought, sought, searchAnswer, searchList, searchCall, searchReads}
 use Rattle.engine.specs.Inside.{scaleFor, ruleFor}
-use Rattle.engine.proofs.Known.{Taken, taken-by, spread-at, grains-ready, grains-at}
+use Rattle.engine.proofs.Known.{Taken, refused-by, taken-by, spread-at, grains-ready, grains-at}
 use Rattle.engine.proofs.Searching.{bad-margin, no-room, search-ready, found-small, given-at, reads-at}
 use Rattle.engine.proofs.search_table.Statement.{statement}
 use Rattle.engine.proofs.search_table.Tie as tie
 
-abbrev start-of : tie.After-read → tie.Start
+abbrev start-of : tie.After-decode → tie.Start
 start-of R = R .before .before .before .before .before .before .before
 
-abbrev text-of : tie.After-read → List ℕ
+abbrev text-of : tie.After-decode → List ℕ
 text-of R = now (start-of R .args .text)
 
-abbrev margin-of : tie.After-read → ℤ
+abbrev margin-of : tie.After-decode → ℤ
 margin-of R = start-of R .args .margin
 
-abbrev list-of : tie.After-read → List ℕ
+abbrev list-of : tie.After-decode → List ℕ
 list-of R = now (start-of R .args .leaves)
 
+-- the reading refused x
+refused-at : (R : tie.After-decode) (x : Refusal) → R .decode .result ≡ Refused x → readText (text-of R) ≡ refused x
+refused-at R x e =
+    let l = R .decode .last .1 in
+    refused-by (text-of R) (R .decode .result) x (l .0) (l .1 .0) (l .1 .1 .0) (l .1 .1 .1 .0) (R .decode .ensures) e
+
 -- at an accepted table: the reading, the summary, and what is left
-abbrev read-of : tie.After-known-told2 → tie.After-read
+abbrev read-of : tie.After-known-told2 → tie.After-decode
 read-of c = c .before .before .before .before .before .before .before
 
 abbrev summary-of : tie.After-known-told2 → Summary
 summary-of c = c .before .t .given .0 .0
 
 taken : (c : tie.After-known-told2)
-    → let x = read-of c .read .last .1 in Taken (text-of (read-of c)) (summary-of c) (x .0) (x .1 .0) (x .1 .1 .0) (x .1 .1 .1 .0)
-taken c = taken-by (text-of (read-of c)) (read-of c .read .ensures) (c .before .t .given .1)
+    → let x = read-of c .decode .last .1 in Taken (text-of (read-of c)) (summary-of c) (x .0) (x .1 .0) (x .1 .1 .0) (x .1 .1 .1 .0)
+taken c = taken-by (text-of (read-of c)) (read-of c .decode .ensures) (c .before .t .given .1)
 
 -- the test of the margin is the definition's
 tested : (c : tie.After-is-bad-margin) → c .is-bad-margin .result ≡ badMargin (margin-of (read-of (c .before)))
@@ -54,7 +61,7 @@ tested c =
     c .is-bad-margin .ensures ∙ ap badMargin (toZ-ofZ w64 (S .args .margin) (S .fits .margin))
 
 -- the refusals, and what is then in the list
-refusing : (R : tie.After-read) (v : Verdict Sought) → sought (readText (text-of R)) (margin-of R) (length (list-of R)) ≡ v
+refusing : (R : tie.After-decode) (v : Verdict Sought) → sought (readText (text-of R)) (margin-of R) (length (list-of R)) ≡ v
     → (searchAnswer v ≡ searchCall (readText (text-of R)) (margin-of R) (length (list-of R))) × (laid (searchList v) (list-of R) ≡ laid (searchReads (readText (text-of R)) (margin-of R) (length (list-of R))) (list-of R))
 refusing R v e = (sym (ap searchAnswer e), sym (ap (λ (x : Verdict Sought). laid (searchList x) (list-of R)) e))
 
@@ -115,7 +122,7 @@ returns-3 : tie.Need-returns-3
 returns-3 c =
     let r = c .before .r .given in
     let R = c .before .before .before .before .before .before .before in
-    let v = answer-refused (readText (text-of R)) (r .0 .0) (sym (R .read .ensures .0) ∙ r .1) in
+    let v = refused-at R (r .0 .0) (r .1) in
     refusing R (refused (r .0 .0)) (ap (λ (v : Verdict Table). sought v (margin-of R) (length (list-of R))) v)
 
 returns-4 : tie.Need-returns-4

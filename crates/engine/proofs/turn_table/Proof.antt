@@ -5,41 +5,48 @@ use mathlib.Core.List.{List}
 use borrow.Author.Needs.{needs}
 use denote.Ref.{now}
 use lib.ListN.{length}
+use Rattle.line.specs.declared.Refusal.{Refusal}
 use Rattle.line.specs.declared.Refusal.the-variants.{NoRoom}
 use Rattle.line.specs.Refusal.{Verdict, refused}
 use Rattle.table.specs.declared.Summary.{Summary}
 use Rattle.table.specs.Slices.{laid}
 use Rattle.table.specs.Table.{Table, readText}
-use Rattle.table.proofs.Accepted.{answer-refused}
+use Rattle.table.specs.declared.Reading.the-variants.{Refused}
 use Rattle.engine.specs.declared.Turned.the-variants.{Written}
 use Rattle.engine.specs.Calls.{turnOf, turnAnswer, turnWritten}
-use Rattle.engine.proofs.Known.{Taken, taken-by, lowest-back, highest-back}
+use Rattle.engine.proofs.Known.{Taken, refused-by, taken-by, lowest-back, highest-back}
 use Rattle.engine.proofs.Turning.{room-short, turn-ready, turned-at}
 use Rattle.engine.proofs.turn_table.Statement.{statement}
 use Rattle.engine.proofs.turn_table.Tie as tie
 
-abbrev start-of : tie.After-read → tie.Start
+abbrev start-of : tie.After-decode → tie.Start
 start-of R = R .before .before .before .before .before .before .before
 
-abbrev text-of : tie.After-read → List ℕ
+abbrev text-of : tie.After-decode → List ℕ
 text-of R = now (start-of R .args .text)
 
-abbrev buffer-of : tie.After-read → List ℕ
+abbrev buffer-of : tie.After-decode → List ℕ
 buffer-of R = now (start-of R .args .buffer)
 
+-- the reading refused x
+refused-at : (R : tie.After-decode) (x : Refusal) → R .decode .result ≡ Refused x → readText (text-of R) ≡ refused x
+refused-at R x e =
+    let l = R .decode .last .1 in
+    refused-by (text-of R) (R .decode .result) x (l .0) (l .1 .0) (l .1 .1 .0) (l .1 .1 .1 .0) (R .decode .ensures) e
+
 -- at an accepted table: the reading, the summary, and what is left
-abbrev read-of : tie.After-known-told2 → tie.After-read
+abbrev read-of : tie.After-known-told2 → tie.After-decode
 read-of c = c .before .before .before .before .before .before .before
 
 abbrev summary-of : tie.After-known-told2 → Summary
 summary-of c = c .before .t .given .0 .0
 
 taken : (c : tie.After-known-told2)
-    → let x = read-of c .read .last .1 in Taken (text-of (read-of c)) (summary-of c) (x .0) (x .1 .0) (x .1 .1 .0) (x .1 .1 .1 .0)
-taken c = taken-by (text-of (read-of c)) (read-of c .read .ensures) (c .before .t .given .1)
+    → let x = read-of c .decode .last .1 in Taken (text-of (read-of c)) (summary-of c) (x .0) (x .1 .0) (x .1 .1 .0) (x .1 .1 .1 .0)
+taken c = taken-by (text-of (read-of c)) (read-of c .decode .ensures) (c .before .t .given .1)
 
 -- the refusals, and what is then in the buffer
-refusing : (R : tie.After-read) (v : Verdict (List ℕ)) → turnOf (readText (text-of R)) (length (buffer-of R)) ≡ v
+refusing : (R : tie.After-decode) (v : Verdict (List ℕ)) → turnOf (readText (text-of R)) (length (buffer-of R)) ≡ v
     → (turnAnswer v ≡ turnAnswer (turnOf (readText (text-of R)) (length (buffer-of R)))) × (laid (turnWritten v) (buffer-of R) ≡ laid (turnWritten (turnOf (readText (text-of R)) (length (buffer-of R)))) (buffer-of R))
 refusing R v e = (sym (ap turnAnswer e), sym (ap (λ (x : Verdict (List ℕ)). laid (turnWritten x) (buffer-of R)) e))
 
@@ -58,7 +65,7 @@ returns-2 : tie.Need-returns-2
 returns-2 c =
     let r = c .before .r .given in
     let R = c .before .before .before .before .before .before .before in
-    let v = answer-refused (readText (text-of R)) (r .0 .0) (sym (R .read .ensures .0) ∙ r .1) in
+    let v = refused-at R (r .0 .0) (r .1) in
     refusing R (refused (r .0 .0)) (ap (λ (v : Verdict Table). turnOf v (length (buffer-of R))) v)
 
 returns-3 : tie.Need-returns-3
