@@ -5,7 +5,6 @@ pub mod Answered
 pub mod Turning
 pub mod Demands
 pub mod Rows
-pub mod Raised
 pub mod Rolling
 pub mod Lent
 pub mod RollAnswered

@@ -6,7 +6,7 @@ ghost use lib.ListN.{length, getD, set, drop};
 ghost use Rattle.table.specs.Tree.{kindOf};
 ghost use Rattle.rollout.specs.Rollout.{spend, joined, candidate};
 ghost use Rattle.rollout.specs.Heights.{natural};
-ghost use Rattle.rollout.specs.Filled.{filled};
+ghost use Rattle.rollout.specs.Filled.{Small, risen, filled};
 ghost use Rattle.rollout.specs.Inside.{stored, Children, Counted, Choice, Named, Chosen, Extreme, Updated, ReadyDown, WentDown, Climb, Climbed, ReadyWalk, Walked, ReadyRoll, WellRolled};
 
 // Where a walk ends: the leaf, how many inner nodes lead to it, and how many policy bytes are used.
@@ -345,16 +345,17 @@ pub struct Record {
     pub high: i64,
 }
 
-// The first n records of the lent store get the bounds; the others stay. A function over a slice of structs is proved by hand.
-pub fn fill(store: &mut [Record], lows: &[i64], highs: &[i64], n: usize)
-    requires { ⌜ (n ≤ length (now store)) × (n ≤ length (now lows)) × (n ≤ length (now highs)) ⌝ }
-    ensures { λ _. ⌜ now (store .exit) ≡ filled n (now (lows .entry)) (now (highs .entry)) (now (store .entry)) ⌝ }
+// The first n records of the lent store get the bounds, in grains above `base`; the others stay. A function over a slice of structs is proved
+// by hand.
+pub fn fill(store: &mut [Record], low: &[u64], high: &[u64], n: usize, base: i64)
+    requires { ⌜ (n ≤ length (now store)) × (n ≤ length (now low)) × (n ≤ length (now high)) × Small base n (now low) × Small base n (now high) ⌝ }
+    ensures { λ _. ⌜ now (store .exit) ≡ filled n (risen base (now (low .entry))) (risen base (now (high .entry))) (now (store .entry)) ⌝ }
 {
     let mut i = 0;
     while i < n {
         store[i] = Record {
-            low: lows[i],
-            high: highs[i],
+            low: base + (low[i] as i64),
+            high: base + (high[i] as i64),
         };
         i += 1;
     }
