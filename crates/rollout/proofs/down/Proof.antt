@@ -9,7 +9,7 @@ use lib.ListN.{length, drop}
 use Rattle.rollout.specs.Lists.{Store, walkS}
 use Rattle.rollout.specs.Inside.{stored, Ready}
 use Rattle.rollout.proofs.Walks.{Window, Choosing, inner-more, inner-choice}
-use Rattle.rollout.proofs.Paths.{Descent, descent-begin, descent-fits, descent-end, descent-later, descent-turn}
+use Rattle.rollout.proofs.Paths.{Descent, descent-begin, descent-end, descent-later, descent-turn}
 use Rattle.rollout.proofs.down.Statement.{statement}
 use Rattle.rollout.proofs.down.Tie as tie
 

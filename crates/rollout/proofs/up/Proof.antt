@@ -1,12 +1,9 @@
 -- `rollout::up` meets its contract. Assumes nothing.
-use Prim.Native.Nat.{ℕ, _-_, _<_}
 use mathlib.Core.Path.{_≡_, refl, ap, _∙_}
-use mathlib.Core.List.{List}
 use native.Mathlib.Omega.{arith}
-use borrow.Author.Needs.{needs}
 use denote.Ref.{now}
 use lib.ListN.{length}
-use Rattle.rollout.specs.Lists.{Store, WalkS}
+use Rattle.rollout.specs.Lists.{WalkS}
 use Rattle.rollout.specs.Inside.{stored, Climb}
 use Rattle.rollout.proofs.Paths.{Climbing, climb-within, climb-children, climbing-on, climb-end}
 use Rattle.rollout.proofs.up.Statement.{statement}
