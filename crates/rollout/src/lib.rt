@@ -65,11 +65,11 @@ fn kind_at(kind: &[u8], i: usize) -> u8
     kind[i]
 }
 
-fn stop_at(stop: &[u16], i: usize) -> usize
-    requires { ⌜ i < length (now stop) ⌝ }
-    ensures { λ r. ⌜ r ≡ getD (now (stop .entry)) i 0 ⌝ }
+fn node_at(list: &[u16], i: usize) -> usize
+    requires { ⌜ i < length (now list) ⌝ }
+    ensures { λ r. ⌜ r ≡ getD (now (list .entry)) i 0 ⌝ }
 {
-    index16(stop[i])
+    index16(list[i])
 }
 
 fn bound_at(bound: &[u64], i: usize) -> u64
@@ -104,7 +104,7 @@ fn count(
     let mut i = c;
     while i < e {
         m = m + one_if(is_candidate(low, high, i, alpha, beta));
-        i = stop_at(stop, i);
+        i = node_at(stop, i);
     }
     m
 }
@@ -131,7 +131,7 @@ fn find(
             return i;
         }
         left = left - one_if(t);
-        i = stop_at(stop, i);
+        i = node_at(stop, i);
     }
 }
 
@@ -151,11 +151,11 @@ fn extremes(kind: u8, stop: &[u16], low: &[u64], high: &[u64], c: usize, e: usiz
 {
     let mut l = bound_at(low, c);
     let mut h = bound_at(high, c);
-    let mut i = stop_at(stop, c);
+    let mut i = node_at(stop, c);
     while i < e {
         l = join(kind, l, bound_at(low, i));
         h = join(kind, h, bound_at(high, i));
-        i = stop_at(stop, i);
+        i = node_at(stop, i);
     }
     Ends { low: l, high: h }
 }
@@ -250,7 +250,7 @@ fn down(
         list_node(path, depth, c);
         a = max_of(a, bound_at(low, c));
         b = min_of(b, bound_at(high, c));
-        let e = stop_at(stop, c);
+        let e = node_at(stop, c);
         let j = choice(stop, low, high, policy, at, c + 1, e, a, b);
         c = find(stop, low, high, c + 1, e, a, b, j);
         at = consume(policy, at);
@@ -266,8 +266,8 @@ fn up(kind: &[u8], stop: &[u16], low: &mut [u64], high: &mut [u64], path: &[u16]
     let mut d = depth;
     while 0 < d {
         d = d - 1;
-        let c = stop_at(path, d);
-        update(kind_at(kind, c), stop, low, high, c, stop_at(stop, c));
+        let c = node_at(path, d);
+        update(kind_at(kind, c), stop, low, high, c, node_at(stop, c));
     }
 }
 
