@@ -271,7 +271,8 @@ fn up(kind: &[u8], stop: &[u16], low: &mut [u64], high: &mut [u64], path: &[u16]
     }
 }
 
-// Lines 6 to 17: from the root, a candidate in the window alpha, beta, down to a leaf, which is read, and up again.
+// Lines 6 to 17: from the root, a candidate in the window alpha, beta, down to a leaf, which is read, and up again. What `path` held does not
+// matter.
 fn walk(
     kind: &[u8],
     stop: &[u16],
@@ -310,6 +311,7 @@ pub fn rollouts(
     requires { ⌜ ReadyRoll (now kind) (now stop) (now height) grain n (stored (now low) (now high)) (length (now leaves)) ⌝ }
     ensures { λ r. ⌜ WellRolled (now (kind .entry)) (now (stop .entry)) (now (height .entry)) grain n (now (policy .entry)) (stored (now (low .entry)) (now (high .entry))) (stored (now (low .exit)) (now (high .exit))) r (now (leaves .entry)) (now (leaves .exit)) ⌝ }
 {
+    // a node's number is above its parent's: no path is longer
     let mut path = [0u16; 1024];
     let mut used: usize = 0;
     let mut at: usize = 0;
