@@ -3,7 +3,6 @@ pub mod Known
 pub mod Searching
 pub mod Answered
 pub mod Turning
-pub mod Raised
 pub mod Rolling
 pub mod Lent
 pub mod RollAnswered

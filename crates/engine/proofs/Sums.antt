@@ -2,15 +2,15 @@
 use Prim.Native.Nat.{ℕ, zero, suc, _+_, _*_, _^_, _≤_, _<_}
 use native.Mathlib.Nat.{mul-le-mul}
 use native.Mathlib.Omega.{arith}
-use mathlib.Core.Path.{_≡_, refl, ap, _∙_}
-use mathlib.Core.Bool.{Bool, true, false}
-use lib.Dec.{ltb}
-use lib.IntN.{ℤ, pos, negsuc, negℤ, subℕ, _+ℤ_, _*ℤ_}
+use mathlib.Core.Path.{_≡_, ap, _∙_}
+use lib.IntN.{ℤ, pos, negsuc, negℤ, _+ℤ_, _*ℤ_}
 use lib.Signed.{mag}
 use borrow.Author.Needs.{sfits-of}
+use borrow.Author.Tests.{lt-ltb}
 use mir.Syntax.{w64}
 use mir.Val.{SFits, toZ, ofZ}
 use mir.ValLaws.{toZ-ofZ}
+use Rattle.rollout.proofs.Filling.{mag-add}
 
 as-pos : (n : ℕ) → n < 2 ^ 63 → toZ w64 n ≡ pos n
 as-pos n h = toZ-ofZ w64 (pos n) (sfits-of h)
@@ -21,14 +21,6 @@ read-back z h = toZ-ofZ w64 z (sfits-of h)
 mag-neg : (r : ℕ) → mag (negℤ (pos r)) ≤ r
 mag-neg zero = omega arith
 mag-neg (suc r) = omega arith
-
-mag-sub : (a b : ℕ) (t : Bool) → ltb a b ≡ t → mag (subℕ a b) ≤ a + b
-mag-sub a b true e = rw e (omega arith)
-mag-sub a b false e = rw e (omega arith)
-
-mag-add : (z : ℤ) (h : ℕ) → mag (z +ℤ pos h) ≤ mag z + h + 1
-mag-add (pos a) h = omega arith
-mag-add (negsuc a) h = omega (arith, mag-sub h (suc a) (ltb h (suc a)) refl)
 
 mag-mul : (z : ℤ) (g : ℕ) → mag (z *ℤ pos g) ≤ (mag z + 1) * g
 mag-mul (pos a) g = mul-le-mul (omega arith) (omega arith)
@@ -71,3 +63,12 @@ pub grains-back : (lowest : ℤ) (grain height : ℕ) (r : ℤ) → mag lowest �
 grains-back lowest grain height r a b c e =
     let made : r ≡ lowest *ℤ pos grain +ℤ pos height = e ∙ ap (λ (z : ℤ). z *ℤ pos grain +ℤ pos height) (read-back lowest (omega (arith, a))) in
     ap (λ (z : ℤ). toZ w64 (ofZ w64 z)) made ∙ read-back (lowest *ℤ pos grain +ℤ pos height) (sum lowest grain height a b c)
+
+-- ---- the lowest end in grains
+
+pub base-small : (z : ℤ) (g : ℕ) → mag z ≤ 1000000 → g ≤ 16777216 → mag (z *ℤ pos g +ℤ pos 0) ≤ 35184372088832
+base-small z g hz hg = omega (arith, product z g 0 hz hg (omega arith), mag-add (z *ℤ pos g) 0)
+
+pub plus-none : (z : ℤ) → z +ℤ pos 0 ≡ z
+plus-none (pos a) = ap pos (omega arith)
+plus-none (negsuc a) = rw (lt-ltb 0 (suc a) (omega arith)) (ap negsuc (omega arith))

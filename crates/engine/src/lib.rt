@@ -1,7 +1,7 @@
 // The public calls. Each takes any input, and ends with an answer or a refusal.
 ghost use mathlib.Core.Path.{_≡_};
 ghost use Prim.Native.Nat.{_≤_};
-ghost use lib.ListN.{length, take};
+ghost use lib.ListN.{length, replicate};
 ghost use lib.IntN.{pos, _+ℤ_, _*ℤ_};
 ghost use lib.Signed.{mag};
 ghost use Rattle.judge.specs.Judge.{playOf};
@@ -9,7 +9,7 @@ ghost use Rattle.table.specs.Table.{readText};
 ghost use Rattle.engine.specs.Calls.{exactCall, judgeCall, badMargin, searchCall, searchReads, rollCall, rollReads, rollStore, recorded, turnCall, turnBytes};
 ghost use Rattle.table.specs.Slices.{laid};
 ghost use Rattle.search.specs.Inside.{playAt};
-ghost use Rattle.engine.specs.Inside.{Spread, scaleFor, ruleFor, laidOn, raised, Raising, RollsTo};
+ghost use Rattle.engine.specs.Inside.{Spread, scaleFor, ruleFor, Started, RollsTo};
 use judge::Judged;
 use judge::Play;
 use line::Refusal;
@@ -58,10 +58,11 @@ pub enum Rolled {
     Refused(Refusal),
 }
 
-// What rollouts answer, and how many nodes have bounds: none where the call is refused.
+// What rollouts answer, how many nodes have bounds, none where the call is refused, and the grains that these are above.
 struct Outcome {
     pub answer: Rolled,
     pub nodes: usize,
+    pub base: i64,
 }
 
 fn scale_of(t: Summary) -> Scale
@@ -204,29 +205,29 @@ pub fn turn_table(text: &[u8], buffer: &mut [u8]) -> Turned
     }
 }
 
-// The first n heights in grains, to the front of `to`.
-fn raise(from: &[u64], n: usize, lowest: i64, grain: u64, to: &mut [i64])
-    requires { ⌜ Raising lowest grain n (now from) (now to) ⌝ }
-    ensures { λ _. ⌜ now (to .exit) ≡ laidOn (raised lowest grain (take n (now (from .entry)))) (now (to .entry)) ⌝ }
+// The first n highs at first: the highest end.
+fn start(high: &mut [u64], n: usize, top: u64)
+    requires { ⌜ n ≤ length (now high) ⌝ }
+    ensures { λ _. ⌜ Started n top (now (high .exit)) ⌝ }
 {
     let mut i = 0;
     while i < n {
-        to[i] = in_grains(lowest, grain, from[i]);
+        high[i] = top;
         i += 1;
     }
 }
 
-// The rollouts, for a store of `room` records: the lows and highs of the nodes go to two lists of numbers.
+// The rollouts, for a store of `room` records: the bounds of the nodes, above the outcome's base, go to two lists of numbers.
 fn roll(
     text: &[u8],
     policy: &[u8],
     room: usize,
     leaves: &mut [u16],
-    lows: &mut [i64],
-    highs: &mut [i64],
+    low: &mut [u64],
+    high: &mut [u64],
 ) -> Outcome
-    requires { ⌜ (1024 ≤ length (now lows)) × (1024 ≤ length (now highs)) ⌝ }
-    ensures { λ r. ⌜ RollsTo (readText (now (text .entry))) (now (policy .entry)) room r (now (leaves .entry)) (now (leaves .exit)) (now (lows .entry)) (now (lows .exit)) (now (highs .entry)) (now (highs .exit)) ⌝ }
+    requires { ⌜ (now low ≡ replicate 1024 0) × (length (now high) ≡ 1024) ⌝ }
+    ensures { λ r. ⌜ RollsTo (readText (now (text .entry))) (now (policy .entry)) room r (now (leaves .entry)) (now (leaves .exit)) (now (low .exit)) (now (high .exit)) ⌝ }
 {
     let mut kind = [0u8; 1024];
     let mut stop = [0u16; 1024];
@@ -236,40 +237,41 @@ fn roll(
         Reading::Refused(r) => Outcome {
             answer: Rolled::Refused(r),
             nodes: 0,
+            base: 0,
         },
         Reading::Accepted(t) => {
             if 0 < t.chances {
                 return Outcome {
                     answer: Rolled::Refused(Refusal::HasChance),
                     nodes: 0,
+                    base: 0,
                 };
             }
             if (leaves.len() < t.leaves) | (room < t.nodes) {
                 return Outcome {
                     answer: Rolled::Refused(Refusal::NoRoom),
                     nodes: 0,
+                    base: 0,
                 };
             }
             let g = scale_of(t);
-            let top = g.top;
-            let mut low = [0u64; 1024];
-            let mut high = [top; 1024];
+            start(high, t.nodes, g.top);
             let used = rollout::rollouts(
                 &kind,
                 &stop,
                 &height,
-                &mut low,
-                &mut high,
+                low,
+                high,
                 policy,
                 leaves,
                 t.nodes,
                 t.grain,
             );
-            raise(&low, t.nodes, t.lowest, t.grain, lows);
-            raise(&high, t.nodes, t.lowest, t.grain, highs);
+            let base = in_grains(t.lowest, t.grain, 0);
             Outcome {
                 answer: Rolled::Done(in_grains(t.lowest, t.grain, low[0]), used),
                 nodes: t.nodes,
+                base: base,
             }
         }
     }
@@ -279,6 +281,12 @@ fn nodes_of(o: Outcome) -> usize
     ensures { λ r. ⌜ r ≡ o .nodes ⌝ }
 {
     o.nodes
+}
+
+fn base_of(o: Outcome) -> i64
+    ensures { λ r. ⌜ r ≡ o .base ⌝ }
+{
+    o.base
 }
 
 fn answer_of(o: Outcome) -> Rolled
@@ -294,9 +302,9 @@ pub fn rollouts(text: &[u8], policy: &[u8], store: &mut [Record], leaves: &mut [
     ensures lists { λ _. ⌜ now (leaves .exit) ≡ laid (rollReads (readText (now (text .entry))) (now (policy .entry)) (length (now (leaves .entry))) (length (now (store .entry)))) (now (leaves .entry)) ⌝ }
     ensures store { λ _. ⌜ now (store .exit) ≡ recorded (rollStore (readText (now (text .entry))) (now (policy .entry)) (length (now (leaves .entry))) (length (now (store .entry)))) (now (store .entry)) ⌝ }
 {
-    let mut lows = [0i64; 1024];
-    let mut highs = [0i64; 1024];
-    let o = roll(text, policy, store.len(), leaves, &mut lows, &mut highs);
-    rollout::fill(store, &lows, &highs, nodes_of(o));
+    let mut low = [0u64; 1024];
+    let mut high = [0u64; 1024];
+    let o = roll(text, policy, store.len(), leaves, &mut low, &mut high);
+    rollout::fill(store, &low, &high, nodes_of(o), base_of(o));
     answer_of(o)
 }

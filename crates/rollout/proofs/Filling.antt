@@ -1,13 +1,21 @@
 -- The store is filled from the front, one record more at a time. Assumes nothing.
-use Prim.Native.Nat.{ℕ, zero, suc, _+_, _≤_, _<_}
+use Prim.Native.Nat.{ℕ, zero, suc, _+_, _^_, _≤_, _<_}
 use native.Mathlib.Nat.{not-suc-le-zero, le-of-suc-le-suc}
 use native.Mathlib.Numerals.{add-one}
-use mathlib.Core.Path.{_≡_, refl, ap}
+use mathlib.Core.Path.{_≡_, refl, sym, ap, ap₂, subst, _∙_}
+use mathlib.Core.Bool.{Bool, true, false}
 use mathlib.Core.List.{List, [], _∷_, _++_}
-use lib.ListN.{length, getD, set, drop}
+use native.Mathlib.Omega.{arith}
+use borrow.Author.Needs.{sfits-of}
+use mir.Syntax.{w64}
+use mir.Val.{SFits, toZ, ofZ}
+use mir.ValLaws.{toZ-ofZ}
+use lib.Dec.{ltb}
+use lib.Signed.{mag}
+use lib.ListN.{length, getD, set, drop, length-map}
 use Rattle.rollout.specs.declared.Record.{Record}
-use lib.IntN.{ℤ, pos}
-use Rattle.rollout.specs.Filled.{recordsOf, filled}
+use lib.IntN.{ℤ, pos, negsuc, subℕ, _+ℤ_}
+use Rattle.rollout.specs.Filled.{risen, recordsOf, filled}
 
 pub filled-none : (ls hs : List ℤ) (st : List Record) → st ≡ filled 0 ls hs st
 unfolding recordsOf
@@ -34,3 +42,47 @@ length-filled (suc n) [] hs st a b c = absurd (not-suc-le-zero a)
 length-filled (suc n) (l ∷ ls) [] st a b c = absurd (not-suc-le-zero b)
 length-filled (suc n) (l ∷ ls) (h ∷ hs) [] a b c = absurd (not-suc-le-zero c)
 length-filled (suc n) (l ∷ ls) (h ∷ hs) (s ∷ st) a b c = ap suc (length-filled n ls hs st (le-of-suc-le-suc a) (le-of-suc-le-suc b) (le-of-suc-le-suc c))
+
+-- ---- heights above b
+
+module _ (b : ℤ) where
+  rises : (hs : List ℕ) (i : ℕ) → i < length hs → getD (risen b hs) i (pos 0) ≡ b +ℤ pos (getD hs i 0)
+  rises [] i h = absurd (not-suc-le-zero h)
+  rises (x ∷ hs) zero h = refl
+  rises (x ∷ hs) (suc i) h = rises hs i (le-of-suc-le-suc h)
+
+  risen-long : (hs : List ℕ) → length (risen b hs) ≡ length hs
+  risen-long hs = length-map hs (λ (h : ℕ). b +ℤ pos h)
+
+  pub risen-more : (n : ℕ) (ls hs : List ℕ) (st : List Record) → n < length ls → n < length hs → n < length st
+      → set (filled n (risen b ls) (risen b hs) st) n (record { low = b +ℤ pos (getD ls n 0); high = b +ℤ pos (getD hs n 0) }) ≡ filled (n + 1) (risen b ls) (risen b hs) st
+  risen-more n ls hs st a c d =
+      ap₂ (λ (l h : ℤ). set (filled n (risen b ls) (risen b hs) st) n (record { low = l; high = h })) (sym (rises ls n a)) (sym (rises hs n c))
+      ∙ filled-more n (risen b ls) (risen b hs) st (omega (arith, risen-long ls)) (omega (arith, risen-long hs)) d
+
+  pub length-risen : (n : ℕ) (ls hs : List ℕ) (st : List Record) → n ≤ length ls → n ≤ length hs → n ≤ length st
+      → length (filled n (risen b ls) (risen b hs) st) ≡ length st
+  length-risen n ls hs st a c d = length-filled n (risen b ls) (risen b hs) st (omega (arith, risen-long ls)) (omega (arith, risen-long hs)) d
+
+-- ---- the sum, as bits
+
+mag-sub : (a b : ℕ) (t : Bool) → ltb a b ≡ t → mag (subℕ a b) ≤ a + b
+mag-sub a b true e = rw e (omega arith)
+mag-sub a b false e = rw e (omega arith)
+
+pub mag-add : (z : ℤ) (h : ℕ) → mag (z +ℤ pos h) ≤ mag z + h + 1
+mag-add (pos a) h = omega arith
+mag-add (negsuc a) h = omega (arith, mag-sub h (suc a) (ltb h (suc a)) refl)
+
+module _ (b : ℤ) (v : ℕ) (h : (mag b ≤ 35184372088832) × (v ≤ 35184372088832)) where
+  pub sum-small : mag (b +ℤ pos v) < 2 ^ 63
+  sum-small = omega (arith, mag-add b v, h .0, h .1)
+
+  pub sum-is : toZ w64 (ofZ w64 b) +ℤ toZ w64 v ≡ b +ℤ pos v
+  sum-is = ap₂ _+ℤ_ (toZ-ofZ w64 b (sfits-of (omega (arith, h .0)))) (toZ-ofZ w64 (pos v) (sfits-of (omega (arith, h .1))))
+
+  pub sum-fits : SFits w64 (toZ w64 (ofZ w64 b) +ℤ toZ w64 v)
+  sum-fits = subst (SFits w64) (sym sum-is) (sfits-of sum-small)
+
+pub cast-small : {v : ℕ} → v ≤ 35184372088832 → SFits w64 (pos v)
+cast-small h = sfits-of (omega arith)

@@ -4,7 +4,7 @@ use mathlib.Core.Path.{_≡_, refl, sym, ap, ap₂, subst, _∙_}
 use mathlib.Core.List.{List, [], _∷_, map}
 use native.Mathlib.Omega.{arith}
 use lib.IntN.{ℤ}
-use lib.ListN.{length, getD, take, replicate, length-map, length-replicate, getD-replicate}
+use lib.ListN.{length, getD, take, length-map}
 use lib.Seq.{length-take-le}
 use Rattle.line.specs.Refusal.{fine}
 use Rattle.table.specs.Tree.{leaves}
@@ -77,20 +77,10 @@ module _ (s : List ℕ) (t : Table) (h : readText s ≡ fine t) where
         small = subst (λ (z : RolledS). (i : ℕ) → i < nodes → (lowAt (z .store) i ≤ far) × (highAt (z .store) i ≤ far)) (sym same) (listed-small s t h p st0 ready);
       }
 
-  module _ (K S W H : List ℕ) (roomK : nodes ≤ length K) (roomS : nodes ≤ length S) (roomW : nodes ≤ length W) (roomH : nodes ≤ length H) (m : ℕ) (big : nodes ≤ m) where
-    -- before the first walk: m lows and m highs
-    abbrev begun : Store
-    begun = stored (replicate m 0) (replicate m far)
-
-    begun-ready : lists.Ready nodes far begun
-    begun-ready =
-        record {
-          room = (omega (arith, length-replicate {A = ℕ} m 0), omega (arith, length-replicate m far));
-          ends = λ i o. (getD-replicate m i 0 0 (omega arith), getD-replicate m i far 0 (omega arith));
-        }
-
+  -- st0 is the store before the first walk
+  module _ (K S W H : List ℕ) (roomK : nodes ≤ length K) (roomS : nodes ≤ length S) (roomW : nodes ≤ length W) (roomH : nodes ≤ length H) (st0 : Store) (begun : lists.Ready nodes far st0) where
     pub accepted-roll-ready : (room : ℕ) → leafLines (t .lines) ≤ room
-        → ReadyRoll (fitted (kindsOf t) K) (fitted (stopsOf t) S) (fitted (heightsOf t) H) (grain t) nodes begun room
+        → ReadyRoll (fitted (kindsOf t) K) (fitted (stopsOf t) S) (fitted (heightsOf t) H) (grain t) nodes st0 room
     accepted-roll-ready room enough =
         let R = accepted-search-ready s t h 0 (omega arith) K S W H roomK roomS roomW roomH room enough in
         record {
@@ -101,7 +91,7 @@ module _ (s : List ℕ) (t : Table) (h : readText s ≡ fine t) where
           spans = accepted-lent s t h K S W H roomK roomS roomW roomH;
           grained = refl;
           size = refl;
-          ready = begun-ready;
+          ready = begun;
           kinds = R .holds .kinds;
           stops = R .holds .stops;
           heights = R .holds .heights;
@@ -109,11 +99,11 @@ module _ (s : List ℕ) (t : Table) (h : readText s ≡ fine t) where
         }
 
     pub accepted-rolled : (p low high : List ℕ) (r : ℕ) (came now : List ℕ) → leafLines (t .lines) ≤ length came
-        → WellRolled (fitted (kindsOf t) K) (fitted (stopsOf t) S) (fitted (heightsOf t) H) (grain t) nodes p begun (stored low high) r came now
+        → WellRolled (fitted (kindsOf t) K) (fitted (stopsOf t) S) (fitted (heightsOf t) H) (grain t) nodes p st0 (stored low high) r came now
         → Given p low high r came now
     unfolding accepted-roll-ready
     accepted-rolled p low high r came now enough told =
         let x = told (accepted-roll-ready (length came) enough) in
-        let d : RolledS = rollS (grain t) (leaves (heightTree t)) p (heightTree t) begun in
-        let e : Given p (d .store .low) (d .store .high) r came now = listed-given p begun begun-ready d refl r came now (x .used) (x .leaves) in
+        let d : RolledS = rollS (grain t) (leaves (heightTree t)) p (heightTree t) st0 in
+        let e : Given p (d .store .low) (d .store .high) r came now = listed-given p st0 begun d refl r came now (x .used) (x .leaves) in
         subst (λ (z : Store). Given p (z .low) (z .high) r came now) (sym (x .store)) e

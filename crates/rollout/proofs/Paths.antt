@@ -1,11 +1,11 @@
 -- A walk's way down to a leaf and up again: what the two loops keep. Assumes nothing.
 use Prim.Native.Nat.{ℕ, zero, suc, _+_, _-_, _*_, _≤_, _<_}
 use mathlib.Core.Path.{_≡_, refl, sym, ap, ap₂, subst, _∙_}
-use mathlib.Core.List.{List, _∷_, []}
+use mathlib.Core.List.{List}
 use native.Mathlib.Omega.{arith}
 use lib.ListN.{length, getD, set, drop, length-set}
 use lib.Seq.{getD-set-same, getD-set-other}
-use Rattle.table.specs.Tree.{Kind, Forest, kindOf}
+use Rattle.table.specs.Tree.{kindOf}
 use Rattle.rollout.specs.declared.Step.{Step}
 use Rattle.rollout.specs.Rollout.{spend, over}
 use Rattle.rollout.specs.Heights.{natural}

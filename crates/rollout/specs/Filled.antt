@@ -1,9 +1,10 @@
 -- The lent store, a slice of records, filled from two lists of numbers. Document 01, 'Rollouts': "kept in a lent slice of records, one record
 -- for each node". Assumes nothing: these are definitions.
-use Prim.Native.Nat.{ℕ, zero, suc}
+use Prim.Native.Nat.{ℕ, zero, suc, _≤_, _<_}
 use mathlib.Core.List.{List, [], _∷_, _++_, map}
-use lib.IntN.{ℤ}
-use lib.ListN.{drop}
+use lib.IntN.{ℤ, pos, _+ℤ_}
+use lib.ListN.{getD, drop}
+use lib.Signed.{mag}
 use Rattle.rollout.specs.declared.Record.{Record}
 use Rattle.rollout.specs.Rollout.{Pair}
 
@@ -13,6 +14,14 @@ lowsOf rs = map (λ (r : Pair ℤ). r .low) rs
 
 abbrev pub highsOf : List (Pair ℤ) → List ℤ
 highsOf rs = map (λ (r : Pair ℤ). r .high) rs
+
+-- heights above b
+abbrev pub risen : ℤ → List ℕ → List ℤ
+risen b hs = map (λ (h : ℕ). b +ℤ pos h) hs
+
+-- the first n of them have few digits
+abbrev pub Small : ℤ → ℕ → List ℕ → Type 0
+Small b n hs = (i : ℕ) → i < n → (mag b ≤ 35184372088832) × (getD hs i 0 ≤ 35184372088832)
 
 -- the first n numbers of the two lists, as records
 unfoldable pub recordsOf : ℕ → List ℤ → List ℤ → List Record

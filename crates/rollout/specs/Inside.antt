@@ -105,7 +105,7 @@ pub record WalkLeft (w : WalkS) (r : Step) (P : List ℕ) (st : Store) : Type 0 
   pub policy : w .policy ≡ drop (r .used) P
   pub small : r .leaf < 1024
 
--- the walk from node c that reads it, as a leaf of height v
+-- the walk that reads node c, a leaf of v grains
 abbrev pub readAt : Store → (c v : ℕ) → List ℕ → WalkS
 readAt st c v p = record { store = put st c v v; read = c ∷ []; policy = p }
 
@@ -118,7 +118,7 @@ updated k under c w =
       policy = w .policy;
     }
 
--- node c has children, and its run ends before `upto`
+-- node c has children, and its run goes no further than `upto`
 pub record Rung (S : List ℕ) (c upto : ℕ) : Type 0 where
   pub under : Forest ℕ
   pub row : Row S (c + 1) (getD S c 0) under
@@ -148,7 +148,7 @@ abbrev pub WentDown : (K S : List ℕ) (α β : ℕ) → Store → (at : ℕ) (P
 WentDown K S α β st at P r Q =
     (H : List ℕ) (G : ℕ) (R : Ready K S H G 0 α β st) → Landed K S H G (R .upto) (walkS G α β 0 (drop at P) (R .nodes) st) st P Q r
 
--- the store is what the last walk down the first d nodes of the path Q left
+-- the store is what is left of a walk whose path begins with the first d nodes of Q, before these are updated
 pub record Climb (K S Q : List ℕ) (d : ℕ) (st : Store) : Type 0 where
   pub upto : ℕ
   pub whole : WalkS

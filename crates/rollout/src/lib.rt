@@ -6,7 +6,7 @@ ghost use lib.ListN.{length, getD, set, drop};
 ghost use Rattle.table.specs.Tree.{kindOf};
 ghost use Rattle.rollout.specs.Rollout.{spend, joined, candidate};
 ghost use Rattle.rollout.specs.Heights.{natural};
-ghost use Rattle.rollout.specs.Filled.{filled};
+ghost use Rattle.rollout.specs.Filled.{Small, risen, filled};
 ghost use Rattle.rollout.specs.Inside.{stored, Children, Counted, Choice, Named, Chosen, Extreme, Updated, ReadyDown, WentDown, Climb, Climbed, ReadyWalk, Walked, ReadyRoll, WellRolled};
 
 // Where a walk ends: the leaf, how many inner nodes lead to it, and how many policy bytes are used.
@@ -65,11 +65,11 @@ fn kind_at(kind: &[u8], i: usize) -> u8
     kind[i]
 }
 
-fn stop_at(stop: &[u16], i: usize) -> usize
-    requires { ⌜ i < length (now stop) ⌝ }
-    ensures { λ r. ⌜ r ≡ getD (now (stop .entry)) i 0 ⌝ }
+fn node_at(list: &[u16], i: usize) -> usize
+    requires { ⌜ i < length (now list) ⌝ }
+    ensures { λ r. ⌜ r ≡ getD (now (list .entry)) i 0 ⌝ }
 {
-    index16(stop[i])
+    index16(list[i])
 }
 
 fn bound_at(bound: &[u64], i: usize) -> u64
@@ -104,7 +104,7 @@ fn count(
     let mut i = c;
     while i < e {
         m = m + one_if(is_candidate(low, high, i, alpha, beta));
-        i = stop_at(stop, i);
+        i = node_at(stop, i);
     }
     m
 }
@@ -131,7 +131,7 @@ fn find(
             return i;
         }
         left = left - one_if(t);
-        i = stop_at(stop, i);
+        i = node_at(stop, i);
     }
 }
 
@@ -151,11 +151,11 @@ fn extremes(kind: u8, stop: &[u16], low: &[u64], high: &[u64], c: usize, e: usiz
 {
     let mut l = bound_at(low, c);
     let mut h = bound_at(high, c);
-    let mut i = stop_at(stop, c);
+    let mut i = node_at(stop, c);
     while i < e {
         l = join(kind, l, bound_at(low, i));
         h = join(kind, h, bound_at(high, i));
-        i = stop_at(stop, i);
+        i = node_at(stop, i);
     }
     Ends { low: l, high: h }
 }
@@ -250,7 +250,7 @@ fn down(
         list_node(path, depth, c);
         a = max_of(a, bound_at(low, c));
         b = min_of(b, bound_at(high, c));
-        let e = stop_at(stop, c);
+        let e = node_at(stop, c);
         let j = choice(stop, low, high, policy, at, c + 1, e, a, b);
         c = find(stop, low, high, c + 1, e, a, b, j);
         at = consume(policy, at);
@@ -266,12 +266,13 @@ fn up(kind: &[u8], stop: &[u16], low: &mut [u64], high: &mut [u64], path: &[u16]
     let mut d = depth;
     while 0 < d {
         d = d - 1;
-        let c = stop_at(path, d);
-        update(kind_at(kind, c), stop, low, high, c, stop_at(stop, c));
+        let c = node_at(path, d);
+        update(kind_at(kind, c), stop, low, high, c, node_at(stop, c));
     }
 }
 
-// Lines 6 to 17: from the root, a candidate in the window alpha, beta, down to a leaf, which is read, and up again.
+// Lines 6 to 17: from the root, a candidate in the window alpha, beta, down to a leaf, which is read, and up again. What `path` held does not
+// matter.
 fn walk(
     kind: &[u8],
     stop: &[u16],
@@ -310,6 +311,7 @@ pub fn rollouts(
     requires { ⌜ ReadyRoll (now kind) (now stop) (now height) grain n (stored (now low) (now high)) (length (now leaves)) ⌝ }
     ensures { λ r. ⌜ WellRolled (now (kind .entry)) (now (stop .entry)) (now (height .entry)) grain n (now (policy .entry)) (stored (now (low .entry)) (now (high .entry))) (stored (now (low .exit)) (now (high .exit))) r (now (leaves .entry)) (now (leaves .exit)) ⌝ }
 {
+    // a node's number is above its parent's: no path is longer
     let mut path = [0u16; 1024];
     let mut used: usize = 0;
     let mut at: usize = 0;
@@ -345,16 +347,17 @@ pub struct Record {
     pub high: i64,
 }
 
-// The first n records of the lent store get the bounds; the others stay. A function over a slice of structs is proved by hand.
-pub fn fill(store: &mut [Record], lows: &[i64], highs: &[i64], n: usize)
-    requires { ⌜ (n ≤ length (now store)) × (n ≤ length (now lows)) × (n ≤ length (now highs)) ⌝ }
-    ensures { λ _. ⌜ now (store .exit) ≡ filled n (now (lows .entry)) (now (highs .entry)) (now (store .entry)) ⌝ }
+// The first n records of the lent store get the bounds, in grains above `base`; the others stay. A function over a slice of structs is proved
+// by hand.
+pub fn fill(store: &mut [Record], low: &[u64], high: &[u64], n: usize, base: i64)
+    requires { ⌜ (n ≤ length (now store)) × (n ≤ length (now low)) × (n ≤ length (now high)) × Small base n (now low) × Small base n (now high) ⌝ }
+    ensures { λ _. ⌜ now (store .exit) ≡ filled n (risen base (now (low .entry))) (risen base (now (high .entry))) (now (store .entry)) ⌝ }
 {
     let mut i = 0;
     while i < n {
         store[i] = Record {
-            low: lows[i],
-            high: highs[i],
+            low: base + (low[i] as i64),
+            high: base + (high[i] as i64),
         };
         i += 1;
     }

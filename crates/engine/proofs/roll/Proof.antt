@@ -1,6 +1,6 @@
 -- `engine::roll` meets its contract. Assumes nothing.
 use Prim.Native.Nat.{ℕ, _≤_, _<_}
-use mathlib.Core.Path.{_≡_, refl, sym, ap, _∙_}
+use mathlib.Core.Path.{_≡_, refl, sym, ap, subst, _∙_}
 use mathlib.Core.Bool.{Bool, true, false, _||_}
 use mathlib.Core.List.{List}
 use native.Mathlib.Omega.{arith}
@@ -8,7 +8,9 @@ use borrow.Author.Needs.{needs}
 use borrow.Author.Tests.{ltb-false}
 use denote.Ref.{now}
 use lib.Dec.{ltb}
-use lib.ListN.{length, replicate}
+use lib.IntN.{ℤ, pos, _*ℤ_}
+use lib.ListN.{length, take, replicate}
+use lib.Signed.{mag}
 use mir.Syntax.{w64}
 use mir.Val.{toZ, ofZ}
 use Rattle.line.specs.Refusal.{Verdict, refused}
@@ -19,17 +21,18 @@ use Rattle.table.specs.declared.Reading.the-variants.{Accepted, Refused}
 use Rattle.table.specs.Table.{Table, readText, answer}
 use Rattle.table.proofs.Accepted.{answer-refused}
 use Rattle.worth.specs.declared.Scale.{Scale}
+use Rattle.rollout.specs.Filled.{risen}
 use Rattle.engine.specs.declared.Rolled.the-variants.{Done}
 use Rattle.engine.specs.Calls.{rolls}
 use Rattle.engine.specs.Inside.{scaleFor}
-use Rattle.engine.proofs.Sums.{read-back, grains-back}
+use Rattle.engine.proofs.Sums.{read-back, grains-back, base-small, plus-none}
 use Rattle.engine.proofs.Known.{spread}
-use Rattle.engine.proofs.Rolling.{has-chance, too-short, refuses, roll-ready, Facts, roll-facts, raised-laid}
+use Rattle.engine.proofs.Rolling.{has-chance, too-short, nodes-few, refuses, roll-ready, Facts, roll-facts}
 use Rattle.engine.proofs.roll.Statement.{statement}
 use Rattle.engine.proofs.roll.Tie as tie
 
 abbrev start-of : tie.After-read → tie.Start
-start-of R = R .before .before .before .before .before .before .before .before
+start-of R = R .before .before .before .before .before .before .before .before .before .before
 
 abbrev text-of : tie.After-read → List ℕ
 text-of R = now (start-of R .args .text)
@@ -77,7 +80,7 @@ returns c =
     let K = c .before .before in
     let R = read-of K in
     let a = start-of R .args in
-    refuses (text-of R) (now (a .policy)) (a .room) _ (list-of R) (now (a .lows)) (now (a .highs))
+    refuses (text-of R) (now (a .policy)) (a .room) _ (list-of R) (now (a .low)) (now (a .high))
     (has-chance (text-of R) (summary-of K) (accepted K) (length (list-of R)) (a .room) (c .if1 .taken))
 
 returns-2 : tie.Need-returns-2
@@ -86,7 +89,7 @@ returns-2 c =
     let K = E .before .before in
     let R = read-of K in
     let a = start-of R .args in
-    refuses (text-of R) (now (a .policy)) (a .room) _ (list-of R) (now (a .lows)) (now (a .highs))
+    refuses (text-of R) (now (a .policy)) (a .room) _ (list-of R) (now (a .low)) (now (a .high))
     (too-short (text-of R) (summary-of K) (accepted K) (length (list-of R)) (a .room) (E .if1 .left) (c .if2 .taken))
 
 -- where the rollouts are called: at an accepted table without a C, with room for all
@@ -117,6 +120,11 @@ scale-of-requires c κs =
     let K = known-of c in
     spread (text-of (read-of K)) (summary-of K) (accepted K)
 
+start-requires : tie.Need-start-requires
+start-requires c κs =
+    let K = known-of (c .before .before) in
+    omega (arith, nodes-few (text-of (read-of K)) (summary-of K) (accepted K), start-of (read-of K) .pre .1)
+
 slice-aggregate-rollouts : tie.Need-slice-aggregate-rollouts
 slice-aggregate-rollouts c = search needs
 
@@ -126,30 +134,27 @@ slice-aggregate-rollouts-2 c = search needs
 slice-aggregate-rollouts-3 : tie.Need-slice-aggregate-rollouts-3
 slice-aggregate-rollouts-3 c = search needs
 
-slice-aggregate-rollouts-4 : tie.Need-slice-aggregate-rollouts-4
-slice-aggregate-rollouts-4 c = search needs
-
-slice-aggregate-rollouts-5 : tie.Need-slice-aggregate-rollouts-5
-slice-aggregate-rollouts-5 c = search needs
-
 top-is : (c : tie.After-scale-of) → c .scale-of .result .top ≡ scaleFor (summary-of (known-of (c .before))) .top
 top-is c = ap (λ (g : Scale). g .top) (c .scale-of .ensures)
 
 rollouts-requires : tie.Need-rollouts-requires
 rollouts-requires c κs =
-    let G = c .before .before .before .before .before .before in
+    let I = c .before .before .before .before .before .before .before .before in
+    let G = I .before .before in
     let E = G .before in
     let K = known-of E in
     let R = read-of K in
+    let s = start-of R in
     let x = R .read .last .1 in
     let y = R .read .ensures .1 in
     roll-ready (text-of R) (summary-of K) (accepted K) (replicate 1024 0) (replicate 1024 0) (replicate 1024 0) (replicate 1024 0)
-    (x .0) (x .1 .0) (x .1 .1 .1 .0) refl refl refl refl (y .0) (y .1 .0) (y .1 .1 .1) 1024 (omega arith) (G .scale-of .result .top) (top-is G) (length (list-of R)) (enough E)
+    (x .0) (x .1 .0) (x .1 .1 .1 .0) refl refl refl refl (y .0) (y .1 .0) (y .1 .1 .1)
+    _ _ (s .pre .0) (I .start .kept .0 ∙ s .pre .1) (G .scale-of .result .top) (top-is G) (I .start .ensures) (length (list-of R)) (enough E)
 
 -- ---- what they left
 
 abbrev scaled : tie.After-rollouts → tie.After-scale-of
-scaled W = W .before .before .before .before .before .before .before
+scaled W = W .before .before .before .before .before .before .before .before .before .before .before
 
 abbrev known-at : tie.After-rollouts → tie.After-known-told2
 known-at W = known-of (scaled W .before)
@@ -171,56 +176,30 @@ facts W =
     let K = known-of E in
     let R = read-of K in
     let a = start-of R .args in
+    let I = W .before .before .before .before .before .before .before .before .before in
     let x = R .read .last .1 in
     let y = R .read .ensures .1 in
     roll-facts (text-of R) (summary-of K) (accepted K) (replicate 1024 0) (replicate 1024 0) (replicate 1024 0) (replicate 1024 0)
-    (x .0) (x .1 .0) (x .1 .1 .1 .0) refl refl refl refl (y .0) (y .1 .0) (y .1 .1 .1) 1024 (omega arith) (G .scale-of .result .top) (top-is G)
+    (x .0) (x .1 .0) (x .1 .1 .1 .0) refl refl refl refl (y .0) (y .1 .0) (y .1 .1 .1)
+    _ _ (start-of R .pre .0) (I .start .kept .0 ∙ start-of R .pre .1) (G .scale-of .result .top) (top-is G) (I .start .ensures)
     (now (a .policy)) (low-of W) (high-of W) (W .rollouts .result) (list-of R) (W .rollouts .last .1 .1 .1 .1 .1 .1 .0) (a .room) (E .before .before .before .if1 .left) (E .if2 .left) (enough E) (W .rollouts .ensures)
 
 -- the lowest end is handed on as bits
 back : (K : tie.After-known-told2) → toZ w64 (ofZ w64 (summary-of K .lowest)) ≡ summary-of K .lowest
 back K = let s = spread (text-of (read-of K)) (summary-of K) (accepted K) in read-back (summary-of K .lowest) (omega (arith, s .lowest))
 
-slice-aggregate-raise : tie.Need-slice-aggregate-raise
-slice-aggregate-raise c = search needs
-
-raise-requires : tie.Need-raise-requires
-raise-requires c κs =
-    let W = c .before .before .before .before .before .before .before in
-    let K = known-at W in
-    let s = spread (text-of (read-of K)) (summary-of K) (accepted K) in
-    let F = facts W in
-    record {
-      lowest-small = rw (back K) (s .lowest);
-      grain-small = s .grain;
-      room = F .room-low;
-      place = omega (arith, F .few, start-of (read-of K) .pre .0);
-      small = F .small-low;
-    }
-
-slice-aggregate-raise-2 : tie.Need-slice-aggregate-raise-2
-slice-aggregate-raise-2 c = search needs
-
-raise-requires-2 : tie.Need-raise-requires-2
-raise-requires-2 c κs =
-    let W = c .before .before .before .before .before .before .before .before .before .before .before .before in
-    let K = known-at W in
-    let s = spread (text-of (read-of K)) (summary-of K) (accepted K) in
-    let F = facts W in
-    record {
-      lowest-small = rw (back K) (s .lowest);
-      grain-small = s .grain;
-      room = F .room-high;
-      place = omega (arith, F .few, start-of (read-of K) .pre .1);
-      small = F .small-high;
-    }
-
-array-read-in-grains : tie.Need-array-read-in-grains
-array-read-in-grains c = search needs
-
 in-grains-requires : tie.Need-in-grains-requires
 in-grains-requires c κs =
-    let W = c .before .before .before .before .before .before .before .before .before .before .before .before .before .before .before in
+    let K = known-at (c .before .before .before .before .before .before .before) in
+    let s = spread (text-of (read-of K)) (summary-of K) (accepted K) in
+    (rw (back K) (s .lowest), s .grain, omega arith)
+
+slice-read-in-grains : tie.Need-slice-read-in-grains
+slice-read-in-grains c = let F = facts (c .before .before .before .before .before .before .before .before .before) in omega (arith, F .some, F .room-low)
+
+in-grains-requires-2 : tie.Need-in-grains-requires-2
+in-grains-requires-2 c κs =
+    let W = c .before .before .before .before .before .before .before .before .before .before in
     let K = known-at W in
     let s = spread (text-of (read-of K)) (summary-of K) (accepted K) in
     let F = facts W in
@@ -232,7 +211,7 @@ returns-3 c =
     let R = c .before .before .before .before .before .before .before in
     let a = start-of R .args in
     let v = answer-refused (readText (text-of R)) (r .0 .0) (said R (Refused (r .0 .0)) (r .1)) in
-    refuses (text-of R) (now (a .policy)) (a .room) (r .0 .0) (list-of R) (now (a .lows)) (now (a .highs))
+    refuses (text-of R) (now (a .policy)) (a .room) (r .0 .0) (list-of R) (now (a .low)) (now (a .high))
     (ap (λ (z : Verdict Table). rolls z (length (list-of R)) (a .room)) v)
 
 same-length : tie.Need-same-length
@@ -246,22 +225,27 @@ same-length-3 c = search needs
 
 returns-4 : tie.Need-returns-4
 returns-4 c =
-    let W = c .before .before .before .before .before .before .before .before .before .before .before .before .before .before .before .before in
+    let W = c .before .before .before .before .before .before .before .before .before .before .before in
     let K = known-at W in
     let R = read-of K in
-    let a = start-of R .args in
     let t : Summary = summary-of K in
     let s = spread (text-of R) t (accepted K) in
     let F = facts W in
-    let worth = grains-back (t .lowest) (t .grain) _ (c .in-grains .result) (s .lowest) (s .grain) (F .small-low 0 (F .some)) (c .in-grains .ensures) in
+    let b = c .before .before .before .in-grains in
+    let worth = grains-back (t .lowest) (t .grain) _ (c .in-grains2 .result) (s .lowest) (s .grain) (F .small-low 0 (F .some)) (c .in-grains2 .ensures) in
+    let sum = grains-back (t .lowest) (t .grain) 0 (b .result) (s .lowest) (s .grain) (omega arith) (b .ensures) in
+    let base = sum ∙ plus-none (t .lowest *ℤ pos (t .grain)) in
+    let small = subst (λ (z : ℤ). mag z ≤ 35184372088832) (sym sum) (base-small (t .lowest) (t .grain) (s .lowest) (s .grain)) in
     record {
       answers = (λ i. Done (worth i) (W .rollouts .result)) ∙ F .answers;
       nodes = F .nodes;
       fits = fitting (scaled W .before);
       few = F .few;
       lists = F .lists;
-      lows-are = raised-laid _ _ (t .grain) (t .nodes) (low-of W) (now (a .lows)) _ _ (c .before .before .before .before .before .before .before .before .raise .ensures) (back K) (F .lows);
-      highs-are = raised-laid _ _ (t .grain) (t .nodes) (high-of W) (now (a .highs)) _ _ (c .before .before .before .raise2 .ensures) (back K) (F .highs);
+      lows-are = ap (λ (z : ℤ). risen z (take (t .nodes) (low-of W))) base ∙ F .lows;
+      highs-are = ap (λ (z : ℤ). risen z (take (t .nodes) (high-of W))) base ∙ F .highs;
+      small-low = λ i o. (small, F .small-low i o);
+      small-high = λ i o. (small, F .small-high i o);
     }
 
 pub roll-spec : {M : Type 1} → statement M
@@ -278,18 +262,14 @@ roll-spec =
     returns
     returns-2
     scale-of-requires
+    start-requires
     slice-aggregate-rollouts
     slice-aggregate-rollouts-2
     slice-aggregate-rollouts-3
-    slice-aggregate-rollouts-4
-    slice-aggregate-rollouts-5
     rollouts-requires
-    slice-aggregate-raise
-    raise-requires
-    slice-aggregate-raise-2
-    raise-requires-2
-    array-read-in-grains
     in-grains-requires
+    slice-read-in-grains
+    in-grains-requires-2
     returns-3
     same-length
     same-length-2

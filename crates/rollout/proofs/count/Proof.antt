@@ -47,8 +47,8 @@ add-m c =
     let s = i .before .before .before .before .before in
     record { fits = omega (arith, c .one-if .ensures, at-most-one (c .before .is-candidate .result), i .before .loop .inv .0, i .loop-test .taken, s .pre .0 .few) }
 
-stop-at-requires : tie.Need-stop-at-requires Inv-loop μ-loop
-stop-at-requires c κs =
+node-at-requires : tie.Need-node-at-requires Inv-loop μ-loop
+node-at-requires c κs =
     let i = c .before .before in
     let s = i .before .before .before .before .before in
     omega (arith, i .loop-test .taken, s .pre .0 .room)
@@ -56,15 +56,15 @@ stop-at-requires c κs =
 loop-less : tie.Need-loop-less Inv-loop μ-loop
 loop-less c =
     let i = c .before .before .before in
-    omega (arith, c .stop-at .ensures, child i .below, i .loop-test .taken)
+    omega (arith, c .node-at .ensures, child i .below, i .loop-test .taken)
 
 loop-again : tie.Need-loop-again Inv-loop μ-loop
 loop-again c =
     let i = c .before .before .before in
     let t = c .before .before .is-candidate in
     let o = c .before .one-if in (
-      omega (arith, i .before .loop .inv .0, o .ensures, at-most-one (t .result), c .stop-at .ensures, child i .below),
-      λ F h. count-turn (i .before .loop .inv .1 F h) (i .loop-test .taken) (t .result) (o .result) (c .stop-at .result) (t .ensures) (o .ensures) (c .stop-at .ensures),
+      omega (arith, i .before .loop .inv .0, o .ensures, at-most-one (t .result), c .node-at .ensures, child i .below),
+      λ F h. count-turn (i .before .loop .inv .1 F h) (i .loop-test .taken) (t .result) (o .result) (c .node-at .result) (t .ensures) (o .ensures) (c .node-at .ensures),
     )
 
 returns : tie.Need-returns Inv-loop μ-loop
@@ -80,7 +80,7 @@ count-spec =
     is-candidate-requires
     one-if-requires
     add-m
-    stop-at-requires
+    node-at-requires
     loop-less
     loop-again
     returns)

@@ -9,7 +9,7 @@ use lib.ListN.{length, drop}
 use Rattle.rollout.specs.Lists.{Store, walkS}
 use Rattle.rollout.specs.Inside.{stored, Ready}
 use Rattle.rollout.proofs.Walks.{Window, Choosing, inner-more, inner-choice}
-use Rattle.rollout.proofs.Paths.{Descent, descent-begin, descent-fits, descent-end, descent-later, descent-turn}
+use Rattle.rollout.proofs.Paths.{Descent, descent-begin, descent-end, descent-later, descent-turn}
 use Rattle.rollout.proofs.down.Statement.{statement}
 use Rattle.rollout.proofs.down.Tie as tie
 
@@ -80,25 +80,25 @@ bound-at-requires-2 c κs = let R = ready (c .before .before .before .before .be
 min-of-requires : tie.Need-min-of-requires Inv-loop μ-loop
 min-of-requires c κs = search needs
 
-stop-at-requires : tie.Need-stop-at-requires Inv-loop μ-loop
-stop-at-requires c κs = let R = ready (c .before .before .before .before .before .before .before .before .before .before) in omega (arith, R .some, R .stops)
+node-at-requires : tie.Need-node-at-requires Inv-loop μ-loop
+node-at-requires c κs = let R = ready (c .before .before .before .before .before .before .before .before .before .before) in omega (arith, R .some, R .stops)
 
 -- at an inner node whose window is made
 
-abbrev at-of : tie.After-stop-at Inv-loop μ-loop → tie.At-loop Inv-loop μ-loop
+abbrev at-of : tie.After-node-at Inv-loop μ-loop → tie.At-loop Inv-loop μ-loop
 at-of c = c .before .before .before .before .before .before .before .before .before .before .before
 
-window : (c : tie.After-stop-at Inv-loop μ-loop)
+window : (c : tie.After-node-at Inv-loop μ-loop)
     → let l = at-of c in
     let a = start-of l .args in
     Window (now (a .kind)) (now (a .stop)) (stored (now (a .low)) (now (a .high))) (l .loop .c) (l .loop .a) (l .loop .b) (c .before .before .before .before .before .before .before .before .before .before .kind-at .result)
-    (c .stop-at .result) (c .before .before .before .max-of .result) (c .before .min-of .result)
+    (c .node-at .result) (c .before .before .before .max-of .result) (c .before .min-of .result)
 window c =
     let l = at-of c in
     record {
       kind = c .before .before .before .before .before .before .before .before .before .before .kind-at .ensures;
       inside = c .before .before .before .before .before .before .before .before .before .if1 .left;
-      stop = c .stop-at .ensures;
+      stop = c .node-at .ensures;
       alpha = c .before .before .before .max-of .ensures ∙ ap (max (l .loop .a)) (c .before .before .before .before .bound-at .ensures);
       beta = c .before .min-of .ensures ∙ ap (min (l .loop .b)) (c .before .before .bound-at2 .ensures);
     }
@@ -127,7 +127,7 @@ choosing : (c : tie.After-find Inv-loop μ-loop)
     → let w = c .before .before in
     let l = at-of w in
     let a = start-of l .args in
-    Choosing (now (a .stop)) (l .loop .c) (w .stop-at .result) (w .before .before .before .max-of .result) (w .before .min-of .result) (stored (now (a .low)) (now (a .high)))
+    Choosing (now (a .stop)) (l .loop .c) (w .node-at .result) (w .before .before .before .max-of .result) (w .before .min-of .result) (stored (now (a .low)) (now (a .high)))
     (drop (l .loop .at) (now (a .policy))) (c .before .choice .result) (c .find .result)
 choosing c = record { named = c .before .choice .ensures; found = c .find .ensures }
 
@@ -168,7 +168,7 @@ down-spec =
     max-of-requires
     bound-at-requires-2
     min-of-requires
-    stop-at-requires
+    node-at-requires
     add-choice
     choice-requires
     add-find

@@ -22,8 +22,8 @@ bound-at-requires c κs = let s = c .before .before .before in omega (arith, s .
 bound-at-requires-2 : tie.Need-bound-at-requires-2 Inv-loop μ-loop
 bound-at-requires-2 c κs = let s = c .before .before .before .before in omega (arith, s .pre .1, s .pre .3)
 
-stop-at-requires : tie.Need-stop-at-requires Inv-loop μ-loop
-stop-at-requires c κs = let s = c .before .before .before .before .before in omega (arith, s .pre .1, s .pre .0 .room)
+node-at-requires : tie.Need-node-at-requires Inv-loop μ-loop
+node-at-requires c κs = let s = c .before .before .before .before .before in omega (arith, s .pre .1, s .pre .0 .room)
 
 loop-holds : tie.Need-loop-holds Inv-loop μ-loop
 loop-holds c =
@@ -32,8 +32,8 @@ loop-holds c =
     let l = c .before .before .bound-at in
     let h = c .before .bound-at2 in
     λ F r. (
-      fold-start (kindOf (a .kind)) (now (a .stop)) (a .c) (a .e) (now (a .low)) F r (s .pre .1) (l .result) (c .stop-at .result) (l .ensures) (c .stop-at .ensures),
-      fold-start (kindOf (a .kind)) (now (a .stop)) (a .c) (a .e) (now (a .high)) F r (s .pre .1) (h .result) (c .stop-at .result) (h .ensures) (c .stop-at .ensures),
+      fold-start (kindOf (a .kind)) (now (a .stop)) (a .c) (a .e) (now (a .low)) F r (s .pre .1) (l .result) (c .node-at .result) (l .ensures) (c .node-at .ensures),
+      fold-start (kindOf (a .kind)) (now (a .stop)) (a .c) (a .e) (now (a .high)) F r (s .pre .1) (h .result) (c .node-at .result) (h .ensures) (c .node-at .ensures),
     )
 
 abbrev start-of : tie.In-loop Inv-loop μ-loop → tie.Start Inv-loop μ-loop
@@ -59,13 +59,13 @@ bound-at-requires-4 c κs = let i = c .before .before in omega (arith, i .loop-t
 join-requires-2 : tie.Need-join-requires-2 Inv-loop μ-loop
 join-requires-2 c κs = search needs
 
-stop-at-requires-2 : tie.Need-stop-at-requires-2 Inv-loop μ-loop
-stop-at-requires-2 c κs = let i = c .before .before .before .before in omega (arith, i .loop-test .taken, start-of i .pre .0 .room)
+node-at-requires-2 : tie.Need-node-at-requires-2 Inv-loop μ-loop
+node-at-requires-2 c κs = let i = c .before .before .before .before in omega (arith, i .loop-test .taken, start-of i .pre .0 .room)
 
 loop-less : tie.Need-loop-less Inv-loop μ-loop
 loop-less c =
     let i = c .before .before .before .before .before in
-    omega (arith, c .stop-at2 .ensures, child i .below, i .loop-test .taken)
+    omega (arith, c .node-at2 .ensures, child i .below, i .loop-test .taken)
 
 loop-again : tie.Need-loop-again Inv-loop μ-loop
 loop-again c =
@@ -75,8 +75,8 @@ loop-again c =
     let jl = c .before .before .before .join in
     let jh = c .before .join2 in
     λ F r. (
-      fold-turn (i .before .loop .inv F r .0) (i .loop-test .taken) (l .result) (jl .result) (c .stop-at2 .result) (l .ensures) (jl .ensures) (c .stop-at2 .ensures),
-      fold-turn (i .before .loop .inv F r .1) (i .loop-test .taken) (h .result) (jh .result) (c .stop-at2 .result) (h .ensures) (jh .ensures) (c .stop-at2 .ensures),
+      fold-turn (i .before .loop .inv F r .0) (i .loop-test .taken) (l .result) (jl .result) (c .node-at2 .result) (l .ensures) (jl .ensures) (c .node-at2 .ensures),
+      fold-turn (i .before .loop .inv F r .1) (i .loop-test .taken) (h .result) (jh .result) (c .node-at2 .result) (h .ensures) (jh .ensures) (c .node-at2 .ensures),
     )
 
 returns : tie.Need-returns Inv-loop μ-loop
@@ -93,13 +93,13 @@ extremes-spec =
     μ-loop
     bound-at-requires
     bound-at-requires-2
-    stop-at-requires
+    node-at-requires
     loop-holds
     bound-at-requires-3
     join-requires
     bound-at-requires-4
     join-requires-2
-    stop-at-requires-2
+    node-at-requires-2
     loop-less
     loop-again
     returns)

@@ -49,21 +49,21 @@ sub-left c =
     let t = c .before .before .is-candidate in
     seek-sub (sought (c .before .before .before)) (t .result) (t .ensures) (c .before .if1 .left) (c .one-if .result) (c .one-if .ensures)
 
-stop-at-requires : tie.Need-stop-at-requires Inv-loop μ-loop
-stop-at-requires c κs =
+node-at-requires : tie.Need-node-at-requires Inv-loop μ-loop
+node-at-requires c κs =
     let l = c .before .before .before in
     omega (arith, seek-within (sought l), l .before .before .before .before .pre .room)
 
 loop-less : tie.Need-loop-less Inv-loop μ-loop
 loop-less c =
     let l = c .before .before .before .before in
-    omega (arith, c .stop-at .ensures, seek-first (sought l) .below, seek-within (sought l))
+    omega (arith, c .node-at .ensures, seek-first (sought l) .below, seek-within (sought l))
 
 loop-again : tie.Need-loop-again Inv-loop μ-loop
 loop-again c =
     let t = c .before .before .before .is-candidate in
     let o = c .before .one-if in
-    λ F h l. seek-turn (c .before .before .before .before .loop .inv F h l) (t .result) (t .ensures) (c .before .before .if1 .left) (o .result) (o .ensures) (c .stop-at .result) (c .stop-at .ensures)
+    λ F h l. seek-turn (c .before .before .before .before .loop .inv F h l) (t .result) (t .ensures) (c .before .before .if1 .left) (o .result) (o .ensures) (c .node-at .result) (c .node-at .ensures)
 
 pub find-spec : {M : Type 1} → statement M
 find-spec =
@@ -76,6 +76,6 @@ find-spec =
     returns
     one-if-requires
     sub-left
-    stop-at-requires
+    node-at-requires
     loop-less
     loop-again)

@@ -1,12 +1,9 @@
 -- `rollout::up` meets its contract. Assumes nothing.
-use Prim.Native.Nat.{ℕ, _-_, _<_}
 use mathlib.Core.Path.{_≡_, refl, ap, _∙_}
-use mathlib.Core.List.{List}
 use native.Mathlib.Omega.{arith}
-use borrow.Author.Needs.{needs}
 use denote.Ref.{now}
 use lib.ListN.{length}
-use Rattle.rollout.specs.Lists.{Store, WalkS}
+use Rattle.rollout.specs.Lists.{WalkS}
 use Rattle.rollout.specs.Inside.{stored, Climb}
 use Rattle.rollout.proofs.Paths.{Climbing, climb-within, climb-children, climbing-on, climb-end}
 use Rattle.rollout.proofs.up.Statement.{statement}
@@ -36,26 +33,26 @@ climb c = c .before .loop .inv .2 (start-of c .pre) .0
 sub-d : tie.Need-sub-d Inv-loop μ-loop
 sub-d c = omega (arith, c .loop-test .taken)
 
-stop-at-requires : tie.Need-stop-at-requires Inv-loop μ-loop
-stop-at-requires c κs = omega (arith, c .loop-test .taken, climb c .path)
+node-at-requires : tie.Need-node-at-requires Inv-loop μ-loop
+node-at-requires c κs = omega (arith, c .loop-test .taken, climb c .path)
 
 kind-at-requires : tie.Need-kind-at-requires Inv-loop μ-loop
 kind-at-requires c κs =
     let i = c .before in
-    let n = climb-within (climb i) (i .loop-test .taken) (c .stop-at .result) (c .stop-at .ensures) in
+    let n = climb-within (climb i) (i .loop-test .taken) (c .node-at .result) (c .node-at .ensures) in
     omega (arith, n, climb i .kinds)
 
-stop-at-requires-2 : tie.Need-stop-at-requires-2 Inv-loop μ-loop
-stop-at-requires-2 c κs =
+node-at-requires-2 : tie.Need-node-at-requires-2 Inv-loop μ-loop
+node-at-requires-2 c κs =
     let i = c .before .before .before .before in
-    let n = climb-within (climb i) (i .loop-test .taken) (c .before .before .before .stop-at .result) (c .before .before .before .stop-at .ensures) in
+    let n = climb-within (climb i) (i .loop-test .taken) (c .before .before .before .node-at .result) (c .before .before .before .node-at .ensures) in
     omega (arith, n, climb i .stops)
 
 update-requires : tie.Need-update-requires Inv-loop μ-loop
 update-requires c κs =
     let i = c .before .before .before .before .before in
-    let s = c .before .before .before .before .stop-at in
-    climb-children (climb i) (i .loop-test .taken) (s .result) (s .ensures) (c .stop-at2 .result) (c .stop-at2 .ensures)
+    let s = c .before .before .before .before .node-at in
+    climb-children (climb i) (i .loop-test .taken) (s .result) (s .ensures) (c .node-at2 .result) (c .node-at2 .ensures)
 
 loop-less : tie.Need-loop-less Inv-loop μ-loop
 loop-less c = omega (arith, c .before .before .before .before .before .before .before .before .before .before .loop-test .taken)
@@ -65,9 +62,9 @@ loop-again c =
     let U = c .before .before .before .before in
     let i = c .before .before .before .before .before .before .before .before .before .before in
     let l = i .before .loop in
-    let s = c .before .before .before .before .before .before .before .before .before .stop-at in
+    let s = c .before .before .before .before .before .before .before .before .before .node-at in
     let k = c .before .before .before .before .before .before .before .before .kind-at in
-    let e = U .before .stop-at2 in (
+    let e = U .before .node-at2 in (
       U .update .kept .1 .1 .0 ∙ l .inv .0,
       U .update .kept .1 .1 .1 .0 ∙ l .inv .1,
       λ C. climbing-on C (l .inv .2 C) (i .loop-test .taken) (s .result) (s .ensures) (k .result) (k .ensures) (e .result) (e .ensures) _ _ (U .update .ensures .0) (U .update .ensures .1),
@@ -90,9 +87,9 @@ up-spec =
     μ-loop
     loop-holds
     sub-d
-    stop-at-requires
+    node-at-requires
     kind-at-requires
-    stop-at-requires-2
+    node-at-requires-2
     update-requires
     loop-less
     loop-again

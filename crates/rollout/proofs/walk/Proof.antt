@@ -1,10 +1,8 @@
 -- `rollout::walk` meets its contract. Assumes nothing.
-use mathlib.Core.List.{List}
-use Prim.Native.Nat.{ℕ}
+
 use native.Mathlib.Omega.{arith}
 use borrow.Author.Needs.{needs}
-use denote.Ref.{now}
-use Rattle.rollout.specs.Inside.{stored, Ready}
+use Rattle.rollout.specs.Inside.{stored}
 use Rattle.rollout.proofs.Paths.{climb-begin, walk-left}
 use Rattle.rollout.proofs.walk.Statement.{statement}
 use Rattle.rollout.proofs.walk.Tie as tie
