@@ -233,7 +233,7 @@ fn roll(
     let mut stop = [0u16; 1024];
     let mut weight = [0u8; 1024];
     let mut height = [0u32; 1024];
-    match table::read(text, &mut kind, &mut stop, &mut weight, &mut height) {
+    match table::decode(text, &mut kind, &mut stop, &mut weight, &mut height) {
         Reading::Refused(r) => Outcome {
             answer: Rolled::Refused(r),
             nodes: 0,

@@ -13,61 +13,66 @@ use lib.ListN.{length, take, replicate}
 use lib.Signed.{mag}
 use mir.Syntax.{w64}
 use mir.Val.{toZ, ofZ}
+use Rattle.line.specs.declared.Refusal.{Refusal}
 use Rattle.line.specs.Refusal.{Verdict, refused}
-use Rattle.line.proofs.Checks.{or-right}
+use Rattle.line.proofs.Checks.{or-left, or-right}
 use Rattle.table.specs.declared.Summary.{Summary}
-use Rattle.table.specs.declared.Reading.{Reading}
 use Rattle.table.specs.declared.Reading.the-variants.{Accepted, Refused}
 use Rattle.table.specs.Table.{Table, readText, answer}
-use Rattle.table.proofs.Accepted.{answer-refused}
 use Rattle.worth.specs.declared.Scale.{Scale}
 use Rattle.rollout.specs.Filled.{risen}
 use Rattle.engine.specs.declared.Rolled.the-variants.{Done}
 use Rattle.engine.specs.Calls.{rolls}
 use Rattle.engine.specs.Inside.{scaleFor}
 use Rattle.engine.proofs.Sums.{read-back, grains-back, base-small, plus-none}
-use Rattle.engine.proofs.Known.{spread}
+use Rattle.engine.proofs.Known.{Taken, refused-by, taken-by, spread}
 use Rattle.engine.proofs.Rolling.{has-chance, too-short, nodes-few, refuses, roll-ready, Facts, roll-facts}
 use Rattle.engine.proofs.roll.Statement.{statement}
 use Rattle.engine.proofs.roll.Tie as tie
 
-abbrev start-of : tie.After-read → tie.Start
+abbrev start-of : tie.After-decode → tie.Start
 start-of R = R .before .before .before .before .before .before .before .before .before .before
 
-abbrev text-of : tie.After-read → List ℕ
+abbrev text-of : tie.After-decode → List ℕ
 text-of R = now (start-of R .args .text)
 
-abbrev list-of : tie.After-read → List ℕ
+abbrev list-of : tie.After-decode → List ℕ
 list-of R = now (start-of R .args .leaves)
 
--- what the reading gave
-said : (R : tie.After-read) (r : Reading) → R .read .result ≡ r → answer (readText (text-of R)) ≡ r
-said R r e = sym (R .read .ensures .0) ∙ e
+-- the reading refused x
+refused-at : (R : tie.After-decode) (x : Refusal) → R .decode .result ≡ Refused x → readText (text-of R) ≡ refused x
+refused-at R x e =
+    let l = R .decode .last .1 in
+    refused-by (text-of R) (R .decode .result) x (l .0) (l .1 .0) (l .1 .1 .0) (l .1 .1 .1 .0) (R .decode .ensures) e
 
--- at an accepted table: the reading, and that its answer is the summary t
-abbrev read-of : tie.After-known-told2 → tie.After-read
+-- at an accepted table: the reading, the summary, and what is left
+abbrev read-of : tie.After-known-told2 → tie.After-decode
 read-of c = c .before .before .before .before .before .before .before
 
 abbrev summary-of : tie.After-known-told2 → Summary
 summary-of c = c .before .t .given .0 .0
 
+taken : (c : tie.After-known-told2)
+    → let x = read-of c .decode .last .1 in Taken (text-of (read-of c)) (summary-of c) (x .0) (x .1 .0) (x .1 .1 .0) (x .1 .1 .1 .0)
+taken c = taken-by (text-of (read-of c)) (read-of c .decode .ensures) (c .before .t .given .1)
+
 accepted : (c : tie.After-known-told2) → answer (readText (text-of (read-of c))) ≡ Accepted (summary-of c)
-accepted c = said (read-of c) (Accepted (summary-of c)) (c .before .t .given .1)
+accepted c = taken c .accepted
 
-slice-aggregate-read : tie.Need-slice-aggregate-read
-slice-aggregate-read c = search needs
+slice-aggregate-decode : tie.Need-slice-aggregate-decode
+slice-aggregate-decode c = search needs
 
-slice-aggregate-read-2 : tie.Need-slice-aggregate-read-2
-slice-aggregate-read-2 c = search needs
+slice-aggregate-decode-2 : tie.Need-slice-aggregate-decode-2
+slice-aggregate-decode-2 c = search needs
 
-slice-aggregate-read-3 : tie.Need-slice-aggregate-read-3
-slice-aggregate-read-3 c = search needs
+slice-aggregate-decode-3 : tie.Need-slice-aggregate-decode-3
+slice-aggregate-decode-3 c = search needs
 
-slice-aggregate-read-4 : tie.Need-slice-aggregate-read-4
-slice-aggregate-read-4 c = search needs
+slice-aggregate-decode-4 : tie.Need-slice-aggregate-decode-4
+slice-aggregate-decode-4 c = search needs
 
-read-requires : tie.Need-read-requires
-read-requires c κs = search needs
+decode-requires : tie.Need-decode-requires
+decode-requires c κs = search needs
 
 enum-known-r : tie.Need-enum-known-r
 enum-known-r c = search needs
@@ -97,16 +102,12 @@ returns-2 c =
 abbrev known-of : tie.Else2 → tie.After-known-told2
 known-of E = E .before .before .before .before .before
 
-or-false : (a b : Bool) → (a || b) ≡ false → a ≡ false
-or-false true b e = e
-or-false false b e = refl
-
 enough : (E : tie.Else2) → summary-of (known-of E) .leaves ≤ length (list-of (read-of (known-of E)))
 enough E =
     let K = known-of E in
     let R = read-of K in
     let t : Summary = summary-of K in
-    ltb-false (length (list-of R)) (t .leaves) (or-false (ltb (length (list-of R)) (t .leaves)) (ltb (start-of R .args .room) (t .nodes)) (E .if2 .left))
+    ltb-false (length (list-of R)) (t .leaves) (or-left (ltb (length (list-of R)) (t .leaves)) (ltb (start-of R .args .room) (t .nodes)) (E .if2 .left))
 
 fitting : (E : tie.Else2) → summary-of (known-of E) .nodes ≤ start-of (read-of (known-of E)) .args .room
 fitting E =
@@ -145,10 +146,10 @@ rollouts-requires c κs =
     let K = known-of E in
     let R = read-of K in
     let s = start-of R in
-    let x = R .read .last .1 in
-    let y = R .read .ensures .1 in
+    let x = R .decode .last .1 in
+    let y = taken K in
     roll-ready (text-of R) (summary-of K) (accepted K) (replicate 1024 0) (replicate 1024 0) (replicate 1024 0) (replicate 1024 0)
-    (x .0) (x .1 .0) (x .1 .1 .1 .0) refl refl refl refl (y .0) (y .1 .0) (y .1 .1 .1)
+    (x .0) (x .1 .0) (x .1 .1 .1 .0) refl refl refl refl (y .kinds) (y .stops) (y .heights)
     _ _ (s .pre .0) (I .start .kept .0 ∙ s .pre .1) (G .scale-of .result .top) (top-is G) (I .start .ensures) (length (list-of R)) (enough E)
 
 -- ---- what they left
@@ -177,10 +178,10 @@ facts W =
     let R = read-of K in
     let a = start-of R .args in
     let I = W .before .before .before .before .before .before .before .before .before in
-    let x = R .read .last .1 in
-    let y = R .read .ensures .1 in
+    let x = R .decode .last .1 in
+    let y = taken K in
     roll-facts (text-of R) (summary-of K) (accepted K) (replicate 1024 0) (replicate 1024 0) (replicate 1024 0) (replicate 1024 0)
-    (x .0) (x .1 .0) (x .1 .1 .1 .0) refl refl refl refl (y .0) (y .1 .0) (y .1 .1 .1)
+    (x .0) (x .1 .0) (x .1 .1 .1 .0) refl refl refl refl (y .kinds) (y .stops) (y .heights)
     _ _ (start-of R .pre .0) (I .start .kept .0 ∙ start-of R .pre .1) (G .scale-of .result .top) (top-is G) (I .start .ensures)
     (now (a .policy)) (low-of W) (high-of W) (W .rollouts .result) (list-of R) (W .rollouts .last .1 .1 .1 .1 .1 .1 .0) (a .room) (E .before .before .before .if1 .left) (E .if2 .left) (enough E) (W .rollouts .ensures)
 
@@ -210,7 +211,7 @@ returns-3 c =
     let r = c .before .r .given in
     let R = c .before .before .before .before .before .before .before in
     let a = start-of R .args in
-    let v = answer-refused (readText (text-of R)) (r .0 .0) (said R (Refused (r .0 .0)) (r .1)) in
+    let v = refused-at R (r .0 .0) (r .1) in
     refuses (text-of R) (now (a .policy)) (a .room) (r .0 .0) (list-of R) (now (a .low)) (now (a .high))
     (ap (λ (z : Verdict Table). rolls z (length (list-of R)) (a .room)) v)
 
@@ -252,11 +253,11 @@ pub roll-spec : {M : Type 1} → statement M
 roll-spec =
     tie.close
     (tie.spec
-    slice-aggregate-read
-    slice-aggregate-read-2
-    slice-aggregate-read-3
-    slice-aggregate-read-4
-    read-requires
+    slice-aggregate-decode
+    slice-aggregate-decode-2
+    slice-aggregate-decode-3
+    slice-aggregate-decode-4
+    decode-requires
     enum-known-r
     enum-known-t
     returns
