@@ -7,7 +7,6 @@ use mathlib.Core.Option.{Option, none, some}
 use native.Mathlib.Omega.{arith}
 use borrow.Author.Tests.{ltb-true, ltb-false}
 use lib.Dec.{ltb}
-use lib.ListN.{length}
 use lib.IntN.{ℤ}
 use Rattle.line.specs.declared.Refusal.{Refusal}
 use Rattle.line.specs.declared.Refusal.the-variants.{NoRoom, BadMargin}
@@ -24,9 +23,8 @@ use Rattle.search.specs.Search.{nodeOf}
 use Rattle.search.specs.Whole.{searched}
 use Rattle.search.proofs.Demand.{reads-few, play-small}
 use Rattle.engine.specs.declared.Bounds.{Bounds}
-use Rattle.engine.specs.declared.Bounded.{Bounded}
 use Rattle.engine.specs.declared.Bounded.the-variants.{Found, Refused}
-use Rattle.engine.specs.Calls.{badMargin, Sought, sought, boundsOf, searchAnswer, searchList, searchCall, searchReads}
+use Rattle.engine.specs.Calls.{badMargin, sought, boundsOf, searchAnswer, searchList, searchCall, searchReads}
 use Rattle.engine.proofs.Searching.{sought-margin, sought-room, sought-fine}
 
 -- ---- an answer with bounds

@@ -16,10 +16,9 @@ use Rattle.table.specs.declared.Summary.{Summary}
 use Rattle.table.specs.declared.Reading.the-variants.{Accepted}
 use Rattle.table.specs.Tree.{leaves}
 use Rattle.table.specs.Table.{Table, readText, tree, summary, answer, grain}
-use Rattle.table.specs.Slices.{kindsOf, stopsOf, weightsOf, heightsOf, fitted, laid, decoded}
+use Rattle.table.specs.Slices.{kindsOf, stopsOf, heightsOf, fitted, laid, decoded}
 use Rattle.table.proofs.Accepted.{answer-accepted, accepted-size, accepted-leaves}
 use Rattle.worth.proofs.Worth.{span-grains}
-use Rattle.rollout.specs.Whole.{hasChance}
 use Rattle.rollout.specs.declared.Record.{Record}
 use Rattle.rollout.specs.Rollout.{Pair}
 use Rattle.table.specs.Accepted.{span}

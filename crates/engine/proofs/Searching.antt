@@ -1,9 +1,8 @@
 -- What the search of an accepted text gives. Assumes nothing.
 use Prim.Native.Nat.{ℕ, _*_, _≤_, _<_}
-use mathlib.Core.Path.{_≡_, refl, sym, ap, ap₂, subst, _∙_}
-use mathlib.Core.Bool.{Bool, true, false, _||_}
+use mathlib.Core.Path.{_≡_, refl, sym, ap, _∙_}
+use mathlib.Core.Bool.{true, false}
 use mathlib.Core.List.{List}
-use mathlib.Core.Option.{Option}
 use native.Mathlib.Omega.{arith}
 use borrow.Author.Tests.{lt-ltb, le-ltb, ltb-false}
 use lib.ListN.{length}
@@ -20,18 +19,15 @@ use Rattle.table.specs.Slices.{laid}
 use Rattle.table.proofs.Accepted.{accepted-leaves}
 use Rattle.worth.proofs.Worth.{span-grains}
 use Rattle.judge.specs.Judge.{playOf}
-use Rattle.judge.specs.declared.Play.{Play}
 use Rattle.search.specs.declared.Rule.{Rule}
 use Rattle.search.specs.declared.Found.{Found}
-use Rattle.search.specs.Search.{nodeOf}
 use Rattle.search.specs.Heights.{heightSearched}
 use Rattle.search.specs.Whole.{searched}
 use Rattle.search.specs.Inside.{slices, ReadyRoot, Shows, Searched, playAt}
 use Rattle.search.proofs.Ready.{accepted-search-ready, accepted-searched}
 use Rattle.search.proofs.Demand.{heights-hold, heights-order, shifted}
-use Rattle.engine.specs.declared.Bounds.{Bounds}
 use Rattle.engine.specs.declared.Bounded.the-variants.{Found as Given}
-use Rattle.engine.specs.Calls.{badMargin, Sought, sought, boundsOf, searchAnswer, searchList, searchCall, searchReads}
+use Rattle.engine.specs.Calls.{badMargin, sought, searchAnswer, searchList, searchCall, searchReads}
 use Rattle.engine.specs.Inside.{scaleFor, ruleFor}
 use Rattle.engine.proofs.Known.{zeros, zeros-enough, Taken, of-table}
 

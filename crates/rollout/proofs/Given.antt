@@ -1,6 +1,6 @@
 -- An accepted table can be rolled out, and what `rollouts` leaves is the rollouts of the table. Assumes nothing.
 use Prim.Native.Nat.{ℕ, _*_, _≤_, _<_}
-use mathlib.Core.Path.{_≡_, refl, sym, ap, ap₂, subst, _∙_}
+use mathlib.Core.Path.{_≡_, refl, sym, ap, subst, _∙_}
 use mathlib.Core.List.{List, [], _∷_, map}
 use native.Mathlib.Omega.{arith}
 use lib.IntN.{ℤ}
@@ -19,7 +19,7 @@ use Rattle.rollout.specs.Filled.{lowsOf, highsOf}
 use Rattle.rollout.specs.Raised.{mapPair, above}
 use Rattle.rollout.specs.Lists.{Store, lowAt, highAt, pairs, RolledS, rollS}
 use Rattle.rollout.specs.Lists as lists
-use Rattle.rollout.specs.Inside.{stored, ReadyRoll, RolledIn, WellRolled}
+use Rattle.rollout.specs.Inside.{stored, ReadyRoll, WellRolled}
 use Rattle.rollout.proofs.Listed.{Listed, listed, listed-small}
 
 module _ (g : ℕ → ℤ) where

@@ -18,9 +18,9 @@ use Rattle.rollout.specs.Rollout.{Kept, records, lows, firstOr, candidat
 use Rattle.rollout.specs.Whole.{rolled, rolledWorth, rolledStore}
 use Rattle.rollout.specs.Heights.{natural, heightRolled}
 use Rattle.rollout.specs.Raised.{mapPair, above}
-use Rattle.rollout.specs.Lists.{Store, lowAt, highAt, Room, Frame, Ready, pairs, size, Numbered, candidatesS, WalkS, RolledS, keep, walkS, rollS}
+use Rattle.rollout.specs.Lists.{Store, lowAt, highAt, Room, Frame, Ready, pairs, Numbered, candidatesS, WalkS, RolledS, keep, walkS, rollS}
 use Rattle.rollout.specs.Sound.{Sound}
-use Rattle.rollout.proofs.Turns.{Reads, some-candidate, test-true, walk-reads}
+use Rattle.rollout.proofs.Turns.{Reads, some-candidate, test-true}
 use Rattle.rollout.proofs.Rolls.{Rolls, still, rolls-more, rolls-sound, rolls-filled, root-reads, rootLow, rootHigh}
 use Rattle.rollout.proofs.Fresh.{grained-leaves, nodes-length}
 use Rattle.rollout.proofs.Numbers.{picks-few}
@@ -41,13 +41,6 @@ module _ (G : ℕ) where
       let b : ℕ = min β (highAt st n) in
       rw (candidates-keep G a b under st)
       (some-candidate k a b (keep G under st) (i .0) (omega (arith, i .1)) (omega (arith, i .2)) (test-true α β (lowAt st n) (highAt st n) e))
-
-  -- a walk to a candidate reads one leaf
-  pub walk-one : (α β j : ℕ) (p : List ℕ) (F : Forest ℕ) (st : Store) (a : ℕ) → Numbered a F → Room (a + size F) st → Sound (keep G F st)
-      → j < candidatesS α β F st → (m : ℕ) × (walkS G α β j p F st .read ≡ m ∷ [])
-  walk-one α β j p F st a q r i l =
-      let x = walk-reads α β j p (keep G F st) i (rw (candidates-keep G α β F st) at l) in
-      (x .node, walk-keep G α β j p F st a q r .read ∙ x .read)
 
 -- ---- walks one after another
 
@@ -164,9 +157,6 @@ module _ (s : List ℕ) (t : Table) (h : readText s ≡ fine t) where
       capped-at far G F 0 st (height-numbered s t h .1)
       (rolls-capped far r (fresh-capped (t .head .total) (greatest (t .lines)) (span (t .head)) G 0 0 false F (heights-proper s t h))) i (omega arith)
       (omega (arith, height-numbered s t h .0))
-
-  pub going-small : (p0 : List ℕ) (st0 : Store) (l p : List ℕ) (st : Store) → Going p0 st0 l p st → (i : ℕ) → i < nodes → (lowAt st i ≤ far) × (highAt st i ≤ far)
-  going-small p0 st0 l p st g = rolls-small l st (g .rolls)
 
   pub listed-small : (p : List ℕ) (st : Store) → Ready nodes far st
       → (i : ℕ) → i < nodes → (lowAt (rollS G (leaves F) p F st .store) i ≤ far) × (highAt (rollS G (leaves F) p F st .store) i ≤ far)

@@ -1,13 +1,12 @@
 -- One walk: what it does at a leaf, at an inner node, and where it goes on. Assumes nothing.
-use Prim.Native.Nat.{ℕ, suc, pred, _+_, _*_, _≤_, _<_, _%_, min, max}
+use Prim.Native.Nat.{ℕ, suc, pred, _+_, _*_, _≤_, _<_, min, max}
 use mathlib.Core.Path.{_≡_, refl, sym, ap, ap₂, subst, subst₂, _∙_}
 use mathlib.Core.Bool.{Bool, true, false, _&&_, cond}
 use mathlib.Core.List.{List, [], _∷_}
 use native.Mathlib.Nat.{mod-lt}
 use native.Mathlib.Omega.{arith}
 use lib.Dec.{eqb}
-use lib.ListN.{length, getD}
-use Rattle.line.proofs.Signs.{true-ne-false}
+use lib.ListN.{getD}
 use Rattle.table.specs.Tree.{Kind, Forest, end, leaf, inner, codeOf, kindOf}
 use Rattle.table.specs.Slices.{Slices, Spans}
 use Rattle.search.specs.Inside.{slices}
@@ -22,7 +21,7 @@ use Rattle.rollout.specs.Lists.{Store, lowAt, highAt, put, lowsS, highsS
 use Rattle.rollout.specs.Inside.{Row, boundsIn, chosen, Choice, Named, Chosen, Ready, readAt, updated, Rung}
 use Rattle.rollout.proofs.Folds.{Some, over-any}
 use Rattle.rollout.proofs.Listed.{inner-candidate}
-use Rattle.rollout.proofs.Rows.{row-le, spans-row, one-more, live, down-is, down-some, candidates-some}
+use Rattle.rollout.proofs.Rows.{spans-row, one-more, live, down-is, down-some, candidates-some}
 
 -- ---- the definitions at a candidate
 

@@ -1,14 +1,14 @@
 -- The rollouts of a table, in whole grains. Document 01, 'Rollouts'. Assumes nothing: these are definitions.
 use Prim.Native.Nat.{ℕ}
-use mathlib.Core.Bool.{Bool, true, false, not, _||_, cond}
-use mathlib.Core.List.{List, [], _∷_}
+use mathlib.Core.Bool.{Bool, not}
+use mathlib.Core.List.{List}
 use lib.Dec.{eqb}
 use lib.IntN.{ℤ, pos, _*ℤ_}
 use lib.Signed.{ltZ}
 use Rattle.table.specs.Table.{Table, tree, grain, greatest}
 use Rattle.worth.specs.Worth.{maxZ, minZ}
 use Rattle.search.specs.Whole.{inGrains}
-use Rattle.rollout.specs.Rollout.{Order, Kept, Pair, Rolled, lows, firstOr, records, rollouts}
+use Rattle.rollout.specs.Rollout.{Order, Pair, Rolled, lows, firstOr, records, rollouts}
 
 abbrev pub whole : Order ℤ
 whole = record { high-of = maxZ; low-of = minZ; below = ltZ }

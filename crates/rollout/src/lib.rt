@@ -144,7 +144,7 @@ fn join(kind: u8, x: u64, y: u64) -> u64
     max_of(x, y)
 }
 
-// Lines 15 and 16: the maximum or minimum over all children, unread ones included. Each child is come to once, for both bounds.
+// Lines 15 and 16: "the maximum or minimum over all children, unread ones included". Each child is come to once, for both bounds.
 fn extremes(kind: u8, stop: &[u16], low: &[u64], high: &[u64], c: usize, e: usize) -> Ends
     requires { ⌜ Children (now stop) c e × (c < e) × (e ≤ length (now low)) × (e ≤ length (now high)) ⌝ }
     ensures { λ r. ⌜ Extreme (kindOf kind) (now (stop .entry)) c e (now (low .entry)) (r .low) × Extreme (kindOf kind) (now (stop .entry)) c e (now (high .entry)) (r .high) ⌝ }

@@ -1,6 +1,5 @@
 -- `engine::play_at` meets its contract. Assumes nothing.
 use mathlib.Core.Path.{ap, sym, refl}
-use native.Mathlib.Omega.{arith}
 use borrow.Author.Tests.{ne-eqb}
 use Prim.Native.Nat.{ℕ}
 use Rattle.judge.specs.Judge.{playOf}

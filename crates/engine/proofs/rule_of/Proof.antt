@@ -5,7 +5,6 @@ use borrow.Author.Needs.{needs}
 use mir.Syntax.{w64}
 use mir.ValLaws.{toZ-ofZ}
 use Rattle.line.specs.Line.{toNat}
-use Rattle.search.specs.declared.Rule.{Rule}
 use Rattle.engine.proofs.rule_of.Statement.{statement}
 use Rattle.engine.proofs.rule_of.Tie as tie
 
