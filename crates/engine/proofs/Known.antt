@@ -25,7 +25,7 @@ use Rattle.table.proofs.Copied.{fitted-all}
 use Rattle.table.proofs.Complete.{stops-long}
 use Rattle.table.proofs.Accepted.{answer-accepted, answer-refused, accepted-ranged, accepted-size, accepted-grain}
 use Rattle.worth.specs.declared.Scale.{Scale}
-use Rattle.worth.specs.Inside.{Ready, Worthy}
+use Rattle.worth.specs.Inside.{beside, Reach, Ready, Worthy}
 use Rattle.worth.specs.Heights.{heightWorth}
 use Rattle.worth.proofs.Worth.{shift, height-within, span-grains}
 use Rattle.worth.proofs.Judged.{accepted-ready, judged-worth}
@@ -58,6 +58,9 @@ zeros = replicate 1024 0
 
 pub zeros-enough : (s : List ℕ) (T : Table) → readText s ≡ fine T → length (T .lines) ≤ length zeros
 zeros-enough s T p = accepted-size s T p .1
+
+pub zeros-reach : (s : List ℕ) (T : Table) → readText s ≡ fine T → Reach (beside zeros zeros zeros) (length (T .lines))
+zeros-reach s T p = let z = zeros-enough s T p in record { stops = z; weights = z; heights = z }
 
 -- the text s was accepted with the summary t, and K, S, W and H are the slices as they were left
 pub record Taken (s : List ℕ) (t : Summary) (K S W H : List ℕ) : Type 0 where
@@ -147,20 +150,20 @@ module _ {s : List ℕ} {t : Summary} {K S W H : List ℕ} (G : Taken s t K S W 
   from-all : lines ≡ drop 25 s
   from-all = take-all (length s - 25) (drop 25 s) (omega (arith, length-drop 25 s))
 
-  pub ready-at : Ready S g MAX 0 (t .nodes) lines
+  pub ready-at : Ready (beside S W H) g MAX 0 (t .nodes) lines
   ready-at =
-      rw (q, from-all) (of-table G (λ t K S W H. Ready S (scaleFor t) MAX 0 (t .nodes) (drop 25 s)) (λ T p. accepted-ready s T p zeros (zeros-enough s T p)))
+      rw (q, from-all) (of-table G (λ t K S W H. Ready (beside S W H) (scaleFor t) MAX 0 (t .nodes) (drop 25 s)) (λ T p. accepted-ready s T p zeros zeros zeros (zeros-reach s T p)))
 
-  pub whole-at : Whole S g (t .nodes) lines
+  pub whole-at : Whole (beside S W H) g (t .nodes) lines
   whole-at =
-      rw (q, from-all) (of-table G (λ t K S W H. Whole S (scaleFor t) (t .nodes) (drop 25 s)) (λ T p. accepted-whole s T p zeros (zeros-enough s T p)))
+      rw (q, from-all) (of-table G (λ t K S W H. Whole (beside S W H) (scaleFor t) (t .nodes) (drop 25 s)) (λ T p. accepted-whole s T p zeros zeros zeros (zeros-reach s T p)))
 
   -- h is what `worth_of` gave
-  module _ (h : ℕ) (w : Worthy S g MAX 0 (t .nodes) lines h) where
+  module _ (h : ℕ) (w : Worthy (beside S W H) g MAX 0 (t .nodes) lines h) where
     of-worth : (C : Summary → Type 0) → ((T : Table) → readText s ≡ fine T → h ≡ heightWorth T → C (summary T)) → C t
     of-worth C show =
-        of-table G (λ t K S W H. Worthy S (scaleFor t) MAX 0 (t .nodes) (drop 25 s) h → C t)
-        (λ T p w. show T p (judged-worth s T p zeros (zeros-enough s T p) h w)) (rw (q, from-all) at w)
+        of-table G (λ t K S W H. Worthy (beside S W H) (scaleFor t) MAX 0 (t .nodes) (drop 25 s) h → C t)
+        (λ T p w. show T p (judged-worth s T p zeros zeros zeros (zeros-reach s T p) h w)) (rw (q, from-all) at w)
 
     pub low-at : h ≤ 35184372088832
     low-at = of-worth (λ t. h ≤ 35184372088832) (λ T p e. omega (arith, e, height-within s T p, span-grains s T p))
@@ -173,8 +176,8 @@ module _ {s : List ℕ} {t : Summary} {K S W H : List ℕ} (G : Taken s t K S W 
         ∙ ap exactCall (sym p))
 
   -- r is what `judge_table` gave of the child i
-  pub given-at : (i : ℤ) (r : Judged) → WellJudged S g (t .nodes) lines i r → Given r ≡ judgeCall (readText s) i
+  pub given-at : (i : ℤ) (r : Judged) → WellJudged (beside S W H) g (t .nodes) lines i r → Given r ≡ judgeCall (readText s) i
   given-at i r w =
-      of-table G (λ t K S W H. WellJudged S (scaleFor t) (t .nodes) (drop 25 s) i r → Given r ≡ judgeCall (readText s) i) (λ T p w.
-      ap Given (told-back r ∙ ap told (judged-table s T p zeros (zeros-enough s T p) i r w)) ∙ ap (λ (v : Verdict Table). judgeCall v i) (sym p))
+      of-table G (λ t K S W H. WellJudged (beside S W H) (scaleFor t) (t .nodes) (drop 25 s) i r → Given r ≡ judgeCall (readText s) i) (λ T p w.
+      ap Given (told-back r ∙ ap told (judged-table s T p zeros zeros zeros (zeros-reach s T p) i r w)) ∙ ap (λ (v : Verdict Table). judgeCall v i) (sym p))
       (rw (q, from-all) at w)

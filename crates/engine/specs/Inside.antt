@@ -24,7 +24,7 @@ pub record Spread (t : Summary) : Type 0 where
 
 -- the scale that its worth is taken by
 abbrev pub scaleFor : Summary → Scale
-scaleFor t = record { total = t .total; lowest = t .lowest; grain = t .grain; top = toNat (t .highest -ℤ t .lowest) * t .grain }
+scaleFor t = record { total = t .total; grain = t .grain; top = toNat (t .highest -ℤ t .lowest) * t .grain }
 
 -- the numbers that its search goes by
 abbrev pub ruleFor : Scale → ℤ → Rule

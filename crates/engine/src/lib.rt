@@ -72,7 +72,6 @@ fn scale_of(t: Summary) -> Scale
     let top = line::natural(t.highest - t.lowest) * t.grain;
     Scale {
         total: t.total,
-        lowest: t.lowest,
         grain: t.grain,
         top: top,
     }
@@ -98,7 +97,7 @@ pub fn exact_worth(text: &[u8]) -> Exact
         Reading::Refused(r) => Exact::Refused(r),
         Reading::Accepted(t) => {
             let g = scale_of(t);
-            let h = worth::worth_of(&text[25..], &stop, 0, t.nodes, g);
+            let h = worth::worth_of(&text[25..], &stop, &weight, &height, 0, t.nodes, g);
             Exact::Grains(in_grains(t.lowest, t.grain, h), t.grain)
         }
     }
@@ -116,7 +115,15 @@ pub fn judge_play(text: &[u8], number: i64) -> Opinion
         Reading::Refused(r) => Opinion::Refused(r),
         Reading::Accepted(t) => {
             let g = scale_of(t);
-            Opinion::Given(judge::judge_table(&text[25..], &stop, t.nodes, g, number))
+            Opinion::Given(judge::judge_table(
+                &text[25..],
+                &stop,
+                &weight,
+                &height,
+                t.nodes,
+                g,
+                number,
+            ))
         }
     }
 }

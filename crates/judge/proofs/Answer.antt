@@ -1,5 +1,5 @@
 -- What `judge_table` answers for the text of an accepted table is the table's judgement. Assumes nothing.
-use Prim.Native.Nat.{ℕ, _≤_}
+use Prim.Native.Nat.{ℕ}
 use mathlib.Core.Path.{_≡_, sym, _∙_}
 use mathlib.Core.List.{List}
 use lib.ListN.{length, drop}
@@ -7,25 +7,26 @@ use lib.IntN.{ℤ}
 use Rattle.line.specs.Refusal.{fine}
 use Rattle.line.proofs.Signs.{true-ne-false}
 use Rattle.table.specs.Table.{Table, readText}
-use Rattle.table.specs.Slices.{stopsOf, fitted, heightTree}
+use Rattle.table.specs.Slices.{heightTree}
 use Rattle.table.proofs.Accepted.{heights-rooted, heights-filled}
+use Rattle.worth.specs.Inside.{beside, Reach}
 use Rattle.worth.proofs.Worth.{rooted-some, heights-small}
-use Rattle.worth.proofs.Text.{accepted-lent}
-use Rattle.worth.proofs.Judged.{scaleOf, accepted-ready}
+use Rattle.worth.proofs.Text.{accepted-lays}
+use Rattle.worth.proofs.Judged.{scaleOf, lentOf, accepted-ready}
 use Rattle.judge.specs.declared.Judged.{Judged}
 use Rattle.judge.specs.Judge.{judge}
 use Rattle.judge.specs.Inside.{judgedOf, Whole, WellJudged}
 use Rattle.judge.proofs.Judge.{judge-heights}
 
-module _ (s : List ℕ) (t : Table) (h : readText s ≡ fine t) (a : List ℕ) (room : length (t .lines) ≤ length a) where
-  -- `a` is the slice that was lent for the stops; the nodes are named, so that the judgement is of these
-  pub accepted-whole : Whole (fitted (stopsOf t) a) (scaleOf t) (length (t .lines)) (drop 25 s)
+module _ (s : List ℕ) (t : Table) (h : readText s ≡ fine t) (st w g : List ℕ) (room : Reach (beside st w g) (length (t .lines))) where
+  -- st, w and g are the slices that were lent; the nodes are named, so that the judgement is of these
+  pub accepted-whole : Whole (lentOf t st w g) (scaleOf t) (length (t .lines)) (drop 25 s)
   accepted-whole =
-      let R = accepted-ready s t h a room in
+      let R = accepted-ready s t h st w g room in
       record {
         ready = record {
           nodes = heightTree t;
-          lays = accepted-lent s t h a room;
+          lays = accepted-lays s t h st w g room;
           fits = record { filled = heights-filled s t h; small = heights-small s t h; sums = λ i. absurd (true-ne-false (sym i)) };
           some = rooted-some (heightTree t) (heights-rooted s t h);
           long = R .long;
@@ -36,6 +37,6 @@ module _ (s : List ℕ) (t : Table) (h : readText s ≡ fine t) (a : List ℕ) (
         rooted = heights-rooted s t h;
       }
 
-  pub judged-table : (i : ℤ) (r : Judged) → WellJudged (fitted (stopsOf t) a) (scaleOf t) (length (t .lines)) (drop 25 s) i r → judgedOf r ≡ judge t i
+  pub judged-table : (i : ℤ) (r : Judged) → WellJudged (lentOf t st w g) (scaleOf t) (length (t .lines)) (drop 25 s) i r → judgedOf r ≡ judge t i
   unfolding accepted-whole
-  judged-table i r w = w accepted-whole ∙ sym (judge-heights s t h i)
+  judged-table i r told = told accepted-whole ∙ sym (judge-heights s t h i)

@@ -4,13 +4,12 @@ use mathlib.Core.Path.{_≡_, refl, sym, ap, subst, _∙_}
 use mathlib.Core.List.{List, [], _∷_}
 use native.Mathlib.Decide.{decLe}
 use native.Mathlib.Omega.{arith}
-use lib.ListN.{length, getD, take, drop}
-use lib.Seq.{take-all}
+use lib.ListN.{getD, take, drop}
 use Rattle.table.specs.Tree.{MAX}
 use Rattle.worth.specs.declared.Scale.{Scale}
 use Rattle.worth.specs.Worth.{Share}
 use Rattle.worth.specs.Heights.{tallest, heightValue, heightShares}
-use Rattle.worth.specs.Inside.{kindIn, heightIn, Ready}
+use Rattle.worth.specs.Inside.{kindIn, Beside, Ready}
 use Rattle.worth.proofs.Run.{lays-none, Front, front}
 use Rattle.worth.proofs.Shift.{Some, some-shares}
 
@@ -18,32 +17,28 @@ value-one : (T : ℕ) (x : Share ℕ) → x .worth ≡ heightValue T MAX (x ∷ 
 unfolding heightValue tallest
 value-one T x = refl
 
-module _ (S : List ℕ) (g : Scale) (c e : ℕ) (s : List ℕ) (one : c + 1 ≡ e) (R : Ready S g MAX c e s) where
-  one-line : length s ≡ 25
-  one-line = omega (arith, R .long)
-
+module _ (S : Beside) (g : Scale) (c e : ℕ) (s : List ℕ) (one : c + 1 ≡ e) (R : Ready S g MAX c e s) where
   first : Front S g c e s (R .nodes)
   first = front S g c e s (R .nodes) (R .lays) (R .fits .filled) (R .fits .small) (omega arith) (R .long) (R .room) (R .few) (R .scale)
 
   -- an inner node has a child, whose line would be the second
   no-child : (kindIn (take 25 s) ≡ 0 → ⊥) → ⊥
   no-child z =
-      let j : ℕ = getD S c 0 in
+      let j : ℕ = getD (S .stops) c 0 in
       let C = first .child z .ready in
-      let none = lays-none S (g .lowest) (g .total) (g .grain) (c + 1) j (take (25 * (j - (c + 1))) (drop 25 s)) (C .nodes) (C .lays) (omega (arith, first .within)) in
+      let none = lays-none S (g .total) (g .grain) (c + 1) j (take (25 * (j - (c + 1))) (drop 25 s)) (C .nodes) (C .lays) (omega (arith, first .within)) in
       subst Some none (some-shares (g .total) (g .grain) (C .nodes) (C .some))
 
   leafy : kindIn (take 25 s) ≡ 0
   leafy = elim (decLe (kindIn (take 25 s)) 0) [ yes h ↦ omega arith | no h ↦ absurd (no-child (λ z. omega (arith, z))) ]
 
-  pub lone-worth : (r : ℕ) → r ≡ heightIn (g .lowest) s * g .grain
+  pub lone-worth : (r : ℕ) → r ≡ getD (S .heights) c 0 * g .grain
       → r ≡ heightValue (g .total) MAX (heightShares (g .total) (g .grain) (R .nodes))
   lone-worth r e′ =
       let F = first in
       let T : ℕ = g .total in
       let G : ℕ = g .grain in
-      let j : ℕ = getD S c 0 in
-      let none = lays-none S (g .lowest) T G j e (drop (25 * (j - c)) s) (F .rest) (F .lays) (omega (arith, F .later)) in
-      let whole : s ≡ take 25 s = sym (take-all 25 s (omega (arith, one-line))) in
-      e′ ∙ ap (λ (l : List ℕ). heightIn (g .lowest) l * G) whole ∙ sym (F .leafy leafy) ∙ value-one T (F .share)
+      let j : ℕ = getD (S .stops) c 0 in
+      let none = lays-none S T G j e (drop (25 * (j - c)) s) (F .rest) (F .lays) (omega (arith, F .later)) in
+      e′ ∙ sym (F .leafy leafy) ∙ value-one T (F .share)
       ∙ sym (ap (heightValue T MAX) (F .shares ∙ ap (λ (xs : List (Share ℕ)). F .share ∷ xs) none))

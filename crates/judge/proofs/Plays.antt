@@ -13,8 +13,7 @@ use Rattle.table.specs.Slices.{Slices, Spans, stopsOf, slicesOf, fitted, height
 use Rattle.table.proofs.Accepted.{accepted-spans, heights-rooted}
 use Rattle.table.proofs.Spans.{spans-le}
 use Rattle.table.proofs.Complete.{stops-long}
-use Rattle.table.proofs.Copied.{fitted-at}
-use Rattle.worth.proofs.Judged.{accepted-ready}
+use Rattle.table.proofs.Copied.{fitted-at, fitted-long}
 use Rattle.judge.specs.declared.Play.{Play}
 use Rattle.judge.specs.Judge.{children, nodes, numbered, childNode, playOf}
 use Rattle.judge.specs.Inside.{Chained, Chain, Played}
@@ -64,7 +63,7 @@ module _ (s : List ℕ) (t : Table) (h : readText s ≡ fine t) (a : List ℕ) (
             1 (nodes (children (heightTree t)))
             (spans-chained (slicesOf t) 1 (length (t .lines)) (children (heightTree t))
             (spans-children (slicesOf t) (length (t .lines)) (heightTree t) (accepted-spans s t h) (heights-rooted s t h)));
-        room = accepted-ready s t h a room .room;
+        room = fitted-long (stopsOf t) a (length (t .lines)) (stops-long (t .lines)) room;
       }
 
   pub played-child : (i : ℤ) (r : Play) → Played (fitted (stopsOf t) a) (length (t .lines)) i r → r ≡ playOf (childNode t i)

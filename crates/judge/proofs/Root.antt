@@ -15,7 +15,7 @@ use Rattle.table.specs.Slices.{laid}
 use Rattle.worth.specs.declared.Scale.{Scale}
 use Rattle.worth.specs.Worth.{Share}
 use Rattle.worth.specs.Heights.{heightShares, firstHeight, Small}
-use Rattle.worth.specs.Inside.{kindIn, Lays}
+use Rattle.worth.specs.Inside.{kindIn, Beside, Lays}
 use Rattle.worth.proofs.Run.{lays-le}
 use Rattle.judge.specs.declared.Play.{Play}
 use Rattle.judge.specs.declared.Play.the-variants.{Child as Kid, NoPlay}
@@ -30,31 +30,31 @@ use Rattle.judge.proofs.Worths.{worths, kids-some, best-root, all-ahead
 
 -- ---- the children by number
 
-lays-chained : (S : List ℕ) (lo : ℤ) (c e : ℕ) (s : List ℕ) (f : Forest ℕ) → Lays S lo c e s f → Chained S e c (starts S c f)
+lays-chained : (S : Beside) (c e : ℕ) (s : List ℕ) (f : Forest ℕ) → Lays S c e s f → Chained (S .stops) e c (starts (S .stops) c f)
 unfolding Lays
-lays-chained S lo c e s end l = l
-lays-chained S lo c e s (leaf n w v rest) l =
-    (refl, omega (arith, l .1), lays-chained S lo (getD S c 0) e (drop (25 * (getD S c 0 - c)) s) rest (l .4))
-lays-chained S lo c e s (inner n w k under rest) l =
-    let j : ℕ = getD S c 0 in
-    let later : c + 1 ≤ j = lays-le S lo (c + 1) j (take (25 * (j - (c + 1))) (drop 25 s)) under (l .2) in
-    (refl, omega (arith, later), lays-chained S lo j e (drop (25 * (j - c)) s) rest (l .3))
+lays-chained S c e s end l = l
+lays-chained S c e s (leaf n w v rest) l =
+    (refl, omega (arith, l .1), lays-chained S (getD (S .stops) c 0) e (drop (25 * (getD (S .stops) c 0 - c)) s) rest (l .4))
+lays-chained S c e s (inner n w k under rest) l =
+    let j : ℕ = getD (S .stops) c 0 in
+    let later : c + 1 ≤ j = lays-le S (c + 1) j (take (25 * (j - (c + 1))) (drop 25 s)) under (l .2) in
+    (refl, omega (arith, later), lays-chained S j e (drop (25 * (j - c)) s) rest (l .3))
 
 -- the node i is entry k of the nodes f
-record Reached (S : List ℕ) (g : Scale) (n : ℕ) (s : List ℕ) (k i : ℕ) (f : Forest ℕ) : Type 0 where
+record Reached (S : Beside) (g : Scale) (n : ℕ) (s : List ℕ) (k i : ℕ) (f : Forest ℕ) : Type 0 where
   rest : Forest ℕ
   child : Child S g n s i rest
   there : getElem? (heightShares (g .total) (g .grain) f) k ≡ some (child .share)
 
-module _ (S : List ℕ) (g : Scale) (n : ℕ) (s : List ℕ) (room : Room S g n s) where
-  none-there : (k c i : ℕ) (f : Forest ℕ) → Here S g n s c f → n ≤ c → getElem? (starts S c f) k ≡ some i → ⊥
+module _ (S : Beside) (g : Scale) (n : ℕ) (s : List ℕ) (room : Room S g n s) where
+  none-there : (k c i : ℕ) (f : Forest ℕ) → Here S g n s c f → n ≤ c → getElem? (starts (S .stops) c f) k ≡ some i → ⊥
   none-there k c i f H h e =
-      let nothing : starts S c f ≡ [] = none-left S n c (starts S c f) (lays-chained S (g .lowest) c n (drop (25 * c) s) f (H .lays)) h in
+      let nothing : starts (S .stops) c f ≡ [] = none-left (S .stops) n c (starts (S .stops) c f) (lays-chained S c n (drop (25 * c) s) f (H .lays)) h in
       let missing : none ≡ some i = sym (ap (λ (ns : List ℕ). getElem? ns k) nothing) ∙ e in
       let z : _≡_ {A = ℕ} 0 1 = cc in
       omega arith
 
-  reach : (k c i : ℕ) (f : Forest ℕ) → Here S g n s c f → getElem? (starts S c f) k ≡ some i → Reached S g n s k i f
+  reach : (k c i : ℕ) (f : Forest ℕ) → Here S g n s c f → getElem? (starts (S .stops) c f) k ≡ some i → Reached S g n s k i f
   reach zero c i f H e = elim (decLe n c) [
     | yes h ↦ absurd (none-there zero c i f H h e)
     | no h ↦ first (child-at S g n s room c f H (omega arith))
@@ -70,7 +70,7 @@ module _ (S : List ℕ) (g : Scale) (n : ℕ) (s : List ℕ) (room : Room S g n 
     | yes h ↦ absurd (none-there (suc k) c i f H h e)
     | no h ↦
         let C = child-at S g n s room c f H (omega arith) in
-        let r = reach k (getD S c 0) i (C .rest) (C .here) (sym (ap (λ (ns : List ℕ). getElem? ns (suc k)) (C .starts)) ∙ e) in
+        let r = reach k (getD (S .stops) c 0) i (C .rest) (C .here) (sym (ap (λ (ns : List ℕ). getElem? ns (suc k)) (C .starts)) ∙ e) in
         record { rest = r .rest; child = r .child; there = ap (λ (xs : List (Share ℕ)). getElem? xs (suc k)) (C .shares) ∙ r .there }
   ]
 
@@ -98,19 +98,19 @@ play-none (some j) e = let z : _≡_ {A = ℕ} 0 1 = cc in absurd (omega arith)
 
 -- ---- the root
 
-module _ (S : List ℕ) (g : Scale) (n : ℕ) (s : List ℕ) where
+module _ (S : Beside) (g : Scale) (n : ℕ) (s : List ℕ) where
   -- the lines after the root's own are its children's
-  children-here : (side : Side) (f : Forest ℕ) → Lays S (g .lowest) 0 n s f → Filled f → Small (g .total) (g .grain) (g .top) f
+  children-here : (side : Side) (f : Forest ℕ) → Lays S 0 n s f → Filled f → Small (g .total) (g .grain) (g .top) f
       → length s ≡ 25 * n → Rooted f → rootOf f ≡ decided side → Here S g n s 1 (children f)
   unfolding Lays
   children-here side end l F M h r e = absurd r
   children-here side (leaf m w v rest) l F M h r e = absurd (no-decision side e)
   children-here side (inner m w k under rest) l F M h r e =
-      let j : ℕ = getD S 0 0 in
-      let stop : j ≡ n = subst (λ (f : Forest ℕ). Lays S (g .lowest) j n (drop (25 * (j - 0)) s) f) (r .2) (l .3) in
+      let j : ℕ = getD (S .stops) 0 0 in
+      let stop : j ≡ n = subst (λ (f : Forest ℕ). Lays S j n (drop (25 * (j - 0)) s) f) (r .2) (l .3) in
       let all : take (25 * (n - 1)) (drop 25 s) ≡ drop 25 s = take-all (25 * (n - 1)) (drop 25 s) (omega (arith, length-drop 25 s)) in
       record {
-        lays = subst (λ (t : List ℕ). Lays S (g .lowest) 1 n t under) all (subst (λ (i : ℕ). Lays S (g .lowest) 1 i (take (25 * (i - 1)) (drop 25 s)) under) stop (l .2));
+        lays = subst (λ (t : List ℕ). Lays S 1 n t under) all (subst (λ (i : ℕ). Lays S 1 i (take (25 * (i - 1)) (drop 25 s)) under) stop (l .2));
         filled = F .1;
         small = M .2;
       }
@@ -135,12 +135,12 @@ module _ (S : List ℕ) (g : Scale) (n : ℕ) (s : List ℕ) where
         let R = D .whole .ready in
         children-here side tree (R .lays) (R .fits .filled) (R .fits .small) (room-of .long) (D .whole .rooted) (D .root)
 
-    pub chain-of : Chain S n
+    pub chain-of : Chain (S .stops) n
     chain-of =
         record {
-          nodes = starts S 1 (children tree);
-          chained = lays-chained S (g .lowest) 1 n (drop (25 * 1) s) (children tree) (here .lays);
-          room = room-of .room;
+          nodes = starts (S .stops) 1 (children tree);
+          chained = lays-chained S 1 n (drop (25 * 1) s) (children tree) (here .lays);
+          room = room-of .room .stops;
         }
 
     pub under-of : (came : List ℕ) → 1024 ≤ length came → Under S g n s (length came)
@@ -182,7 +182,7 @@ module _ (S : List ℕ) (g : Scale) (n : ℕ) (s : List ℕ) where
       pub child : Child S g n s i rest
       pub there : numbered z kids ≡ some (child .share)
 
-    at-number : (z : ℤ) (i : ℕ) → numbered z (starts S 1 (children tree)) ≡ some i → Found z i
+    at-number : (z : ℤ) (i : ℕ) → numbered z (starts (S .stops) 1 (children tree)) ≡ some i → Found z i
     at-number (pos zero) i e = let z : _≡_ {A = ℕ} 0 1 = cc in absurd (omega arith)
     at-number (negsuc k) i e = let z : _≡_ {A = ℕ} 0 1 = cc in absurd (omega arith)
     at-number (pos (suc k)) i e =
@@ -191,7 +191,7 @@ module _ (S : List ℕ) (g : Scale) (n : ℕ) (s : List ℕ) where
 
     pub found : (z : ℤ) (i : ℕ) (p : Play) → p ≡ Kid i → p ≡ playOf (numbered z (chain-of .nodes)) → Found z i
     unfolding chain-of
-    found z i p e f = at-number z i (play-child (numbered z (starts S 1 (children tree))) i (sym e ∙ f))
+    found z i p e f = at-number z i (play-child (numbered z (starts (S .stops) 1 (children tree))) i (sym e ∙ f))
 
     -- ---- the judgement
 
@@ -201,8 +201,8 @@ module _ (S : List ℕ) (g : Scale) (n : ℕ) (s : List ℕ) where
     pub well-none : (z : ℤ) (p : Play) → p ≡ NoPlay → p ≡ playOf (numbered z (chain-of .nodes)) → noSuchChild ≡ forestJudge g tree z
     unfolding chain-of
     well-none z p e f =
-        let o : List ℕ = starts S 1 (children tree) in
-        sym (decided-judge z ∙ ap (heightJudgeChild side (g .grain) height kids) (number-missing S (g .total) (g .grain) 1 (children tree) z (play-none (numbered z o) (sym e ∙ f))))
+        let o : List ℕ = starts (S .stops) 1 (children tree) in
+        sym (decided-judge z ∙ ap (heightJudgeChild side (g .grain) height kids) (number-missing (S .stops) (g .total) (g .grain) 1 (children tree) z (play-none (numbered z o) (sym e ∙ f))))
 
     pub well-lost : (z : ℤ) (i : ℕ) (K : Found z i) (best h l level : ℕ) → best ≡ height → h ≡ K .child .share .worth
         → l ≡ heightLoss side best h → level ≡ heightLevels side (g .grain) height kids → judged (pos l) level ≡ forestJudge g tree z
@@ -216,23 +216,23 @@ module _ (S : List ℕ) (g : Scale) (n : ℕ) (s : List ℕ) where
 
 -- ---- the root's letter
 
-module _ (S : List ℕ) (lo : ℤ) (n : ℕ) (s : List ℕ) where
+module _ (S : Beside) (n : ℕ) (s : List ℕ) where
   -- the root has a line
-  pub root-line : (f : Forest ℕ) → Lays S lo 0 n s f → Rooted f → 1 ≤ n
+  pub root-line : (f : Forest ℕ) → Lays S 0 n s f → Rooted f → 1 ≤ n
   unfolding Lays
   root-line end l r = absurd r
   root-line (leaf m w v rest) l r =
-      omega (arith, l .1, lays-le S lo (getD S 0 0) n (drop (25 * (getD S 0 0 - 0)) s) rest (l .4))
+      omega (arith, l .1, lays-le S (getD (S .stops) 0 0) n (drop (25 * (getD (S .stops) 0 0 - 0)) s) rest (l .4))
   root-line (inner m w k under rest) l r =
-      let j : ℕ = getD S 0 0 in
-      let a : 1 ≤ j = lays-le S lo 1 j (take (25 * (j - 1)) (drop 25 s)) under (l .2) in
-      omega (arith, a, lays-le S lo j n (drop (25 * (j - 0)) s) rest (l .3))
+      let j : ℕ = getD (S .stops) 0 0 in
+      let a : 1 ≤ j = lays-le S 1 j (take (25 * (j - 1)) (drop 25 s)) under (l .2) in
+      omega (arith, a, lays-le S j n (drop (25 * (j - 0)) s) rest (l .3))
 
   module _ (q : ℕ) (letter : q ≡ letterCode (getD s 5 0)) where
     code : q ≡ kindIn (take 25 s)
     code = letter ∙ ap letterCode (sym (getD-take 25 s 5 0 (omega arith)))
 
-    pub root-m : (f : Forest ℕ) → Lays S lo 0 n s f → Rooted f → q ≡ 1 → rootOf f ≡ decided AtM
+    pub root-m : (f : Forest ℕ) → Lays S 0 n s f → Rooted f → q ≡ 1 → rootOf f ≡ decided AtM
     unfolding Lays
     root-m end l r e = absurd r
     root-m (leaf m w v rest) l r e = absurd (omega (arith, code, l .0))
@@ -240,7 +240,7 @@ module _ (S : List ℕ) (lo : ℤ) (n : ℕ) (s : List ℕ) where
     root-m (inner m w MIN under rest) l r e = absurd (omega (arith, code, l .0))
     root-m (inner m w CHANCE under rest) l r e = absurd (omega (arith, code, l .0))
 
-    pub root-n : (f : Forest ℕ) → Lays S lo 0 n s f → Rooted f → q ≡ 2 → rootOf f ≡ decided AtN
+    pub root-n : (f : Forest ℕ) → Lays S 0 n s f → Rooted f → q ≡ 2 → rootOf f ≡ decided AtN
     unfolding Lays
     root-n end l r e = absurd r
     root-n (leaf m w v rest) l r e = absurd (omega (arith, code, l .0))
@@ -248,7 +248,7 @@ module _ (S : List ℕ) (lo : ℤ) (n : ℕ) (s : List ℕ) where
     root-n (inner m w MIN under rest) l r e = refl
     root-n (inner m w CHANCE under rest) l r e = absurd (omega (arith, code, l .0))
 
-    pub root-else : (f : Forest ℕ) → Lays S lo 0 n s f → Rooted f → (q ≡ 1 → ⊥) → (q ≡ 2 → ⊥) → rootOf f ≡ undecided
+    pub root-else : (f : Forest ℕ) → Lays S 0 n s f → Rooted f → (q ≡ 1 → ⊥) → (q ≡ 2 → ⊥) → rootOf f ≡ undecided
     unfolding Lays
     root-else end l r a b = absurd r
     root-else (leaf m w v rest) l r a b = refl

@@ -14,8 +14,8 @@ use Rattle.table.proofs.Gather.{laid-more}
 use Rattle.worth.specs.declared.Scale.{Scale}
 use Rattle.worth.specs.Worth.{Share}
 use Rattle.worth.specs.Heights.{tallest, heightValue, heightShares, Small}
-use Rattle.worth.specs.Inside.{kindIn, weightIn, heightIn, Lays, Ready, Worthy}
-use Rattle.worth.proofs.Run.{drop-take, lays-le, lays-none}
+use Rattle.worth.specs.Inside.{kindIn, Beside, Lays, Ready, Worthy}
+use Rattle.worth.proofs.Run.{drop-take, lays-le, lays-none, reach-less}
 use Rattle.judge.specs.Inside.{worthsOf, Here, Room, Under}
 
 -- ---- a part of the lines
@@ -46,35 +46,35 @@ starts S c end = []
 starts S c (leaf n w v rest) = c ∷ starts S (getD S c 0) rest
 starts S c (inner n w k under rest) = c ∷ starts S (getD S c 0) rest
 
-record Lead (S : List ℕ) (g : Scale) (c e : ℕ) (s : List ℕ) (f : Forest ℕ) : Type 0 where
+record Lead (S : Beside) (g : Scale) (c e : ℕ) (s : List ℕ) (f : Forest ℕ) : Type 0 where
   share : Share ℕ
   rest : Forest ℕ
-  later : c < getD S c 0
-  within : getD S c 0 ≤ e
+  later : c < getD (S .stops) c 0
+  within : getD (S .stops) c 0 ≤ e
   shares : heightShares (g .total) (g .grain) f ≡ share ∷ heightShares (g .total) (g .grain) rest
-  starts : starts S c f ≡ c ∷ starts S (getD S c 0) rest
-  lays : Lays S (g .lowest) (getD S c 0) e (drop (25 * (getD S c 0 - c)) s) rest
+  starts : starts (S .stops) c f ≡ c ∷ starts (S .stops) (getD (S .stops) c 0) rest
+  lays : Lays S (getD (S .stops) c 0) e (drop (25 * (getD (S .stops) c 0 - c)) s) rest
   filled : Filled rest
   small : Small (g .total) (g .grain) (g .top) rest
-  single : Lays S (g .lowest) c (getD S c 0) (take (25 * (getD S c 0 - c)) s) (only f)
+  single : Lays S c (getD (S .stops) c 0) (take (25 * (getD (S .stops) c 0 - c)) s) (only f)
   some : isEnd (only f) ≡ false
   whole : Filled (only f)
   fits : Small (g .total) (g .grain) (g .top) (only f)
   worth : heightValue (g .total) MAX (heightShares (g .total) (g .grain) (only f)) ≡ share .worth
 
-module _ (S : List ℕ) (g : Scale) (c e : ℕ) (s : List ℕ) where
-  lead : (f : Forest ℕ) → Lays S (g .lowest) c e s f → Filled f → Small (g .total) (g .grain) (g .top) f → c < e → Lead S g c e s f
+module _ (S : Beside) (g : Scale) (c e : ℕ) (s : List ℕ) where
+  lead : (f : Forest ℕ) → Lays S c e s f → Filled f → Small (g .total) (g .grain) (g .top) f → c < e → Lead S g c e s f
   unfolding Lays heightShares heightValue tallest
   lead end l F M h = absurd (omega (arith, l))
   lead (leaf n w v rest) l F M h =
-      let j : ℕ = getD S c 0 in
+      let j : ℕ = getD (S .stops) c 0 in
       let later : c < j = omega (arith, l .1) in
       let line = first-line c j s later in
       record {
         share = record { weight = w; worth = v * g .grain };
         rest = rest;
         later = later;
-        within = lays-le S (g .lowest) j e (drop (25 * (j - c)) s) rest (l .4);
+        within = lays-le S j e (drop (25 * (j - c)) s) rest (l .4);
         shares = refl;
         starts = refl;
         lays = l .4;
@@ -83,8 +83,8 @@ module _ (S : List ℕ) (g : Scale) (c e : ℕ) (s : List ℕ) where
         single = (
           ap kindIn (sym line) ∙ l .0,
           l .1,
-          ap weightIn (sym line) ∙ l .2,
-          ap (heightIn (g .lowest)) (sym line) ∙ l .3,
+          l .2,
+          l .3,
           refl,
         );
         some = refl;
@@ -93,16 +93,16 @@ module _ (S : List ℕ) (g : Scale) (c e : ℕ) (s : List ℕ) where
         worth = refl;
       }
   lead (inner n w k under rest) l F M h =
-      let j : ℕ = getD S c 0 in
+      let j : ℕ = getD (S .stops) c 0 in
       let part : List ℕ = take (25 * (j - (c + 1))) (drop 25 s) in
-      let after : c + 1 ≤ j = lays-le S (g .lowest) (c + 1) j part under (l .2) in
+      let after : c + 1 ≤ j = lays-le S (c + 1) j part under (l .2) in
       let later : c < j = omega (arith, after) in
       let line = first-line c j s later in
       record {
         share = record { weight = w; worth = heightValue (g .total) k (heightShares (g .total) (g .grain) under) };
         rest = rest;
         later = later;
-        within = lays-le S (g .lowest) j e (drop (25 * (j - c)) s) rest (l .3);
+        within = lays-le S j e (drop (25 * (j - c)) s) rest (l .3);
         shares = refl;
         starts = refl;
         lays = l .3;
@@ -110,8 +110,8 @@ module _ (S : List ℕ) (g : Scale) (c e : ℕ) (s : List ℕ) where
         small = M .3;
         single = (
           ap kindIn (sym line) ∙ l .0,
-          ap weightIn (sym line) ∙ l .1,
-          subst (λ (t : List ℕ). Lays S (g .lowest) (c + 1) j t under) (under-lines c j s later) (l .2),
+          l .1,
+          subst (λ (t : List ℕ). Lays S (c + 1) j t under) (under-lines c j s later) (l .2),
           refl,
         );
         some = refl;
@@ -122,21 +122,21 @@ module _ (S : List ℕ) (g : Scale) (c e : ℕ) (s : List ℕ) where
 
 -- ---- node i in all the lines
 
-pub record Child (S : List ℕ) (g : Scale) (n : ℕ) (s : List ℕ) (i : ℕ) (f : Forest ℕ) : Type 0 where
+pub record Child (S : Beside) (g : Scale) (n : ℕ) (s : List ℕ) (i : ℕ) (f : Forest ℕ) : Type 0 where
   pub share : Share ℕ
   pub rest : Forest ℕ
-  pub later : i < getD S i 0
-  pub within : getD S i 0 ≤ n
+  pub later : i < getD (S .stops) i 0
+  pub within : getD (S .stops) i 0 ≤ n
   pub shares : heightShares (g .total) (g .grain) f ≡ share ∷ heightShares (g .total) (g .grain) rest
-  pub starts : starts S i f ≡ i ∷ starts S (getD S i 0) rest
-  pub here : Here S g n s (getD S i 0) rest
-  pub ready : Ready S g MAX i (getD S i 0) (take (25 * getD S i 0 - 25 * i) (drop (25 * i) s))
+  pub starts : starts (S .stops) i f ≡ i ∷ starts (S .stops) (getD (S .stops) i 0) rest
+  pub here : Here S g n s (getD (S .stops) i 0) rest
+  pub ready : Ready S g MAX i (getD (S .stops) i 0) (take (25 * getD (S .stops) i 0 - 25 * i) (drop (25 * i) s))
   pub worth : heightValue (g .total) MAX (heightShares (g .total) (g .grain) (ready .nodes)) ≡ share .worth
 
-module _ (S : List ℕ) (g : Scale) (n : ℕ) (s : List ℕ) (room : Room S g n s) where
+module _ (S : Beside) (g : Scale) (n : ℕ) (s : List ℕ) (room : Room S g n s) where
   pub child-at : (i : ℕ) (f : Forest ℕ) → Here S g n s i f → i < n → Child S g n s i f
   child-at i f H h =
-      let j : ℕ = getD S i 0 in
+      let j : ℕ = getD (S .stops) i 0 in
       let L = lead S g i n (drop (25 * i) s) f (H .lays) (H .filled) (H .small) h in
       let at : 25 * i + 25 * (j - i) ≡ 25 * j = omega (arith, L .later) in
       let size : 25 * (j - i) ≡ 25 * j - 25 * i = omega arith in
@@ -150,17 +150,17 @@ module _ (S : List ℕ) (g : Scale) (n : ℕ) (s : List ℕ) (room : Room S g n 
         shares = L .shares;
         starts = L .starts;
         here = record {
-          lays = subst (λ (t : List ℕ). Lays S (g .lowest) j n t (L .rest)) cut (L .lays);
+          lays = subst (λ (t : List ℕ). Lays S j n t (L .rest)) cut (L .lays);
           filled = L .filled;
           small = L .small;
         };
         ready = record {
           nodes = only f;
-          lays = subst (λ (m : ℕ). Lays S (g .lowest) i j (take m (drop (25 * i) s)) (only f)) size (L .single);
+          lays = subst (λ (m : ℕ). Lays S i j (take m (drop (25 * i) s)) (only f)) size (L .single);
           fits = record { filled = L .whole; small = L .fits; sums = λ z. absurd (true-ne-false (sym z)) };
           some = L .some;
           long = length-take-le (25 * j - 25 * i) (drop (25 * i) s) (omega (arith, length-drop (25 * i) s, room .long, L .within)) ∙ sym size;
-          room = omega (arith, L .within, room .room);
+          room = reach-less S j n (L .within) (room .room);
           few = omega (arith, L .within, room .few);
           scale = room .scale;
         };
@@ -168,7 +168,7 @@ module _ (S : List ℕ) (g : Scale) (n : ℕ) (s : List ℕ) (room : Room S g n 
       }
 
   -- the part that ends at `e`, and what it is said to be worth
-  module _ (i : ℕ) (f : Forest ℕ) (C : Child S g n s i f) (e : ℕ) (stop : e ≡ getD S i 0) where
+  module _ (i : ℕ) (f : Forest ℕ) (C : Child S g n s i f) (e : ℕ) (stop : e ≡ getD (S .stops) i 0) where
     pub part-ready : Ready S g MAX i e (take (25 * e - 25 * i) (drop (25 * i) s))
     part-ready = subst (λ (m : ℕ). Ready S g MAX i m (take (25 * m - 25 * i) (drop (25 * i) s))) (sym stop) (C .ready)
 
@@ -179,7 +179,7 @@ module _ (S : List ℕ) (g : Scale) (n : ℕ) (s : List ℕ) (room : Room S g n 
 -- ---- listing the worths
 
 -- up to node i: those `done` stand at the list's front
-pub record Listing (S : List ℕ) (g : Scale) (n : ℕ) (s came : List ℕ) (f : Forest ℕ) (list : List ℕ) (m i : ℕ) : Type 0 where
+pub record Listing (S : Beside) (g : Scale) (n : ℕ) (s came : List ℕ) (f : Forest ℕ) (list : List ℕ) (m i : ℕ) : Type 0 where
   pub done : List ℕ
   pub rest : Forest ℕ
   pub here : Here S g n s i rest
@@ -189,7 +189,7 @@ pub record Listing (S : List ℕ) (g : Scale) (n : ℕ) (s came : List ℕ) (f :
   pub same : worthsOf g f ≡ done ++ worthsOf g rest
   pub front : list ≡ laid done came
 
-module _ (S : List ℕ) (g : Scale) (n : ℕ) (s came : List ℕ) where
+module _ (S : Beside) (g : Scale) (n : ℕ) (s came : List ℕ) where
   abbrev pub ListingAll : List ℕ → ℕ → ℕ → Type 0
   ListingAll list m i = (U : Under S g n s (length came)) → Listing S g n s came (U .nodes) list m i
 
@@ -201,7 +201,7 @@ module _ (S : List ℕ) (g : Scale) (n : ℕ) (s came : List ℕ) where
         here = U .here;
         count = refl;
         low = omega arith;
-        upto = lays-le S (g .lowest) 1 n (drop (25 * 1) s) (U .nodes) (U .here .lays);
+        upto = lays-le S 1 n (drop (25 * 1) s) (U .nodes) (U .here .lays);
         same = refl;
         front = refl;
       }
@@ -210,7 +210,7 @@ module _ (S : List ℕ) (g : Scale) (n : ℕ) (s came : List ℕ) where
     pub list-child : i < n → Child S g n s i (all U .rest)
     list-child h = child-at S g n s (U .fits) i (all U .rest) (all U .here) h
 
-    pub list-turn : (h : i < n) (w more j : ℕ) → w ≡ list-child h .share .worth → more ≡ m + 1 → j ≡ getD S i 0
+    pub list-turn : (h : i < n) (w more j : ℕ) → w ≡ list-child h .share .worth → more ≡ m + 1 → j ≡ getD (S .stops) i 0
         → Listing S g n s came (U .nodes) (set list m w) more j
     list-turn h w more j x y z =
         let L = all U in
@@ -234,7 +234,7 @@ module _ (S : List ℕ) (g : Scale) (n : ℕ) (s came : List ℕ) where
     pub list-end : n ≤ i → (m ≡ length (worthsOf g (U .nodes))) × (list ≡ laid (worthsOf g (U .nodes)) came)
     list-end h =
         let L = all U in
-        let none = lays-none S (g .lowest) (g .total) (g .grain) i n (drop (25 * i) s) (L .rest) (L .here .lays) h in
+        let none = lays-none S (g .total) (g .grain) i n (drop (25 * i) s) (L .rest) (L .here .lays) h in
         let whole : worthsOf g (U .nodes) ≡ L .done =
         L .same ∙ ap (λ (xs : List (Share ℕ)). L .done ++ map (λ (v : Share ℕ). v .worth) xs) none ∙ append-nil (L .done) in
         (sym (ap length whole ∙ L .count), L .front ∙ ap (λ (v : List ℕ). laid v came) (sym whole))

@@ -1,4 +1,4 @@
--- The judge straight from the text: what its code asks of the lines and of the stops, and what it answers. Assumes nothing.
+-- The judge by the lines: what its code asks of them and of the slices beside them, and what it answers. Assumes nothing.
 use Prim.Native.Nat.{ℕ, _+_, _*_, _≤_, _<_, min, max}
 use mathlib.Core.Path.{_≡_}
 use mathlib.Core.Bool.{Bool, true, false, cond}
@@ -12,7 +12,7 @@ use Rattle.table.specs.Slices.{laid}
 use Rattle.worth.specs.declared.Scale.{Scale}
 use Rattle.worth.specs.Worth.{Share}
 use Rattle.worth.specs.Heights.{heightShares, firstHeight, Small}
-use Rattle.worth.specs.Inside.{Lays, OkScale, Ready}
+use Rattle.worth.specs.Inside.{Beside, Reach, Lays, OkScale, Ready}
 use Rattle.judge.specs.declared.Play.{Play}
 use Rattle.judge.specs.declared.Judged.{Judged}
 use Rattle.judge.specs.declared.Judged.the-variants.{NoDecision, Judged as Told, NoChild}
@@ -46,27 +46,27 @@ abbrev pub worthsOf : Scale → Forest ℕ → List ℕ
 worthsOf g f = map (λ (x : Share ℕ). x .worth) (heightShares (g .total) (g .grain) f)
 
 -- the lines s from node i on are these nodes, and their worths fit
-pub record Here (S : List ℕ) (g : Scale) (n : ℕ) (s : List ℕ) (i : ℕ) (f : Forest ℕ) : Type 0 where
-  pub lays : Lays S (g .lowest) i n (drop (25 * i) s) f
+pub record Here (S : Beside) (g : Scale) (n : ℕ) (s : List ℕ) (i : ℕ) (f : Forest ℕ) : Type 0 where
+  pub lays : Lays S i n (drop (25 * i) s) f
   pub filled : Filled f
   pub small : Small (g .total) (g .grain) (g .top) f
 
--- how long the lines and the stops are
-pub record Room (S : List ℕ) (g : Scale) (n : ℕ) (s : List ℕ) : Type 0 where
+-- how long the lines and the slices are
+pub record Room (S : Beside) (g : Scale) (n : ℕ) (s : List ℕ) : Type 0 where
   pub long : length s ≡ 25 * n
-  pub room : n ≤ length S
+  pub room : Reach S n
   pub few : n ≤ 1024
   pub scale : OkScale g
 
 -- the lines of a root with its children, and a list of this length, which holds as many worths
-pub record Under (S : List ℕ) (g : Scale) (n : ℕ) (s : List ℕ) (length : ℕ) : Type 0 where
+pub record Under (S : Beside) (g : Scale) (n : ℕ) (s : List ℕ) (length : ℕ) : Type 0 where
   pub nodes : Forest ℕ
   pub here : Here S g n s 1 nodes
   pub fits : Room S g n s
   pub place : n ≤ length
 
 -- the worths stand at the list's front, and r is their number
-abbrev pub Listed : List ℕ → Scale → ℕ → List ℕ → ℕ → (came left : List ℕ) → Type 0
+abbrev pub Listed : Beside → Scale → ℕ → List ℕ → ℕ → (came left : List ℕ) → Type 0
 Listed S g n s r came left =
     (U : Under S g n s (length came)) → (r ≡ length (worthsOf g (U .nodes))) × (left ≡ laid (worthsOf g (U .nodes)) came)
 
@@ -111,17 +111,17 @@ forestJudge g f i =
     heightJudgeAt (rootOf f) (g .grain) (firstHeight (heightShares (g .total) (g .grain) f)) (heightShares (g .total) (g .grain) (children f)) i
 
 -- the lines of one root with all under it
-pub record Whole (S : List ℕ) (g : Scale) (n : ℕ) (s : List ℕ) : Type 0 where
+pub record Whole (S : Beside) (g : Scale) (n : ℕ) (s : List ℕ) : Type 0 where
   pub ready : Ready S g MAX 0 n s
   pub rooted : Rooted (ready .nodes)
 
-abbrev pub WellJudged : List ℕ → Scale → ℕ → List ℕ → ℤ → Judged → Type 0
+abbrev pub WellJudged : Beside → Scale → ℕ → List ℕ → ℤ → Judged → Type 0
 WellJudged S g n s i r = (W : Whole S g n s) → judgedOf r ≡ forestJudge g (W .ready .nodes) i
 
 -- the same of an M or N root
-pub record Decided (S : List ℕ) (g : Scale) (n : ℕ) (s : List ℕ) (side : Side) : Type 0 where
+pub record Decided (S : Beside) (g : Scale) (n : ℕ) (s : List ℕ) (side : Side) : Type 0 where
   pub whole : Whole S g n s
   pub root : rootOf (whole .ready .nodes) ≡ decided side
 
-abbrev pub WellDecided : List ℕ → Scale → ℕ → List ℕ → Side → ℤ → Judged → Type 0
+abbrev pub WellDecided : Beside → Scale → ℕ → List ℕ → Side → ℤ → Judged → Type 0
 WellDecided S g n s side i r = (D : Decided S g n s side) → judgedOf r ≡ forestJudge g (D .whole .ready .nodes) i

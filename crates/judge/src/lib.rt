@@ -3,7 +3,7 @@ ghost use mathlib.Core.Path.{_≡_};
 ghost use Prim.Native.Nat.{_<_, _≤_};
 ghost use lib.ListN.{length, getD, take};
 ghost use Rattle.table.specs.Tree.{MAX};
-ghost use Rattle.worth.specs.Inside.{Ready, Worthy};
+ghost use Rattle.worth.specs.Inside.{beside, Ready, Worthy};
 ghost use Rattle.judge.specs.Heights.{heightLoss, Ahead};
 ghost use Rattle.judge.specs.Inside.{sideIf, Chain, Played, Under, Listed, better, bestIn, AllAhead, levelOne, levelsIn, Whole, WellJudged, Decided, WellDecided};
 use worth::Scale;
@@ -70,26 +70,42 @@ fn level_one(max: bool, best: u64, h: u64, grain: u64) -> u64
 }
 
 // The worth of a root child, by its run of lines, nodes i up to e: one line alone is a leaf, and its worth needs no call of the recursion.
-fn child_worth(run: &[u8], stop: &[u16], i: usize, e: usize, g: Scale) -> u64
-    requires { ⌜ Ready (now stop) g MAX i e (now run) ⌝ }
-    ensures { λ r. ⌜ Worthy (now (stop .entry)) g MAX i e (now (run .entry)) r ⌝ }
+fn child_worth(
+    run: &[u8],
+    stop: &[u16],
+    weight: &[u8],
+    height: &[u32],
+    i: usize,
+    e: usize,
+    g: Scale,
+) -> u64
+    requires { ⌜ Ready (beside (now stop) (now weight) (now height)) g MAX i e (now run) ⌝ }
+    ensures { λ r. ⌜ Worthy (beside (now (stop .entry)) (now (weight .entry)) (now (height .entry))) g MAX i e (now (run .entry)) r ⌝ }
 {
     if i + 1 == e {
-        return worth::leaf_worth(run, g.lowest, g.grain);
+        return worth::leaf_worth(height, i, g.grain);
     }
-    worth::worth_of(run, stop, i, e, g)
+    worth::worth_of(run, stop, weight, height, i, e, g)
 }
 
 // The worth of each of the root's children, first to last, to the list's front; it gives their number. Each run is a part of the lines.
-fn list_worths(lines: &[u8], stop: &[u16], n: usize, g: Scale, list: &mut [u64]) -> usize
-    requires { ⌜ Under (now stop) g n (now lines) (length (now list)) ⌝ }
-    ensures { λ r. ⌜ Listed (now (stop .entry)) g n (now (lines .entry)) r (now (list .entry)) (now (list .exit)) ⌝ }
+fn list_worths(
+    lines: &[u8],
+    stop: &[u16],
+    weight: &[u8],
+    height: &[u32],
+    n: usize,
+    g: Scale,
+    list: &mut [u64],
+) -> usize
+    requires { ⌜ Under (beside (now stop) (now weight) (now height)) g n (now lines) (length (now list)) ⌝ }
+    ensures { λ r. ⌜ Listed (beside (now (stop .entry)) (now (weight .entry)) (now (height .entry))) g n (now (lines .entry)) r (now (list .entry)) (now (list .exit)) ⌝ }
 {
     let mut m: usize = 0;
     let mut i: usize = 1;
     while i < n {
         let e = stop_at(stop, i);
-        list[m] = child_worth(&lines[25 * i..25 * e], stop, i, e, g);
+        list[m] = child_worth(&lines[25 * i..25 * e], stop, weight, height, i, e, g);
         m += 1;
         i = e;
     }
@@ -134,17 +150,26 @@ fn count_levels(list: &[u64], m: usize, max: bool, best: u64, grain: u64) -> u64
 }
 
 // At an M root, where `max`, or at an N root.
-fn judge_root(lines: &[u8], stop: &[u16], n: usize, g: Scale, max: bool, number: i64) -> Judged
-    requires { ⌜ Decided (now stop) g n (now lines) (sideIf max) ⌝ }
-    ensures { λ r. ⌜ WellDecided (now (stop .entry)) g n (now (lines .entry)) (sideIf max) number r ⌝ }
+fn judge_root(
+    lines: &[u8],
+    stop: &[u16],
+    weight: &[u8],
+    height: &[u32],
+    n: usize,
+    g: Scale,
+    max: bool,
+    number: i64,
+) -> Judged
+    requires { ⌜ Decided (beside (now stop) (now weight) (now height)) g n (now lines) (sideIf max) ⌝ }
+    ensures { λ r. ⌜ WellDecided (beside (now (stop .entry)) (now (weight .entry)) (now (height .entry))) g n (now (lines .entry)) (sideIf max) number r ⌝ }
 {
     match find_child(stop, n, number) {
         Play::NoPlay => Judged::NoChild,
         Play::Child(i) => {
             let e = stop_at(stop, i);
-            let h = worth::worth_of(&lines[25 * i..25 * e], stop, i, e, g);
+            let h = worth::worth_of(&lines[25 * i..25 * e], stop, weight, height, i, e, g);
             let mut list = [0u64; 1024];
-            let m = list_worths(lines, stop, n, g, &mut list);
+            let m = list_worths(lines, stop, weight, height, n, g, &mut list);
             let best = best_of(&list, m, max);
             let level = count_levels(&list, m, max, best, g.grain);
             Judged::Judged(loss(max, best, h), level)
@@ -153,16 +178,24 @@ fn judge_root(lines: &[u8], stop: &[u16], n: usize, g: Scale, max: bool, number:
 }
 
 // The judgement of root child `number`, by the node lines of a table.
-pub fn judge_table(lines: &[u8], stop: &[u16], n: usize, g: Scale, number: i64) -> Judged
-    requires { ⌜ Whole (now stop) g n (now lines) ⌝ }
-    ensures { λ r. ⌜ WellJudged (now (stop .entry)) g n (now (lines .entry)) number r ⌝ }
+pub fn judge_table(
+    lines: &[u8],
+    stop: &[u16],
+    weight: &[u8],
+    height: &[u32],
+    n: usize,
+    g: Scale,
+    number: i64,
+) -> Judged
+    requires { ⌜ Whole (beside (now stop) (now weight) (now height)) g n (now lines) ⌝ }
+    ensures { λ r. ⌜ WellJudged (beside (now (stop .entry)) (now (weight .entry)) (now (height .entry))) g n (now (lines .entry)) number r ⌝ }
 {
     let kind = line::letter_code(lines[5]);
     if kind == 1 {
-        return judge_root(lines, stop, n, g, true, number);
+        return judge_root(lines, stop, weight, height, n, g, true, number);
     }
     if kind == 2 {
-        return judge_root(lines, stop, n, g, false, number);
+        return judge_root(lines, stop, weight, height, n, g, false, number);
     }
     Judged::NoDecision
 }

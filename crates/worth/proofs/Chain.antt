@@ -13,7 +13,7 @@ use Rattle.table.specs.Tree.{Kind, MAX, MIN, CHANCE, kindOf, isChance}
 use Rattle.worth.specs.declared.Scale.{Scale}
 use Rattle.worth.specs.Worth.{Share}
 use Rattle.worth.specs.Heights.{tallest, shortest, heightValue, heightShares}
-use Rattle.worth.specs.Inside.{kindIn, Leads, kindAt, Chain, Ready}
+use Rattle.worth.specs.Inside.{kindIn, Beside, Leads, kindAt, Chain, Ready}
 use Rattle.worth.proofs.Run.{drop-take, lays-none, Child, front, Next, line-same, child-of}
 
 -- ---- the loop
@@ -69,22 +69,22 @@ under-rest s c e j h l =
     ∙ ap (take m) (drop-drop 25 (25 * (j - c) + 25) s ∙ ap (λ (x : ℕ). drop x s) at)
     ∙ ap (λ (x : ℕ). take x (drop (25 * (j + 1 - c) + 25) s)) (under-size c e j h l)
 
-module _ (S : List ℕ) (g : Scale) (s : List ℕ) (c e v : ℕ) where
+module _ (S : Beside) (g : Scale) (s : List ℕ) (c e v : ℕ) where
   -- node j, whose run ends at e, is no leaf and is worth v
   abbrev Worths : ℕ → Type 0
   Worths j = Child S g (kindAt s c j) (j + 1) e (under s c e j) v
 
-  chain-step : (j : ℕ) → c ≤ j → j + 1 < e → Leads (kindAt s c j) (kindAt s c (j + 1)) (getD S (j + 1) 0) e → Worths j → Worths (j + 1)
+  chain-step : (j : ℕ) → c ≤ j → j + 1 < e → Leads (kindAt s c j) (kindAt s c (j + 1)) (getD (S .stops) (j + 1) 0) e → Worths j → Worths (j + 1)
   chain-step j h l L W =
       let T : ℕ = g .total in
       let G : ℕ = g .grain in
       let R = W .ready in
       let k : Kind = kindOf (kindAt s c j) in
-      let m : ℕ = getD S (j + 1) 0 in
+      let m : ℕ = getD (S .stops) (j + 1) 0 in
       let part : List ℕ = under s c e j in
       let F = front S g (j + 1) e part (R .nodes) (R .lays) (R .fits .filled) (R .fits .small) l (R .long) (R .room) (R .few) (R .scale) in
       let none : heightShares T G (F .rest) ≡ [] =
-      lays-none S (g .lowest) T G m e (drop (25 * (m - (j + 1))) part) (F .rest) (F .lays) (omega (arith, L .2)) in
+      lays-none S T G m e (drop (25 * (m - (j + 1))) part) (F .rest) (F .lays) (omega (arith, L .2)) in
       let same : v ≡ F .share .worth =
       W .worth ∙ ap (heightValue T k) (F .shares ∙ ap (λ (xs : List (Share ℕ)). F .share ∷ xs) none) ∙ one-child T k (F .share) (L .0) in
       let first : kindIn (take 25 part) ≡ kindAt s c (j + 1) = ap kindIn (under-line s c e j h l) in
@@ -94,7 +94,7 @@ module _ (S : List ℕ) (g : Scale) (s : List ℕ) (c e v : ℕ) where
       let Q = subst (λ (p : List ℕ). Child S g (kindAt s c (j + 1)) (j + 1 + 1) e p (F .share .worth)) (under-rest s c e j h l) Z in
       subst (λ (w : ℕ). Child S g (kindAt s c (j + 1)) (j + 1 + 1) e (under s c e (j + 1)) w) (sym same) Q
 
-  chain-steps : (i d : ℕ) → c ≤ i → i + d < e → Chain S s c e i (i + d) → Worths i → Worths (i + d)
+  chain-steps : (i d : ℕ) → c ≤ i → i + d < e → Chain (S .stops) s c e i (i + d) → Worths i → Worths (i + d)
   chain-steps i zero h l all W = let z : i ≡ i + 0 = omega arith in subst Worths z W
   chain-steps i (suc d) h l all W =
       let z : i + d + 1 ≡ i + suc d = omega arith in
@@ -103,7 +103,7 @@ module _ (S : List ℕ) (g : Scale) (s : List ℕ) (c e v : ℕ) where
       (chain-steps i d h (omega arith) (λ k p q. all k p (omega arith)) W))
 
   -- what the node at the end of a chain is worth
-  chain-worth : (i j : ℕ) → c ≤ i → i ≤ j → j < e → Chain S s c e i j → Worths i → Worths j
+  chain-worth : (i j : ℕ) → c ≤ i → i ≤ j → j < e → Chain (S .stops) s c e i j → Worths i → Worths j
   chain-worth i j h k l all W =
       let z : i + (j - i) ≡ j = omega arith in
       subst Worths z (chain-steps i (j - i) h (omega arith) (λ n p q. all n p (omega arith)) W)
@@ -117,9 +117,9 @@ pub record Down (c e t j : ℕ) (s : List ℕ) : Type 0 where
   pub long : length s ≡ 25 * (e - c)
 
 -- the end j of the chain that begins at a child i, as the code has its kind q and the child's stop t
-module _ (S : List ℕ) (g : Scale) (k : Kind) (c e : ℕ) (s : List ℕ) (a i : ℕ) (R : Ready S g k c e s) (N : Next S g k c e s a i R) where
-  pub chain-child : (t j q : ℕ) → t ≡ getD S i 0 → (kindIn (take (25 * (i - c) + 25 - 25 * (i - c)) (drop (25 * (i - c)) s)) ≡ 0 → ⊥)
-      → i ≤ j → j < t → Chain S s c t i j → q ≡ kindAt s c j → Child S g q (j + 1) t (under s c t j) (N .1 .share .worth)
+module _ (S : Beside) (g : Scale) (k : Kind) (c e : ℕ) (s : List ℕ) (a i : ℕ) (R : Ready S g k c e s) (N : Next S g k c e s a i R) where
+  pub chain-child : (t j q : ℕ) → t ≡ getD (S .stops) i 0 → (kindIn (take (25 * (i - c) + 25 - 25 * (i - c)) (drop (25 * (i - c)) s)) ≡ 0 → ⊥)
+      → i ≤ j → j < t → Chain (S .stops) s c t i j → q ≡ kindAt s c j → Child S g q (j + 1) t (under s c t j) (N .1 .share .worth)
   chain-child t j q stop inside h l all kind =
       let line : kindAt s c i ≡ kindIn (take (25 * (i - c) + 25 - 25 * (i - c)) (drop (25 * (i - c)) s)) = ap kindIn (sym (line-same (25 * (i - c)) s)) in
       let first = child-of S g k c e s a i R N (kindAt s c i) t line stop (λ z. inside (sym line ∙ z)) in

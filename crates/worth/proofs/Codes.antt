@@ -1,18 +1,15 @@
--- The kind that a number or a letter stands for, what is taken by it, and how large a height in a line can be. Assumes nothing.
-use Prim.Native.Nat.{ℕ, _+_, _*_, _^_, _≤_}
+-- The kind that a number or a letter stands for, what is taken by it, and how large a product can be. Assumes nothing.
+use Prim.Native.Nat.{ℕ, _*_, _≤_}
 use mathlib.Core.Path.{_≡_, refl, sym, ap, _∙_}
 use mathlib.Core.Bool.{Bool, true, false, not, _&&_, _||_, cond}
 use native.Mathlib.Nat.{mul-le-mul-left, mul-le-mul-right}
 use native.Mathlib.Omega.{arith}
 use borrow.Author.Tests.{eq-eqb, ne-eqb, eqb-true}
 use lib.Dec.{eqb}
-use lib.IntN.{ℤ, pos, negsuc, natAbs, _-ℤ_}
-use lib.Signed.{mag}
 use Rattle.line.specs.Line.{letterCode}
-use Rattle.line.proofs.Signs.{true-ne-false, mag-abs}
+use Rattle.line.proofs.Signs.{true-ne-false}
 use Rattle.table.specs.Tree.{Kind, MAX, MIN, CHANCE, codeOf, kindOf, isChance}
 use Rattle.worth.specs.Inside.{begin, Leads}
-use Rattle.worth.proofs.Signs.{Is, is-minus}
 
 -- ---- kinds
 
@@ -78,20 +75,3 @@ lead-letters b q s e h =
 
 pub mul-most : (a b A B : ℕ) → a ≤ A → b ≤ B → a * b ≤ A * B
 mul-most a b A B h k = omega (arith, mul-le-mul-right b h, mul-le-mul-left A k)
-
-mag-is : (z : ℤ) (a b : ℕ) → Is z a b → mag z ≤ a + b
-mag-is (pos n) a b p = omega arith
-mag-is (negsuc n) a b p = omega arith
-
-pub mag-minus : (y z : ℤ) → mag (y -ℤ z) ≤ mag y + mag z + 2
-mag-minus (pos m) (pos n) = omega (arith, mag-is (pos m -ℤ pos n) (m + 0) (0 + n) (is-minus (pos m) (pos n) m 0 n 0 (omega arith) (omega arith)))
-mag-minus (pos m) (negsuc n) = omega (arith, mag-is (pos m -ℤ negsuc n) (m + (n + 1)) (0 + 0) (is-minus (pos m) (negsuc n) m 0 0 (n + 1) (omega arith) (omega arith)))
-mag-minus (negsuc m) (pos n) = omega (arith, mag-is (negsuc m -ℤ pos n) (0 + 0) ((m + 1) + n) (is-minus (negsuc m) (pos n) 0 (m + 1) n 0 (omega arith) (omega arith)))
-mag-minus (negsuc m) (negsuc n) = omega (arith, mag-is (negsuc m -ℤ negsuc n) (0 + (n + 1)) ((m + 1) + 0) (is-minus (negsuc m) (negsuc n) 0 (m + 1) 0 (n + 1) (omega arith) (omega arith)))
-
--- a number of eight columns, and the difference that a leaf's height is made of
-pub value-small : (z : ℤ) → natAbs z ≤ 23 * 10 ^ 8 → mag z ≤ 2300000000
-value-small z h = omega (arith, mag-abs z)
-
-pub rise-small : (z lowest : ℤ) → natAbs z ≤ 23 * 10 ^ 8 → mag lowest ≤ 1000000 → mag (z -ℤ lowest) ≤ 2301000002
-rise-small z lowest far h = omega (arith, mag-minus z lowest, value-small z far)

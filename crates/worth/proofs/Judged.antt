@@ -2,27 +2,27 @@
 use Prim.Native.Nat.{ℕ, _*_, _≤_}
 use mathlib.Core.Path.{_≡_, refl, sym, _∙_}
 use mathlib.Core.List.{List}
-use native.Mathlib.Nat.{le-trans}
 use native.Mathlib.Omega.{arith}
-use lib.ListN.{length, drop, length-drop}
+use lib.ListN.{length, drop, length-map, length-drop}
+use Rattle.line.specs.declared.Line.{Line}
 use Rattle.line.specs.Refusal.{fine}
-use Rattle.line.proofs.Signs.{true-ne-false, mag-abs}
+use Rattle.line.proofs.Signs.{true-ne-false}
 use Rattle.table.specs.Tree.{MAX, Forest, end, leaf, inner}
 use Rattle.table.specs.Table.{Table, readText, grain}
 use Rattle.table.specs.Accepted.{span, Rooted}
-use Rattle.table.specs.Slices.{stopsOf, fitted, heightTree}
+use Rattle.table.specs.Slices.{heightOf, stopsOf, weightsOf, heightsOf, fitted, heightTree}
 use Rattle.table.proofs.Accepted.{accepted-ranged, accepted-size, accepted-grain, heights-rooted, heights-filled}
 use Rattle.table.proofs.Complete.{stops-long}
 use Rattle.table.proofs.Copied.{fitted-long}
 use Rattle.worth.specs.declared.Scale.{Scale}
 use Rattle.worth.specs.Heights.{tallest, heightValue, heightShares, firstHeight, heightWorth}
-use Rattle.worth.specs.Inside.{OkScale, Ready, Worthy}
+use Rattle.worth.specs.Inside.{Beside, beside, Reach, OkScale, Ready, Worthy}
 use Rattle.worth.proofs.Worth.{rooted-some, heights-small, span-grains}
-use Rattle.worth.proofs.Text.{accepted-lent}
+use Rattle.worth.proofs.Text.{accepted-lays}
 
 -- the numbers of a table
 abbrev pub scaleOf : Table → Scale
-scaleOf t = record { total = t .head .total; lowest = t .head .lowest; grain = grain t; top = span (t .head) * grain t }
+scaleOf t = record { total = t .head .total; grain = grain t; top = span (t .head) * grain t }
 
 -- one node is worth to a MAX what it is worth
 root-worth : (T G : ℕ) (f : Forest ℕ) → Rooted f → heightValue T MAX (heightShares T G f) ≡ firstHeight (heightShares T G f)
@@ -31,25 +31,36 @@ root-worth T G end r = absurd r
 root-worth T G (leaf n w h rest) r = rw (r .2) refl
 root-worth T G (inner n w k under rest) r = rw (r .2) refl
 
-module _ (s : List ℕ) (t : Table) (h : readText s ≡ fine t) (a : List ℕ) (room : length (t .lines) ≤ length a) where
+-- st, w and g are the slices that were lent for the stops, the weights and the heights
+abbrev pub lentOf : Table → (st w g : List ℕ) → Beside
+lentOf t st w g = beside (fitted (stopsOf t) st) (fitted (weightsOf t) w) (fitted (heightsOf t) g)
+
+module _ (s : List ℕ) (t : Table) (h : readText s ≡ fine t) (st w g : List ℕ) (room : Reach (beside st w g) (length (t .lines))) where
   scale-ok : OkScale (scaleOf t)
   scale-ok =
       let r = accepted-ranged s t h in
       record {
         some = r .some;
         total = r .total;
-        lowest = le-trans (mag-abs (t .head .lowest)) (r .lowest);
         grain = accepted-grain s t h;
         top = omega (arith, span-grains s t h);
       }
 
-  -- `a` is the slice that was lent for the stops
-  pub accepted-ready : Ready (fitted (stopsOf t) a) (scaleOf t) MAX 0 (length (t .lines)) (drop 25 s)
+  reaches : Reach (lentOf t st w g) (length (t .lines))
+  reaches =
+      let n : ℕ = length (t .lines) in
+      record {
+        stops = fitted-long (stopsOf t) st n (stops-long (t .lines)) (room .stops);
+        weights = fitted-long (weightsOf t) w n (length-map (t .lines) (λ (l : Line). l .weight)) (room .weights);
+        heights = fitted-long (heightsOf t) g n (length-map (t .lines) (heightOf (t .head .lowest))) (room .heights);
+      }
+
+  pub accepted-ready : Ready (lentOf t st w g) (scaleOf t) MAX 0 (length (t .lines)) (drop 25 s)
   accepted-ready =
       let z = accepted-size s t h in
       record {
         nodes = heightTree t;
-        lays = accepted-lent s t h a room;
+        lays = accepted-lays s t h st w g room;
         fits = record {
           filled = heights-filled s t h;
           small = heights-small s t h;
@@ -57,11 +68,11 @@ module _ (s : List ℕ) (t : Table) (h : readText s ≡ fine t) (a : List ℕ) (
         };
         some = rooted-some (heightTree t) (heights-rooted s t h);
         long = omega (arith, length-drop 25 s, z .2);
-        room = fitted-long (stopsOf t) a (length (t .lines)) (stops-long (t .lines)) room;
+        room = reaches;
         few = z .1;
         scale = scale-ok;
       }
 
-  pub judged-worth : (r : ℕ) → Worthy (fitted (stopsOf t) a) (scaleOf t) MAX 0 (length (t .lines)) (drop 25 s) r → r ≡ heightWorth t
+  pub judged-worth : (r : ℕ) → Worthy (lentOf t st w g) (scaleOf t) MAX 0 (length (t .lines)) (drop 25 s) r → r ≡ heightWorth t
   unfolding accepted-ready
-  judged-worth r w = w accepted-ready ∙ root-worth (t .head .total) (grain t) (heightTree t) (heights-rooted s t h)
+  judged-worth r told = told accepted-ready ∙ root-worth (t .head .total) (grain t) (heightTree t) (heights-rooted s t h)

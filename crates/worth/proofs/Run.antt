@@ -7,13 +7,12 @@ use native.Mathlib.Nat.{mul-le-mul-left, mul-le-mul-right}
 use native.Mathlib.Omega.{arith}
 use lib.ListN.{length, getD, take, drop, length-drop}
 use lib.Seq.{length-take-le, take-nil, take-take, drop-drop}
-use lib.IntN.{ℤ}
 use Rattle.table.specs.Tree.{Kind, MAX, MIN, CHANCE, Forest, end, leaf, inner, kindOf, isChance, isEnd}
 use Rattle.table.specs.Accepted.{Filled}
 use Rattle.worth.specs.declared.Scale.{Scale}
 use Rattle.worth.specs.Worth.{Share}
 use Rattle.worth.specs.Heights.{tallest, shortest, summed, heightValue, heightShares, Small}
-use Rattle.worth.specs.Inside.{kindIn, weightIn, heightIn, Lays, begin, taken, sealed, takeAll, OkScale, Ready}
+use Rattle.worth.specs.Inside.{kindIn, Beside, Reach, Lays, begin, taken, sealed, takeAll, OkScale, Ready}
 use Rattle.worth.proofs.Bounds.{Each, shortest-one, small-each}
 use Rattle.worth.proofs.Codes.{kind-code, code-inner}
 
@@ -85,50 +84,54 @@ line-within m n t h = ap (take 25) (drop-take (25 * m) n t) ∙ take-take 25 (n 
 
 -- ---- the first node of a run
 
-pub lays-le : (S : List ℕ) (lo : ℤ) (c e : ℕ) (s : List ℕ) (f : Forest ℕ) → Lays S lo c e s f → c ≤ e
+pub lays-le : (S : Beside) (c e : ℕ) (s : List ℕ) (f : Forest ℕ) → Lays S c e s f → c ≤ e
 unfolding Lays
-lays-le S lo c e s end l = omega (arith, l)
-lays-le S lo c e s (leaf n w h rest) l = omega (arith, l .1, lays-le S lo (getD S c 0) e (drop (25 * (getD S c 0 - c)) s) rest (l .4))
-lays-le S lo c e s (inner n w k under rest) l =
-    let j : ℕ = getD S c 0 in
-    omega (arith, lays-le S lo (c + 1) j (take (25 * (j - (c + 1))) (drop 25 s)) under (l .2), lays-le S lo j e (drop (25 * (j - c)) s) rest (l .3))
+lays-le S c e s end l = omega (arith, l)
+lays-le S c e s (leaf n w h rest) l = omega (arith, l .1, lays-le S (getD (S .stops) c 0) e (drop (25 * (getD (S .stops) c 0 - c)) s) rest (l .4))
+lays-le S c e s (inner n w k under rest) l =
+    let j : ℕ = getD (S .stops) c 0 in
+    omega (arith, lays-le S (c + 1) j (take (25 * (j - (c + 1))) (drop 25 s)) under (l .2), lays-le S j e (drop (25 * (j - c)) s) rest (l .3))
 
 -- no lines are left, and so no nodes
-pub lays-none : (S : List ℕ) (lo : ℤ) (T G c e : ℕ) (s : List ℕ) (f : Forest ℕ) → Lays S lo c e s f → e ≤ c → heightShares T G f ≡ []
+pub lays-none : (S : Beside) (T G c e : ℕ) (s : List ℕ) (f : Forest ℕ) → Lays S c e s f → e ≤ c → heightShares T G f ≡ []
 unfolding Lays heightShares
-lays-none S lo T G c e s end l h = refl
-lays-none S lo T G c e s (leaf n w v rest) l h =
-    absurd (omega (arith, l .1, lays-le S lo (getD S c 0) e (drop (25 * (getD S c 0 - c)) s) rest (l .4)))
-lays-none S lo T G c e s (inner n w k under rest) l h =
-    let j : ℕ = getD S c 0 in
-    absurd (omega (arith, lays-le S lo (c + 1) j (take (25 * (j - (c + 1))) (drop 25 s)) under (l .2), lays-le S lo j e (drop (25 * (j - c)) s) rest (l .3)))
+lays-none S T G c e s end l h = refl
+lays-none S T G c e s (leaf n w v rest) l h =
+    absurd (omega (arith, l .1, lays-le S (getD (S .stops) c 0) e (drop (25 * (getD (S .stops) c 0 - c)) s) rest (l .4)))
+lays-none S T G c e s (inner n w k under rest) l h =
+    let j : ℕ = getD (S .stops) c 0 in
+    absurd (omega (arith, lays-le S (c + 1) j (take (25 * (j - (c + 1))) (drop 25 s)) under (l .2), lays-le S j e (drop (25 * (j - c)) s) rest (l .3)))
 
 -- the lines `part`, nodes c up to j, can be judged under the kind of the number k, and are then worth v
-pub record Child (S : List ℕ) (g : Scale) (k c j : ℕ) (part : List ℕ) (v : ℕ) : Type 0 where
+pub record Child (S : Beside) (g : Scale) (k c j : ℕ) (part : List ℕ) (v : ℕ) : Type 0 where
   pub ready : Ready S g (kindOf k) c j part
   pub worth : v ≡ heightValue (g .total) (kindOf k) (heightShares (g .total) (g .grain) (ready .nodes))
 
 -- the first node of the lines s of the nodes f, and the nodes after its run
-pub record Front (S : List ℕ) (g : Scale) (c e : ℕ) (s : List ℕ) (f : Forest ℕ) : Type 0 where
+pub record Front (S : Beside) (g : Scale) (c e : ℕ) (s : List ℕ) (f : Forest ℕ) : Type 0 where
   pub share : Share ℕ
   pub rest : Forest ℕ
-  pub later : c < getD S c 0
-  pub within : getD S c 0 ≤ e
+  pub later : c < getD (S .stops) c 0
+  pub within : getD (S .stops) c 0 ≤ e
   pub shares : heightShares (g .total) (g .grain) f ≡ share ∷ heightShares (g .total) (g .grain) rest
-  pub weighs : weightIn (take 25 s) ≡ share .weight
-  pub lays : Lays S (g .lowest) (getD S c 0) e (drop (25 * (getD S c 0 - c)) s) rest
+  pub weighs : getD (S .weights) c 0 ≡ share .weight
+  pub lays : Lays S (getD (S .stops) c 0) e (drop (25 * (getD (S .stops) c 0 - c)) s) rest
   pub filled : Filled rest
   pub small : Small (g .total) (g .grain) (g .top) rest
-  pub leafy : kindIn (take 25 s) ≡ 0 → share .worth ≡ heightIn (g .lowest) (take 25 s) * g .grain
+  pub leafy : kindIn (take 25 s) ≡ 0 → share .worth ≡ getD (S .heights) c 0 * g .grain
   pub child : (kindIn (take 25 s) ≡ 0 → ⊥)
-      → Child S g (kindIn (take 25 s)) (c + 1) (getD S c 0) (take (25 * (getD S c 0 - (c + 1))) (drop 25 s)) (share .worth)
+      → Child S g (kindIn (take 25 s)) (c + 1) (getD (S .stops) c 0) (take (25 * (getD (S .stops) c 0 - (c + 1))) (drop 25 s)) (share .worth)
+
+-- slices that reach up to e reach up to j before it
+pub reach-less : (S : Beside) (j e : ℕ) → j ≤ e → Reach S e → Reach S j
+reach-less S j e h r = record { stops = omega (arith, r .stops); weights = omega (arith, r .weights); heights = omega (arith, r .heights) }
 
 part-long : (c e j : ℕ) (s : List ℕ) → c < j → j ≤ e → length s ≡ 25 * (e - c) → length (take (25 * (j - (c + 1))) (drop 25 s)) ≡ 25 * (j - (c + 1))
 part-long c e j s h k l = length-take-le (25 * (j - (c + 1))) (drop 25 s) (omega (arith, length-drop 25 s, l))
 
-module _ (S : List ℕ) (g : Scale) (c e : ℕ) (s : List ℕ) where
-  pub front : (f : Forest ℕ) → Lays S (g .lowest) c e s f → Filled f → Small (g .total) (g .grain) (g .top) f
-      → c < e → length s ≡ 25 * (e - c) → e ≤ length S → e ≤ 1024 → OkScale g → Front S g c e s f
+module _ (S : Beside) (g : Scale) (c e : ℕ) (s : List ℕ) where
+  pub front : (f : Forest ℕ) → Lays S c e s f → Filled f → Small (g .total) (g .grain) (g .top) f
+      → c < e → length s ≡ 25 * (e - c) → Reach S e → e ≤ 1024 → OkScale g → Front S g c e s f
   unfolding Lays heightShares
   front end l F M h long room few ok = absurd (omega (arith, l))
   front (leaf n w v rest) l F M h long room few ok =
@@ -136,7 +139,7 @@ module _ (S : List ℕ) (g : Scale) (c e : ℕ) (s : List ℕ) where
         share = record { weight = w; worth = v * g .grain };
         rest = rest;
         later = omega (arith, l .1);
-        within = lays-le S (g .lowest) (getD S c 0) e (drop (25 * (getD S c 0 - c)) s) rest (l .4);
+        within = lays-le S (getD (S .stops) c 0) e (drop (25 * (getD (S .stops) c 0 - c)) s) rest (l .4);
         shares = refl;
         weighs = l .2;
         lays = l .4;
@@ -148,10 +151,10 @@ module _ (S : List ℕ) (g : Scale) (c e : ℕ) (s : List ℕ) where
   front (inner n w k under rest) l F M h long room few ok =
       let T : ℕ = g .total in
       let G : ℕ = g .grain in
-      let j : ℕ = getD S c 0 in
+      let j : ℕ = getD (S .stops) c 0 in
       let part : List ℕ = take (25 * (j - (c + 1))) (drop 25 s) in
-      let later : c + 1 ≤ j = lays-le S (g .lowest) (c + 1) j part under (l .2) in
-      let within : j ≤ e = lays-le S (g .lowest) j e (drop (25 * (j - c)) s) rest (l .3) in
+      let later : c + 1 ≤ j = lays-le S (c + 1) j part under (l .2) in
+      let within : j ≤ e = lays-le S j e (drop (25 * (j - c)) s) rest (l .3) in
       let same : kindOf (kindIn (take 25 s)) ≡ k = ap kindOf (l .0) ∙ kind-code k in
       record {
         share = record { weight = w; worth = heightValue T k (heightShares T G under) };
@@ -171,7 +174,7 @@ module _ (S : List ℕ) (g : Scale) (c e : ℕ) (s : List ℕ) where
             fits = record { filled = F .1; small = M .2; sums = λ i. M .1 (ap isChance (sym same) ∙ i) };
             some = F .0;
             long = part-long c e j s (omega (arith, later)) within long;
-            room = omega (arith, within, room);
+            room = reach-less S j e within room;
             few = omega (arith, within, few);
             scale = ok;
           };
@@ -182,16 +185,16 @@ module _ (S : List ℕ) (g : Scale) (c e : ℕ) (s : List ℕ) where
 -- ---- the loop
 
 -- Up to node i the children are taken and come to a: taking the rest from there is taking all from the start.
-pub record Going (S : List ℕ) (g : Scale) (k : Kind) (c e : ℕ) (s : List ℕ) (f : Forest ℕ) (a i : ℕ) : Type 0 where
+pub record Going (S : Beside) (g : Scale) (k : Kind) (c e : ℕ) (s : List ℕ) (f : Forest ℕ) (a i : ℕ) : Type 0 where
   pub rest : Forest ℕ
   pub from : c ≤ i
   pub upto : i ≤ e
-  pub lays : Lays S (g .lowest) i e (drop (25 * (i - c)) s) rest
+  pub lays : Lays S i e (drop (25 * (i - c)) s) rest
   pub filled : Filled rest
   pub small : Small (g .total) (g .grain) (g .top) rest
   pub same : takeAll k (begin (g .top) k) (heightShares (g .total) (g .grain) f) ≡ takeAll k a (heightShares (g .total) (g .grain) rest)
 
-module _ (S : List ℕ) (g : Scale) (k : Kind) (c e : ℕ) (s : List ℕ) where
+module _ (S : Beside) (g : Scale) (k : Kind) (c e : ℕ) (s : List ℕ) where
   -- the invariant of the loop: for all that the contract speaks of
   abbrev pub GoingAll : ℕ → ℕ → Type 0
   GoingAll a i = (R : Ready S g k c e s) → Going S g k c e s (R .nodes) a i
@@ -201,8 +204,8 @@ module _ (S : List ℕ) (g : Scale) (k : Kind) (c e : ℕ) (s : List ℕ) where
       record {
         rest = R .nodes;
         from = omega arith;
-        upto = lays-le S (g .lowest) c e s (R .nodes) (R .lays);
-        lays = subst (λ (t : List ℕ). Lays S (g .lowest) c e t (R .nodes)) (sym (drop-none c s)) (R .lays);
+        upto = lays-le S c e s (R .nodes) (R .lays);
+        lays = subst (λ (t : List ℕ). Lays S c e t (R .nodes)) (sym (drop-none c s)) (R .lays);
         filled = R .fits .filled;
         small = R .fits .small;
         same = ap (λ (x : ℕ). takeAll k x (heightShares (g .total) (g .grain) (R .nodes))) (sym p);
@@ -224,14 +227,14 @@ module _ (S : List ℕ) (g : Scale) (k : Kind) (c e : ℕ) (s : List ℕ) where
       )
 
   pub going-turn : (a i : ℕ) (R : Ready S g k c e s) (N : Next a i R) (b j : ℕ)
-      → j ≡ getD S i 0 → b ≡ taken k a (N .1 .share .weight) (N .1 .share .worth) → Going S g k c e s (R .nodes) b j
+      → j ≡ getD (S .stops) i 0 → b ≡ taken k a (N .1 .share .weight) (N .1 .share .worth) → Going S g k c e s (R .nodes) b j
   unfolding takeAll
   going-turn a i R N b j stop step =
       let G = N .0 in
       let F = N .1 in
       let T : ℕ = g .total in
       let Q : ℕ = g .grain in
-      let m : ℕ = getD S i 0 in
+      let m : ℕ = getD (S .stops) i 0 in
       let at : 25 * (i - c) + 25 * (m - i) ≡ 25 * (m - c) = omega (arith, G .from, F .later) in
       let cut : drop (25 * (m - i)) (drop (25 * (i - c)) s) ≡ drop (25 * (m - c)) s =
       drop-drop (25 * (m - i)) (25 * (i - c)) s ∙ ap (λ (n : ℕ). drop n s) at in
@@ -240,7 +243,7 @@ module _ (S : List ℕ) (g : Scale) (k : Kind) (c e : ℕ) (s : List ℕ) where
         rest = F .rest;
         from = omega (arith, G .from, F .later);
         upto = F .within;
-        lays = subst (λ (t : List ℕ). Lays S (g .lowest) m e t (F .rest)) cut (F .lays);
+        lays = subst (λ (t : List ℕ). Lays S m e t (F .rest)) cut (F .lays);
         filled = F .filled;
         small = F .small;
         same = G .same ∙ ap (takeAll k a) (F .shares) ∙ ap (λ (x : ℕ). takeAll k x (heightShares T Q (F .rest))) (sym step);
@@ -255,7 +258,7 @@ module _ (S : List ℕ) (g : Scale) (k : Kind) (c e : ℕ) (s : List ℕ) where
       let T : ℕ = g .total in
       let Q : ℕ = g .grain in
       let z : takeAll k (begin (g .top) k) (heightShares T Q (R .nodes)) ≡ a =
-      G .same ∙ ap (takeAll k a) (lays-none S (g .lowest) T Q i e (drop (25 * (i - c)) s) (G .rest) (G .lays) h) in
+      G .same ∙ ap (takeAll k a) (lays-none S T Q i e (drop (25 * (i - c)) s) (G .rest) (G .lays) h) in
       ap (sealed T k) (sym z) ∙ value-taken T Q (g .top) k (R .nodes) (R .some) (R .fits .small)
 
 -- at a C the sum of all bounds every sum on the way
@@ -264,7 +267,7 @@ sum-so-far : (a total : ℕ) (x : Share ℕ) (xs ys : List (Share ℕ))
 unfolding summed
 sum-so-far a total x xs ys e h = omega (arith, take-sum 0 ys, take-sum a (x ∷ xs))
 
-pub sum-fits : (S : List ℕ) (g : Scale) (k : Kind) (c e : ℕ) (s : List ℕ) (a i : ℕ) (R : Ready S g k c e s) (N : Next S g k c e s a i R)
+pub sum-fits : (S : Beside) (g : Scale) (k : Kind) (c e : ℕ) (s : List ℕ) (a i : ℕ) (R : Ready S g k c e s) (N : Next S g k c e s a i R)
     → k ≡ CHANCE → a + N .1 .share .weight * N .1 .share .worth < 9223372036854775808
 sum-fits S g MAX c e s a i R N k = absurd (let z : _≡_ {A = Bool} false true = ap isChance k in let y : _≡_ {A = ℕ} 0 1 = cc in omega arith)
 sum-fits S g MIN c e s a i R N k = absurd (let z : _≡_ {A = Bool} false true = ap isChance k in let y : _≡_ {A = ℕ} 0 1 = cc in omega arith)
@@ -293,24 +296,24 @@ part-same c i j s h l =
 
 -- ---- one turn of the loop: the numbers that bound it
 
-pub record Turn (S : List ℕ) (c e i : ℕ) (s : List ℕ) : Type 0 where
+pub record Turn (S : Beside) (c e i : ℕ) (s : List ℕ) : Type 0 where
   pub from : c ≤ i
-  pub here : i < getD S i 0
-  pub upto : getD S i 0 ≤ e
-  pub room : e ≤ length S
+  pub here : i < getD (S .stops) i 0
+  pub upto : getD (S .stops) i 0 ≤ e
+  pub room : Reach S e
   pub few : e ≤ 1024
   pub long : length s ≡ 25 * (e - c)
 
-module _ (S : List ℕ) (g : Scale) (k : Kind) (c e : ℕ) (s : List ℕ) (a i : ℕ) (R : Ready S g k c e s) (N : Next S g k c e s a i R) where
+module _ (S : Beside) (g : Scale) (k : Kind) (c e : ℕ) (s : List ℕ) (a i : ℕ) (R : Ready S g k c e s) (N : Next S g k c e s a i R) where
   pub turn-of : Turn S c e i s
   turn-of = record { from = N .0 .from; here = N .1 .later; upto = N .1 .within; room = R .room; few = R .few; long = R .long }
 
   -- the child's kind, stop and lines, as the code has them
-  pub child-of : (q j : ℕ) → q ≡ kindIn (take (25 * (i - c) + 25 - 25 * (i - c)) (drop (25 * (i - c)) s)) → j ≡ getD S i 0 → (q ≡ 0 → ⊥)
+  pub child-of : (q j : ℕ) → q ≡ kindIn (take (25 * (i - c) + 25 - 25 * (i - c)) (drop (25 * (i - c)) s)) → j ≡ getD (S .stops) i 0 → (q ≡ 0 → ⊥)
       → Child S g q (i + 1) j (take (25 * (j - c) - (25 * (i - c) + 25)) (drop (25 * (i - c) + 25) s)) (N .1 .share .worth)
   child-of q j kind stop inside =
       let at : ℕ = 25 * (i - c) in
-      let m : ℕ = getD S i 0 in
+      let m : ℕ = getD (S .stops) i 0 in
       let v : ℕ = N .1 .share .worth in
       let line : q ≡ kindIn (take 25 (drop at s)) = kind ∙ ap kindIn (line-same at s) in
       let x = N .1 .child (λ z. inside (line ∙ z)) in
@@ -318,23 +321,14 @@ module _ (S : List ℕ) (g : Scale) (k : Kind) (c e : ℕ) (s : List ℕ) (a i :
       let z = subst (λ (n : ℕ). Child S g (kindIn (take 25 (drop at s))) (i + 1) n (take (25 * (n - c) - (at + 25)) (drop (at + 25) s)) v) (sym stop) y in
       subst (λ (n : ℕ). Child S g n (i + 1) j (take (25 * (j - c) - (at + 25)) (drop (at + 25) s)) v) (sym line) z
 
-  pub leaf-of : (q : ℕ) → q ≡ kindIn (take (25 * (i - c) + 25 - 25 * (i - c)) (drop (25 * (i - c)) s)) → q ≡ 0
-      → heightIn (g .lowest) (take (25 * (i - c) + 25 - 25 * (i - c)) (drop (25 * (i - c)) s)) * g .grain ≡ N .1 .share .worth
-  leaf-of q kind none =
-      let at : ℕ = 25 * (i - c) in
-      ap (λ (l : List ℕ). heightIn (g .lowest) l * g .grain) (line-same at s)
-      ∙ sym (N .1 .leafy (sym (ap kindIn (line-same at s)) ∙ sym kind ∙ none))
-
-  weight-of : weightIn (take (25 * (i - c) + 25 - 25 * (i - c)) (drop (25 * (i - c)) s)) ≡ N .1 .share .weight
-  weight-of = ap weightIn (line-same (25 * (i - c)) s) ∙ N .1 .weighs
+  pub leaf-of : kindIn (take (25 * (i - c) + 25 - 25 * (i - c)) (drop (25 * (i - c)) s)) ≡ 0 → getD (S .heights) i 0 * g .grain ≡ N .1 .share .worth
+  leaf-of none = sym (N .1 .leafy (sym (ap kindIn (line-same (25 * (i - c)) s)) ∙ none))
 
   -- what the child is taken with
-  pub turn-fits : (h : ℕ) → h ≡ N .1 .share .worth → k ≡ CHANCE
-      → a + weightIn (take (25 * (i - c) + 25 - 25 * (i - c)) (drop (25 * (i - c)) s)) * h < 9223372036854775808
-  turn-fits h worth chance = rw (weight-of, worth) (sum-fits S g k c e s a i R N chance)
+  pub turn-fits : (h : ℕ) → h ≡ N .1 .share .worth → k ≡ CHANCE → a + getD (S .weights) i 0 * h < 9223372036854775808
+  turn-fits h worth chance = rw (N .1 .weighs, worth) (sum-fits S g k c e s a i R N chance)
 
-  pub turn-on : (h b j : ℕ) → h ≡ N .1 .share .worth → j ≡ getD S i 0
-      → b ≡ taken k a (weightIn (take (25 * (i - c) + 25 - 25 * (i - c)) (drop (25 * (i - c)) s))) h → Going S g k c e s (R .nodes) b j
+  pub turn-on : (h b j : ℕ) → h ≡ N .1 .share .worth → j ≡ getD (S .stops) i 0 → b ≡ taken k a (getD (S .weights) i 0) h → Going S g k c e s (R .nodes) b j
   turn-on h b j worth stop step =
       going-turn S g k c e s a i R N b j stop
-      (step ∙ ap (λ (w : ℕ). taken k a w h) weight-of ∙ ap (taken k a (N .1 .share .weight)) worth)
+      (step ∙ ap (λ (w : ℕ). taken k a w h) (N .1 .weighs) ∙ ap (taken k a (N .1 .share .weight)) worth)

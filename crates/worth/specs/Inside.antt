@@ -1,44 +1,49 @@
--- The worth straight from the text: how a run of lines holds nodes, and what the code computes with. Assumes nothing: these are definitions.
+-- The worth by a run of lines: how the lines, and the slices beside them, hold nodes, and what the code computes with. Assumes nothing: these are definitions.
 use Prim.Native.Nat.{ℕ, _+_, _-_, _*_, _/_, _≤_, _<_, min, max}
 use mathlib.Core.Path.{_≡_}
 use mathlib.Core.Bool.{true, false}
 use mathlib.Core.List.{List, [], _∷_}
 use lib.ListN.{length, getD, take, drop}
-use lib.IntN.{ℤ, _-ℤ_}
-use lib.Signed.{mag}
-use Rattle.field.specs.Columns.{gathered, knownOf}
-use Rattle.line.specs.Line.{letterCode, toNat}
+use Rattle.line.specs.Line.{letterCode}
 use Rattle.table.specs.Tree.{Kind, MAX, MIN, CHANCE, Forest, end, leaf, inner, codeOf, kindOf, isChance, isEnd}
 use Rattle.table.specs.Accepted.{Filled}
 use Rattle.worth.specs.declared.Scale.{Scale}
 use Rattle.worth.specs.Worth.{Share}
 use Rattle.worth.specs.Heights.{heightValue, heightShares, summed, Small}
 
--- What a node line says, where it was accepted: a weight is at most 64 and stands in the last two of its columns, and a utility, at most
--- 1,000,000 either way, has no digit in the first of its columns.
+-- the number of the kind that a node line says
 abbrev pub kindIn : List ℕ → ℕ
 kindIn s = letterCode (getD s 5 0)
 
-abbrev pub weightIn : List ℕ → ℕ
-weightIn s = gathered 0 (take 2 (drop 14 s))
+-- the decoded slices that are read beside the lines, by node number: one past the run of each node, its weight, and a leaf's height
+pub record Beside : Type 0 where
+  pub stops : List ℕ
+  pub weights : List ℕ
+  pub heights : List ℕ
 
-abbrev pub heightIn : ℤ → List ℕ → ℕ
-heightIn lowest s = toNat (knownOf (take 8 (drop 16 s)) -ℤ lowest)
+abbrev pub beside : (stops weights heights : List ℕ) → Beside
+beside S W H = record { stops = S; weights = W; heights = H }
 
--- The lines s of the nodes from c up to e are these nodes with one parent; S has one past the run of each node.
-unfoldable pub Lays : List ℕ → ℤ → ℕ → ℕ → List ℕ → Forest ℕ → Type 0
-Lays S lowest c e s end = c ≡ e
-Lays S lowest c e s (leaf n w h rest) =
+-- each of them has the nodes before e
+pub record Reach (S : Beside) (e : ℕ) : Type 0 where
+  pub stops : e ≤ length (S .stops)
+  pub weights : e ≤ length (S .weights)
+  pub heights : e ≤ length (S .heights)
+
+-- The lines s of the nodes from c up to e are these nodes with one parent.
+unfoldable pub Lays : Beside → ℕ → ℕ → List ℕ → Forest ℕ → Type 0
+Lays S c e s end = c ≡ e
+Lays S c e s (leaf n w h rest) =
     (kindIn (take 25 s) ≡ 0)
-    × (getD S c 0 ≡ c + 1)
-    × (weightIn (take 25 s) ≡ w)
-    × (heightIn lowest (take 25 s) ≡ h)
-    × Lays S lowest (getD S c 0) e (drop (25 * (getD S c 0 - c)) s) rest
-Lays S lowest c e s (inner n w k under rest) =
+    × (getD (S .stops) c 0 ≡ c + 1)
+    × (getD (S .weights) c 0 ≡ w)
+    × (getD (S .heights) c 0 ≡ h)
+    × Lays S (getD (S .stops) c 0) e (drop (25 * (getD (S .stops) c 0 - c)) s) rest
+Lays S c e s (inner n w k under rest) =
     (kindIn (take 25 s) ≡ codeOf k)
-    × (weightIn (take 25 s) ≡ w)
-    × Lays S lowest (c + 1) (getD S c 0) (take (25 * (getD S c 0 - (c + 1))) (drop 25 s)) under
-    × Lays S lowest (getD S c 0) e (drop (25 * (getD S c 0 - c)) s) rest
+    × (getD (S .weights) c 0 ≡ w)
+    × Lays S (c + 1) (getD (S .stops) c 0) (take (25 * (getD (S .stops) c 0 - (c + 1))) (drop 25 s)) under
+    × Lays S (getD (S .stops) c 0) e (drop (25 * (getD (S .stops) c 0 - c)) s) rest
 
 -- Equation (1) child by child: what stands before the first child, after one more, and at the end. `top` is the greatest height.
 abbrev pub begin : ℕ → Kind → ℕ
@@ -77,7 +82,6 @@ Chain S s c e i j = (k : ℕ) → i ≤ k → k < j → Leads (kindAt s c k) (ki
 pub record OkScale (g : Scale) : Type 0 where
   pub some : 0 < g .total
   pub total : g .total ≤ 64
-  pub lowest : mag (g .lowest) ≤ 1000000
   pub grain : g .grain ≤ 16777216
   pub top : g .top ≤ 35184372088832
 
@@ -88,16 +92,16 @@ pub record Fits (g : Scale) (k : Kind) (f : Forest ℕ) : Type 0 where
   pub sums : isChance k ≡ true → summed (heightShares (g .total) (g .grain) f) ≤ g .total * g .top
 
 -- a run of lines that can be judged: the children of a node of the kind k
-pub record Ready (S : List ℕ) (g : Scale) (k : Kind) (c e : ℕ) (s : List ℕ) : Type 0 where
+pub record Ready (S : Beside) (g : Scale) (k : Kind) (c e : ℕ) (s : List ℕ) : Type 0 where
   pub nodes : Forest ℕ
-  pub lays : Lays S (g .lowest) c e s nodes
+  pub lays : Lays S c e s nodes
   pub fits : Fits g k nodes
   pub some : isEnd nodes ≡ false
   pub long : length s ≡ 25 * (e - c)
-  pub room : e ≤ length S
+  pub room : Reach S e
   pub few : e ≤ 1024
   pub scale : OkScale g
 
 -- what the nodes of a run that can be judged are worth to their parent
-abbrev pub Worthy : List ℕ → Scale → Kind → ℕ → ℕ → List ℕ → ℕ → Type 0
+abbrev pub Worthy : Beside → Scale → Kind → ℕ → ℕ → List ℕ → ℕ → Type 0
 Worthy S g k c e s r = (R : Ready S g k c e s) → r ≡ heightValue (g .total) k (heightShares (g .total) (g .grain) (R .nodes))

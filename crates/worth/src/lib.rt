@@ -1,18 +1,16 @@
-// The exact worth of a run of lines, straight from the text, in grains above the lowest end.
+// The exact worth of a run of lines, in grains above the lowest end: the kinds are those of the lines, the numbers those that were decoded.
 ghost use mathlib.Core.Path.{_≡_};
 ghost use mathlib.Core.Bool.{true};
 ghost use Prim.Native.Nat.{_+_, _-_, _*_, _<_, _≤_};
 ghost use lib.ListN.{length, getD, take, drop};
 ghost use lib.Dec.{eqb};
-ghost use lib.Signed.{mag};
 ghost use Rattle.line.specs.Line.{letterCode};
 ghost use Rattle.table.specs.Tree.{MAX, CHANCE, kindOf};
-ghost use Rattle.worth.specs.Inside.{kindIn, weightIn, heightIn, begin, taken, sealed, Leads, Chain, Ready, Worthy};
+ghost use Rattle.worth.specs.Inside.{kindIn, beside, begin, taken, sealed, Leads, Chain, Ready, Worthy};
 
-// A table's total, lowest end and grain count, and the highest end's grains above the lowest.
+// A table's total and grain count, and the highest end's grains above the lowest.
 pub struct Scale {
     pub total: u64,
-    pub lowest: i64,
     pub grain: u64,
     pub top: u64,
 }
@@ -39,19 +37,12 @@ fn kind_at(run: &[u8], at: usize) -> u8
     line::letter_code(letter_at(run, at))
 }
 
-fn weight_in(line: &[u8]) -> u64
-    requires { ⌜ length (now line) ≡ 25 ⌝ }
-    ensures { λ r. ⌜ r ≡ weightIn (now (line .entry)) ⌝ }
-{
-    field::count(&line[14..16])
-}
-
 // A leaf's grains above the lowest end.
-pub fn leaf_worth(line: &[u8], lowest: i64, grain: u64) -> u64
-    requires { ⌜ (length (now line) ≡ 25) × (mag lowest ≤ 1000000) × (grain ≤ 16777216) ⌝ }
-    ensures { λ r. ⌜ r ≡ heightIn lowest (now (line .entry)) * grain ⌝ }
+pub fn leaf_worth(height: &[u32], i: usize, grain: u64) -> u64
+    requires { ⌜ (i < length (now height)) × (grain ≤ 16777216) ⌝ }
+    ensures { λ r. ⌜ r ≡ getD (now (height .entry)) i 0 * grain ⌝ }
 {
-    line::natural(field::known(line, 16, 8) - lowest) * grain
+    height[i] as u64 * grain
 }
 
 fn index_at(s: &[u16], i: usize) -> usize
@@ -68,10 +59,10 @@ fn before_any(k: u8, top: u64) -> u64
     if k == 2 { top } else { 0 }
 }
 
-// What stands after a child that is worth h, with its line.
-fn take_child(k: u8, a: u64, line: &[u8], h: u64) -> u64
-    requires { ⌜ (length (now line) ≡ 25) × (kindOf k ≡ CHANCE → a + weightIn (now line) * h < 9223372036854775808) ⌝ }
-    ensures { λ r. ⌜ r ≡ taken (kindOf k) a (weightIn (now (line .entry))) h ⌝ }
+// What stands after child i, which is worth h.
+fn take_child(k: u8, a: u64, weight: &[u8], i: usize, h: u64) -> u64
+    requires { ⌜ (i < length (now weight)) × (kindOf k ≡ CHANCE → a + getD (now weight) i 0 * h < 9223372036854775808) ⌝ }
+    ensures { λ r. ⌜ r ≡ taken (kindOf k) a (getD (now (weight .entry)) i 0) h ⌝ }
 {
     if k == 1 {
         return if a < h { h } else { a };
@@ -79,7 +70,7 @@ fn take_child(k: u8, a: u64, line: &[u8], h: u64) -> u64
     if k == 2 {
         return if h < a { h } else { a };
     }
-    a + weight_in(line) * h
+    a + weight[i] as u64 * h
 }
 
 // What stands after the last child.
@@ -124,9 +115,18 @@ fn chain_end(run: &[u8], stop: &[u16], c: usize, i: usize, e: usize) -> usize
 
 // A node of kind k whose children's runs are the lines `run`, nodes c up to e: each child's run is a part of it. A chain of only children
 // is gone down by a loop, as a call for each of up to 64 nodes takes longer.
-fn worth_under(k: u8, run: &[u8], stop: &[u16], c: usize, e: usize, g: Scale) -> u64
-    requires { ⌜ Ready (now stop) g (kindOf k) c e (now run) ⌝ }
-    ensures { λ r. ⌜ Worthy (now (stop .entry)) g (kindOf k) c e (now (run .entry)) r ⌝ }
+fn worth_under(
+    k: u8,
+    run: &[u8],
+    stop: &[u16],
+    weight: &[u8],
+    height: &[u32],
+    c: usize,
+    e: usize,
+    g: Scale,
+) -> u64
+    requires { ⌜ Ready (beside (now stop) (now weight) (now height)) g (kindOf k) c e (now run) ⌝ }
+    ensures { λ r. ⌜ Worthy (beside (now (stop .entry)) (now (weight .entry)) (now (height .entry))) g (kindOf k) c e (now (run .entry)) r ⌝ }
 {
     let mut a = before_any(k, g.top);
     let mut i = c;
@@ -136,23 +136,40 @@ fn worth_under(k: u8, run: &[u8], stop: &[u16], c: usize, e: usize, g: Scale) ->
         let s = index_at(stop, i);
         let mut h: u64 = 0;
         if is_leaf(line) {
-            h = leaf_worth(line, g.lowest, g.grain);
+            h = leaf_worth(height, i, g.grain);
         } else {
             let j = chain_end(run, stop, c, i, s);
             let from = 25 * (j - c);
             let kind = kind_at(run, from);
-            h = worth_under(kind, &run[from + 25..25 * (s - c)], stop, j + 1, s, g);
+            h = worth_under(
+                kind,
+                &run[from + 25..25 * (s - c)],
+                stop,
+                weight,
+                height,
+                j + 1,
+                s,
+                g,
+            );
         }
-        a = take_child(k, a, line, h);
+        a = take_child(k, a, weight, i, h);
         i = s;
     }
     seal(k, g.total, a)
 }
 
 // The worth of one node: its run of lines, nodes c up to e.
-pub fn worth_of(run: &[u8], stop: &[u16], c: usize, e: usize, g: Scale) -> u64
-    requires { ⌜ Ready (now stop) g MAX c e (now run) ⌝ }
-    ensures { λ r. ⌜ Worthy (now (stop .entry)) g MAX c e (now (run .entry)) r ⌝ }
+pub fn worth_of(
+    run: &[u8],
+    stop: &[u16],
+    weight: &[u8],
+    height: &[u32],
+    c: usize,
+    e: usize,
+    g: Scale,
+) -> u64
+    requires { ⌜ Ready (beside (now stop) (now weight) (now height)) g MAX c e (now run) ⌝ }
+    ensures { λ r. ⌜ Worthy (beside (now (stop .entry)) (now (weight .entry)) (now (height .entry))) g MAX c e (now (run .entry)) r ⌝ }
 {
-    worth_under(1, run, stop, c, e, g)
+    worth_under(1, run, stop, weight, height, c, e, g)
 }

@@ -43,13 +43,13 @@ part-worth-of-start : tie.Need-part-worth-of-start
 part-worth-of-start c = long (taken (c .before))
 
 worth-of-requires : tie.Need-worth-of-requires
-worth-of-requires c κs = let S = c .before .before in ready-at (taken (S .before)) (S .scale-of .ensures)
+worth-of-requires c κs = let S = c .before .before .before .before in ready-at (taken (S .before)) (S .scale-of .ensures)
 
 worth-low : (W : tie.After-worth-of) → W .worth-of .result ≤ 35184372088832
-worth-low W = let S = W .before .before .before in low-at (taken (S .before)) (S .scale-of .ensures) (W .worth-of .result) (W .worth-of .ensures)
+worth-low W = let S = W .before .before .before .before .before in low-at (taken (S .before)) (S .scale-of .ensures) (W .worth-of .result) (W .worth-of .ensures)
 
 in-grains-requires : tie.Need-in-grains-requires
-in-grains-requires c κs = let W = c .before in grains-ready (taken (W .before .before .before .before)) (worth-low W)
+in-grains-requires c κs = let W = c .before in grains-ready (taken (W .before .before .before .before .before .before)) (worth-low W)
 
 returns : tie.Need-returns
 returns c =
@@ -60,7 +60,7 @@ returns c =
 returns-2 : tie.Need-returns-2
 returns-2 c =
     let W = c .before .before in
-    let S = W .before .before .before in
+    let S = W .before .before .before .before .before in
     let G = taken (S .before) in
     ap (λ (z : ℤ). Grains z (summary-of (S .before) .grain)) (grains-at G (worth-low W) (c .in-grains .ensures))
     ∙ answered-at G (S .scale-of .ensures) (W .worth-of .result) (W .worth-of .ensures)
@@ -79,6 +79,8 @@ exact-worth-spec =
     (λ c κs. spread-at (taken c))
     sub-worth-of
     part-worth-of-start
+    (λ c. search needs)
+    (λ c. search needs)
     (λ c. search needs)
     (λ c. search needs)
     worth-of-requires

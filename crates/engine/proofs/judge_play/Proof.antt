@@ -47,7 +47,7 @@ part-judge-table-start : tie.Need-part-judge-table-start
 part-judge-table-start c = long (taken (c .before))
 
 judge-table-requires : tie.Need-judge-table-requires
-judge-table-requires c κs = let S = c .before .before in whole-at (taken (S .before)) (S .scale-of .ensures)
+judge-table-requires c κs = let S = c .before .before .before .before in whole-at (taken (S .before)) (S .scale-of .ensures)
 
 returns : tie.Need-returns
 returns c =
@@ -60,7 +60,7 @@ number-back s = search needs
 
 returns-2 : tie.Need-returns-2
 returns-2 c =
-    let S = c .before .before .before in
+    let S = c .before .before .before .before .before in
     let R = read-of (S .before) in
     given-at (taken (S .before)) (S .scale-of .ensures) (number-of R) (c .judge-table .result)
     (rw (number-back (R .before .before .before .before .before .before)) at (c .judge-table .ensures))
@@ -79,6 +79,8 @@ judge-play-spec =
     (λ c κs. spread-at (taken c))
     sub-judge-table
     part-judge-table-start
+    (λ c. search needs)
+    (λ c. search needs)
     (λ c. search needs)
     (λ c. search needs)
     judge-table-requires

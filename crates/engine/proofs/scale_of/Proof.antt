@@ -1,6 +1,6 @@
 -- `engine::scale_of` meets its contract. Assumes nothing.
 use Prim.Native.Nat.{ℕ, _*_, _≤_}
-use mathlib.Core.Path.{_≡_, ap, ap₂, _∙_}
+use mathlib.Core.Path.{_≡_, ap, _∙_}
 use native.Mathlib.Nat.{mul-le-mul}
 use native.Mathlib.Omega.{arith}
 use borrow.Author.Needs.{sfits-of, needs}
@@ -46,12 +46,10 @@ mul-top c =
 
 returns : tie.Need-returns
 returns c =
-    let N = c .before .before in
+    let N = c .before in
     let s = N .before .before .before in
     let t : Summary = s .args .t in
-    ap₂ (λ (lo : ℤ) (n : ℕ). record { total = t .total; lowest = lo; grain = t .grain; top = n * t .grain })
-    (read-back (t .lowest) (omega (arith, s .pre .lowest)))
-    (span-is N)
+    ap (λ (n : ℕ). record { total = t .total; grain = t .grain; top = n * t .grain }) (span-is N)
 
 pub scale-of-spec : {M : Type 1} → statement M
 scale-of-spec = tie.close (tie.spec sub-natural natural-requires mul-top returns)

@@ -1,13 +1,8 @@
 -- `judge::child_worth` meets its contract. Assumes nothing.
-use Prim.Native.Nat.{_*_}
-use mathlib.Core.Path.{ap, _∙_}
 use native.Mathlib.Omega.{arith}
-use borrow.Author.Needs.{sfits-of, needs}
+use borrow.Author.Needs.{needs}
 use denote.Ref.{now}
-use lib.IntN.{ℤ}
-use mir.Syntax.{w64}
-use mir.ValLaws.{toZ-ofZ}
-use Rattle.worth.specs.Inside.{heightIn}
+use Rattle.worth.specs.Inside.{beside}
 use Rattle.worth.proofs.Run.{lays-le}
 use Rattle.judge.proofs.Lone.{lone-worth}
 use Rattle.judge.proofs.child_worth.Statement.{statement}
@@ -15,19 +10,18 @@ use Rattle.judge.proofs.child_worth.Tie as tie
 
 add-if1 : tie.Need-add-if1
 add-if1 c =
-    let s = c .before .before in
+    let s = c .before .before .before .before in
     let a = s .args in
     let R = s .pre in
-    record { fits = omega (arith, R .few, lays-le (now (a .stop)) (a .g .lowest) (a .i) (a .e) (now (a .run)) (R .nodes) (R .lays)) }
+    record { fits = omega (arith, R .few, lays-le (beside (now (a .stop)) (now (a .weight)) (now (a .height))) (a .i) (a .e) (now (a .run)) (R .nodes) (R .lays)) }
 
 leaf-worth-requires : tie.Need-leaf-worth-requires
 leaf-worth-requires c κs = search needs
 
 returns : tie.Need-returns
 returns c =
-    let a = c .before .before .before .before .before .args in
-    λ R. lone-worth (now (a .stop)) (a .g) (a .i) (a .e) (now (a .run)) (c .before .before .if1 .taken) R (c .leaf-worth .result)
-    (c .leaf-worth .ensures ∙ ap (λ (z : ℤ). heightIn z (now (a .run)) * a .g .grain) (toZ-ofZ w64 (a .g .lowest) (sfits-of (omega (arith, R .scale .lowest)))))
+    let a = c .before .before .before .before .before .before .args in
+    λ R. lone-worth (beside (now (a .stop)) (now (a .weight)) (now (a .height))) (a .g) (a .i) (a .e) (now (a .run)) (c .before .if1 .taken) R (c .leaf-worth .result) (c .leaf-worth .ensures)
 
 worth-of-requires : tie.Need-worth-of-requires
 worth-of-requires c κs = search needs

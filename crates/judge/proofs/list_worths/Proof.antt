@@ -4,37 +4,38 @@ use mathlib.Core.Path.{_≡_, refl, _∙_}
 use native.Mathlib.Omega.{arith}
 use denote.Ref.{now}
 use lib.ListN.{length, length-set}
+use Rattle.worth.specs.Inside.{beside}
 use Rattle.judge.specs.Inside.{Under}
 use Rattle.judge.proofs.Run.{Child, part-ready, part-worth, ListingAll, list-start, list-child, list-turn, list-end}
 use Rattle.judge.proofs.list_worths.Statement.{statement}
 use Rattle.judge.proofs.list_worths.Tie as tie
 
 abbrev Inv-loop : tie.InvT-loop
-Inv-loop lines stop n g list₀ m₀ i₀ list m i = (length list ≡ length list₀) × ListingAll stop g n lines list₀ list m i
+Inv-loop lines stop weight height n g list₀ m₀ i₀ list m i = (length list ≡ length list₀) × ListingAll (beside stop weight height) g n lines list₀ list m i
 
 abbrev μ-loop : tie.MeasureT-loop
-μ-loop lines stop n g list₀ m₀ i₀ list m i = n - i
+μ-loop lines stop weight height n g list₀ m₀ i₀ list m i = n - i
 
 loop-holds : tie.Need-loop-holds Inv-loop μ-loop
 loop-holds c =
-    let a = c .before .before .before .args in
-    (refl, list-start (now (a .stop)) (a .g) (a .n) (now (a .lines)) (now (a .list)))
+    let a = c .before .before .before .before .before .args in
+    (refl, list-start (beside (now (a .stop)) (now (a .weight)) (now (a .height))) (a .g) (a .n) (now (a .lines)) (now (a .list)))
 
 abbrev start-of : tie.In-loop Inv-loop μ-loop → tie.Start Inv-loop μ-loop
-start-of c = c .before .before .before .before .before
+start-of c = c .before .before .before .before .before .before .before
 
 -- the child at node i
 child : (c : tie.In-loop Inv-loop μ-loop)
     → let a = start-of c .args in
-    (U : Under (now (a .stop)) (a .g) (a .n) (now (a .lines)) (length (now (a .list))))
-    → Child (now (a .stop)) (a .g) (a .n) (now (a .lines)) (c .before .loop .i) (c .before .loop .inv .1 U .rest)
+    (U : Under (beside (now (a .stop)) (now (a .weight)) (now (a .height))) (a .g) (a .n) (now (a .lines)) (length (now (a .list))))
+    → Child (beside (now (a .stop)) (now (a .weight)) (now (a .height))) (a .g) (a .n) (now (a .lines)) (c .before .loop .i) (c .before .loop .inv .1 U .rest)
 child c U =
     let a = start-of c .args in
     let l = c .before .loop in
-    list-child (now (a .stop)) (a .g) (a .n) (now (a .lines)) (now (a .list)) (l .list) (l .m) (l .i) U (l .inv .1) (c .loop-test .taken)
+    list-child (beside (now (a .stop)) (now (a .weight)) (now (a .height))) (a .g) (a .n) (now (a .lines)) (now (a .list)) (l .list) (l .m) (l .i) U (l .inv .1) (c .loop-test .taken)
 
 stop-at-requires : tie.Need-stop-at-requires Inv-loop μ-loop
-stop-at-requires c κs = omega (arith, c .loop-test .taken, start-of c .pre .fits .room)
+stop-at-requires c κs = omega (arith, c .loop-test .taken, start-of c .pre .fits .room .stops)
 
 mul-child-worth : tie.Need-mul-child-worth Inv-loop μ-loop
 mul-child-worth c = record { fits = omega (arith, c .before .loop-test .taken, start-of (c .before) .pre .fits .few) }
@@ -60,18 +61,18 @@ child-worth-requires c κs =
     let q = c .before .before in
     let s = start-of q in
     let a = s .args in
-    part-ready (now (a .stop)) (a .g) (a .n) (now (a .lines)) (s .pre .fits) (q .before .loop .i) (q .before .loop .inv .1 (s .pre) .rest) (child q (s .pre)) (c .before .stop-at .result) (c .before .stop-at .ensures)
+    part-ready (beside (now (a .stop)) (now (a .weight)) (now (a .height))) (a .g) (a .n) (now (a .lines)) (s .pre .fits) (q .before .loop .i) (q .before .loop .inv .1 (s .pre) .rest) (child q (s .pre)) (c .before .stop-at .result) (c .before .stop-at .ensures)
 
 -- what the child is worth
 worth : (c : tie.After-child-worth Inv-loop μ-loop)
     → let q = c .before .before .before in
     let a = start-of q .args in
-    (U : Under (now (a .stop)) (a .g) (a .n) (now (a .lines)) (length (now (a .list)))) → c .child-worth .result ≡ child q U .share .worth
+    (U : Under (beside (now (a .stop)) (now (a .weight)) (now (a .height))) (a .g) (a .n) (now (a .lines)) (length (now (a .list)))) → c .child-worth .result ≡ child q U .share .worth
 worth c U =
     let q = c .before .before .before in
     let a = start-of q .args in
     let t = c .before .before .stop-at in
-    part-worth (now (a .stop)) (a .g) (a .n) (now (a .lines)) (U .fits) (q .before .loop .i) (q .before .loop .inv .1 U .rest) (child q U) (t .result) (t .ensures) (c .child-worth .result) (c .child-worth .ensures)
+    part-worth (beside (now (a .stop)) (now (a .weight)) (now (a .height))) (a .g) (a .n) (now (a .lines)) (U .fits) (q .before .loop .i) (q .before .loop .inv .1 U .rest) (child q U) (t .result) (t .ensures) (c .child-worth .result) (c .child-worth .ensures)
 
 -- the list has an entry m
 entry : (c : tie.In-loop Inv-loop μ-loop) → (c .before .loop .m < 1024) × (c .before .loop .m < length (c .before .loop .list))
@@ -104,7 +105,7 @@ loop-again c =
     let a = start-of q .args in
     let t = c .before .before .stop-at in (
       length-set (l .list) (l .m) (c .child-worth .result) ∙ l .inv .0,
-      λ U. list-turn (now (a .stop)) (a .g) (a .n) (now (a .lines)) (now (a .list)) (l .list) (l .m) (l .i) U (l .inv .1) (q .loop-test .taken) (c .child-worth .result) (l .m + 1) (t .result) (worth c U) refl (t .ensures),
+      λ U. list-turn (beside (now (a .stop)) (now (a .weight)) (now (a .height))) (a .g) (a .n) (now (a .lines)) (now (a .list)) (l .list) (l .m) (l .i) U (l .inv .1) (q .loop-test .taken) (c .child-worth .result) (l .m + 1) (t .result) (worth c U) refl (t .ensures),
     )
 
 same-length : tie.Need-same-length Inv-loop μ-loop
@@ -113,8 +114,8 @@ same-length c = c .before .loop .inv .0
 returns : tie.Need-returns Inv-loop μ-loop
 returns c =
     let l = c .before .loop in
-    let a = c .before .before .before .before .before .args in
-    λ U. list-end (now (a .stop)) (a .g) (a .n) (now (a .lines)) (now (a .list)) (l .list) (l .m) (l .i) U (l .inv .1) (c .loop-test .left)
+    let a = c .before .before .before .before .before .before .before .args in
+    λ U. list-end (beside (now (a .stop)) (now (a .weight)) (now (a .height))) (a .g) (a .n) (now (a .lines)) (now (a .list)) (l .list) (l .m) (l .i) U (l .inv .1) (c .loop-test .left)
 
 pub list-worths-spec : {M : Type 1} → statement M
 list-worths-spec =
