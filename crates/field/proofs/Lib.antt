@@ -1,6 +1,5 @@
 pub mod Bits
 pub mod Inverse
-pub mod Columns
 pub mod Reader
 pub mod Reading
 pub mod RoundTrip

@@ -5,6 +5,7 @@ use mathlib.Core.Bool.{Bool, true, false, cond, not, _||_, _&&_}
 use mathlib.Core.List.{List}
 use lib.Dec.{eqb, ltb}
 use lib.ListN.{length, getD, drop}
+use lib.IntN.{ℤ, pos, negℤ}
 use Rattle.field.specs.Field.{strip}
 
 -- no digit
@@ -29,3 +30,7 @@ Starts t r = (r ≤ length t) × (strange (beforeOf t r) ≡ true) × ((i : ℕ)
 -- the digits t with c before them are no number: c is neither a blank nor a minus, or a zero comes first that does not stand alone
 abbrev pub off : ℕ → List ℕ → Bool
 off c t = (not (eqb c 32) && not (eqb c 45)) || (eqb (getD t 0 0) 48 && (eqb c 45 || ltb 1 (length t)))
+
+abbrev pub withSign : Bool → ℕ → ℤ
+withSign true n = negℤ (pos n)
+withSign false n = pos n

@@ -5,13 +5,12 @@ ghost use mathlib.Core.Bool.{cond, true, false};
 ghost use mathlib.Core.List.{_∷_};
 ghost use Prim.Native.Nat.{_+_, _-_, _*_, _≤_, _<_, _^_};
 ghost use lib.Dec.{eqb};
-ghost use lib.ListN.{length, take, drop};
+ghost use lib.ListN.{length, drop};
 ghost use lib.IntN.{natAbs};
 ghost use Rattle.field.specs.Field.{strip, digits, signed, fieldOf, digit, textOf, written};
 ghost use Rattle.field.specs.declared.Whole.the-variants.{Digits};
 ghost use Rattle.field.specs.declared.Field.the-variants.{Ill};
-ghost use Rattle.field.specs.Reader.{Blanks, Starts, AllDigits, strange, beforeOf, off};
-ghost use Rattle.field.specs.Columns.{gathered, hasMinus, withSign, knownOf};
+ghost use Rattle.field.specs.Reader.{Blanks, Starts, AllDigits, strange, beforeOf, off, withSign};
 
 // The number that a run of digits means, or none; for the definitions alone.
 pub enum Whole {
@@ -154,61 +153,11 @@ pub fn read(s: &[u8], from: usize, width: usize) -> Field
     read_columns(&s[from..from + width])
 }
 
-// What a column counts: blanks and the minus count 0. To widen the byte first takes fewer instructions.
-fn counted(b: u8) -> u64
-    ensures { λ r. ⌜ (r ≡ b - 48) × (r ≤ 207) ⌝ }
-{
-    let d = b as u64;
-    if d < 48 { 0 } else { d - 48 }
-}
-
-// Whether a minus stands in a column, or in one before it.
-fn minus_by(negative: bool, b: u8) -> bool
-    ensures { λ r. ⌜ r ≡ cond (eqb b 45) true negative ⌝ }
-{
-    if b == b'-' { true } else { negative }
-}
-
 fn with_sign(negative: bool, n: u64) -> i64
     requires { ⌜ n < 10 ^ 18 ⌝ }
     ensures { λ r. ⌜ r ≡ withSign negative n ⌝ }
 {
     if negative { -(n as i64) } else { n as i64 }
-}
-
-// The number that columns count, with no branch on what stands in them.
-pub fn count(t: &[u8]) -> u64
-    requires { ⌜ length (now t) ≤ 15 ⌝ }
-    ensures { λ r. ⌜ (r ≡ gathered 0 (now (t .entry))) × (r ≤ 23 * 10 ^ length (now (t .entry))) ⌝ }
-{
-    let mut n: u64 = 0;
-    let mut i = 0;
-    while i < t.len() {
-        n = n * 10 + counted(t[i]);
-        i += 1;
-    }
-    n
-}
-
-fn has_minus(t: &[u8]) -> bool
-    ensures { λ r. ⌜ r ≡ hasMinus false (now (t .entry)) ⌝ }
-{
-    let mut negative = false;
-    let mut i = 0;
-    while i < t.len() {
-        negative = minus_by(negative, t[i]);
-        i += 1;
-    }
-    negative
-}
-
-// The number in a field that is known to be well-written and to have no digit in its first column; 0 where it is blank.
-pub fn known(s: &[u8], from: usize, width: usize) -> i64
-    requires { ⌜ (from + width ≤ length (now s)) × (0 < width) × (width ≤ 15) ⌝ }
-    ensures { λ r. ⌜ (r ≡ knownOf (take width (drop from (now (s .entry))))) × (natAbs r ≤ 23 * 10 ^ width) ⌝ }
-{
-    let t = &s[from..from + width];
-    with_sign(has_minus(t), count(&t[1..]))
 }
 
 // The last digit of n.
