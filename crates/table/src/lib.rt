@@ -123,12 +123,20 @@ fn index(x: u16) -> usize
     x as usize
 }
 
-// One past the run of node i, from child to child: the entries of the later nodes are there.
-fn run_end(up: &[u16], stop: &[u16], i: usize, n: usize) -> usize
-    requires { ⌜ (i < n) × (n ≤ length (now up)) × (n ≤ length (now stop)) × (n ≤ 1024) × HasStops (take n (now up)) (now stop) (i + 1) ⌝ }
+// One past the run of node i, from child to child: the entries of the later nodes are there, and `next` is that of node i + 1, so that on a
+// path no entry is waited for that was just written.
+fn run_end(up: &[u16], stop: &[u16], i: usize, n: usize, next: usize) -> usize
+    requires { ⌜ (i < n) × (n ≤ length (now up)) × (n ≤ length (now stop)) × (n ≤ 1024) × HasStops (take n (now up)) (now stop) (i + 1) × (i + 1 < n → next ≡ stopIn (take n (now up)) (i + 1)) ⌝ }
     ensures { λ r. ⌜ r ≡ stopIn (take n (now (up .entry))) i ⌝ }
 {
-    let mut j = i + 1;
+    let c = i + 1;
+    if n <= c {
+        return c;
+    }
+    if index(up[c]) < i {
+        return c;
+    }
+    let mut j = next;
     while j < n {
         if index(up[j]) < i {
             return j;
@@ -144,9 +152,10 @@ fn stops(up: &[u16], n: usize, stop: &mut [u16])
     ensures { λ _. ⌜ now (stop .exit) ≡ laid (stopsFrom 0 (take n (now (up .entry)))) (now (stop .entry)) ⌝ }
 {
     let mut i = n;
+    let mut e = n;
     while 0 < i {
         i -= 1;
-        let e = run_end(up, stop, i, n);
+        e = run_end(up, stop, i, n, e);
         stop[i] = e as u16;
     }
 }

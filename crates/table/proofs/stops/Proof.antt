@@ -1,17 +1,17 @@
 -- `table::stops` meets its contract. Assumes nothing.
-use Prim.Native.Nat.{_+_, _-_, _≤_}
+use Prim.Native.Nat.{_+_, _-_, _≤_, _<_}
 use mathlib.Core.Path.{_≡_, refl, _∙_}
 use native.Mathlib.Omega.{arith}
 use denote.Ref.{now}
 use lib.ListN.{length, take, drop, length-set}
 use lib.Seq.{length-take-le, drop-set-lt}
-use Rattle.table.specs.Inside.{HasStops}
+use Rattle.table.specs.Inside.{stopIn, HasStops}
 use Rattle.table.proofs.Reach.{stop-small, stops-laid, stops-more}
 use Rattle.table.proofs.stops.Statement.{statement}
 use Rattle.table.proofs.stops.Tie as tie
 
 abbrev Inv-loop : tie.InvT-loop
-Inv-loop up n stop₀ i₀ stop i =
+Inv-loop up n stop₀ i₀ e₀ stop i e =
     (i ≤ n)
     × (n ≤ length up)
     × (n ≤ length stop₀)
@@ -19,14 +19,15 @@ Inv-loop up n stop₀ i₀ stop i =
     × (length stop ≡ length stop₀)
     × HasStops (take n up) stop i
     × (drop n stop ≡ drop n stop₀)
+    × (i < n → e ≡ stopIn (take n up) i)
 
 abbrev μ-loop : tie.MeasureT-loop
-μ-loop up n stop₀ i₀ stop i = i
+μ-loop up n stop₀ i₀ e₀ stop i e = i
 
 loop-holds : tie.Need-loop-holds Inv-loop μ-loop
 loop-holds c =
     let b = c .before .before in
-    (omega arith, b .pre .0, b .pre .1, b .pre .2, refl, (λ j p q. absurd (omega (arith, length-take-le (b .args .n) (now (b .args .up)) (b .pre .0)))), refl)
+    (omega arith, b .pre .0, b .pre .1, b .pre .2, refl, (λ j p q. absurd (omega (arith, length-take-le (b .args .n) (now (b .args .up)) (b .pre .0)))), refl, λ l. absurd (omega arith))
 
 sub-i : tie.Need-sub-i Inv-loop μ-loop
 sub-i c = omega arith
@@ -37,7 +38,7 @@ run-end-requires c κs =
     let v = l .loop .inv in
     let t = c .before .loop-test .taken in
     let e : l .loop .i - 1 + 1 ≡ l .loop .i = omega arith in
-    (omega (arith, v .0), v .1, omega (arith, v .2, v .4), v .3, rw e (v .5))
+    (omega (arith, v .0), v .1, omega (arith, v .2, v .4), v .3, rw e (v .5), rw e (v .7))
 
 cast-stop : tie.Need-cast-stop Inv-loop μ-loop
 cast-stop c =
@@ -71,6 +72,7 @@ loop-again c =
       length-set (l .loop .stop) (l .loop .i - 1) (c .run-end .result) ∙ v .4,
       stops-more (take (a .n) (now (a .up))) (l .loop .stop) (l .loop .i - 1) (c .run-end .result) (rw e (v .5)) (c .run-end .ensures) (omega (arith, v .0, v .2, v .4)),
       drop-set-lt (a .n) (l .loop .stop) (l .loop .i - 1) (c .run-end .result) (omega (arith, v .0)) ∙ v .6,
+      λ h. c .run-end .ensures,
     )
 
 same-length : tie.Need-same-length Inv-loop μ-loop
