@@ -19,7 +19,7 @@ highsOf rs = map (λ (r : Pair ℤ). r .high) rs
 abbrev pub risen : ℤ → List ℕ → List ℤ
 risen b hs = map (λ (h : ℕ). b +ℤ pos h) hs
 
--- the first n of them have few digits
+-- the first n of them, added to b, stay within 64 bits
 abbrev pub Small : ℤ → ℕ → List ℕ → Type 0
 Small b n hs = (i : ℕ) → i < n → (mag b ≤ 35184372088832) × (getD hs i 0 ≤ 35184372088832)
 

@@ -17,7 +17,7 @@ struct Step {
 }
 
 // The extremes of the bounds of a node's children.
-struct Ends {
+struct Bounds {
     pub low: u64,
     pub high: u64,
 }
@@ -145,7 +145,7 @@ fn join(kind: u8, x: u64, y: u64) -> u64
 }
 
 // Lines 15 and 16: "the maximum or minimum over all children, unread ones included". Each child is come to once, for both bounds.
-fn extremes(kind: u8, stop: &[u16], low: &[u64], high: &[u64], c: usize, e: usize) -> Ends
+fn extremes(kind: u8, stop: &[u16], low: &[u64], high: &[u64], c: usize, e: usize) -> Bounds
     requires { ⌜ Children (now stop) c e × (c < e) × (e ≤ length (now low)) × (e ≤ length (now high)) ⌝ }
     ensures { λ r. ⌜ Extreme (kindOf kind) (now (stop .entry)) c e (now (low .entry)) (r .low) × Extreme (kindOf kind) (now (stop .entry)) c e (now (high .entry)) (r .high) ⌝ }
 {
@@ -157,7 +157,7 @@ fn extremes(kind: u8, stop: &[u16], low: &[u64], high: &[u64], c: usize, e: usiz
         h = join(kind, h, bound_at(high, i));
         i = node_at(stop, i);
     }
-    Ends { low: l, high: h }
+    Bounds { low: l, high: h }
 }
 
 // The node c, whose children are the entries after it up to e, gets the extremes of their bounds.

@@ -116,7 +116,7 @@ stops-are h n s ls u u′ st st′ e p q =
 -- slices whose first N entries agree hold the same nodes
 module _ (S S′ : Slices) (N : ℕ)
     (same : (i : ℕ) → i < N → (getD (S′ .kinds) i 0 ≡ getD (S .kinds) i 0) × (getD (S′ .stops) i 0 ≡ getD (S .stops) i 0) × (getD (S′ .weights) i 0 ≡ getD (S .weights) i 0) × (getD (S′ .heights) i 0 ≡ getD (S .heights) i 0)) where
-  pub spans-same : (c e : ℕ) (f : Forest ℕ) → e ≤ N → Spans S c e f → Spans S′ c e f
+  spans-same : (c e : ℕ) (f : Forest ℕ) → e ≤ N → Spans S c e f → Spans S′ c e f
   unfolding Spans
   spans-same c e end l h = h
   spans-same c e (leaf n w v rest) l h =

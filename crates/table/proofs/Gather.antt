@@ -2,7 +2,7 @@
 use Prim.Native.Nat.{ℕ, zero, suc, _+_, _-_, _*_, _≤_, _<_, max}
 use mathlib.Core.Path.{_≡_, refl, sym, ap, ap₂, subst, _∙_}
 use mathlib.Core.Bool.{Bool, true, false, cond}
-use mathlib.Core.List.{List, [], _∷_, _++_, map, append-assoc, append-nil}
+use mathlib.Core.List.{List, [], _∷_, _++_, map, map-append, append-assoc, append-nil}
 use native.Mathlib.Omega.{arith}
 use native.Mathlib.Nat.{le-trans}
 use native.Mathlib.Numerals.{add-one}
@@ -69,15 +69,11 @@ unfolding leafLines
 leaves-more [] l = omega arith
 leaves-more (k ∷ ls) l = rw (leaves-more ls l) (omega arith)
 
-map-more : (f : Line → ℕ) (ls : List Line) (l : Line) → map f (ls ++ (l ∷ [])) ≡ map f ls ++ (f l ∷ [])
-map-more f [] l = refl
-map-more f (k ∷ ls) l = ap (λ (xs : List ℕ). f k ∷ xs) (map-more f ls l)
-
 pub entry-more : (f : Line → ℕ) (ls : List Line) (l : Line) (a : List ℕ) (i : ℕ) → length ls ≡ i → i < length a
     → set (laid (map f ls) a) i (f l) ≡ laid (map f (ls ++ (l ∷ []))) a
 entry-more f ls l a i e h =
     let m : length (map f ls) ≡ i = length-map ls f ∙ e in
-    rw (map-more f ls l, laid-more (map f ls) a (f l) (omega arith), m)
+    rw (map-append f ls (l ∷ []), laid-more (map f ls) a (f l) (omega arith), m)
 
 prefix-prefix : (a b : List Line) (v : Verdict (List Line)) → prefix a (prefix b v) ≡ prefix (a ++ b) v
 prefix-prefix a b (refused r) = refl

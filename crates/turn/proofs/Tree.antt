@@ -7,7 +7,7 @@ use native.Mathlib.Omega.{arith}
 use borrow.Author.Tests.{eqb-true}
 use lib.Dec.{eqb, leb}
 use lib.ListN.{length, length-map}
-use lib.IntN.{ℤ, pos, negsuc, negℤ}
+use lib.IntN.{ℤ, negℤ, negℤ-negℤ}
 use Rattle.line.specs.declared.Line.{Line}
 use Rattle.line.specs.Refusal.{fine}
 use Rattle.table.specs.Tree.{Kind, MAX, MIN, CHANCE, Forest, end, leaf, inner, kindOf, isChance, run, after, grow, forest, isEnd, weigh, nodesWhere, childless, unbalanced, leaves}
@@ -16,12 +16,7 @@ use Rattle.turn.specs.Text.{tableText}
 use Rattle.turn.specs.Turn.{turnCode, turnLine, turnTable, turnKind, turnTree}
 use Rattle.turn.proofs.Canonical.{canonical}
 
--- ---- one number
-
-pub neg-neg : (z : ℤ) → negℤ (negℤ z) ≡ z
-neg-neg (pos zero) = refl
-neg-neg (pos (suc n)) = refl
-neg-neg (negsuc n) = refl
+-- ---- one kind
 
 -- a kind's number is that of M, of N or another, which turning keeps
 data Code (k : ℕ) : Type 0 where
@@ -85,12 +80,12 @@ kind-chance CHANCE = refl
 
 lines-twice : (ls : List Line) → map turnLine (map turnLine ls) ≡ ls
 lines-twice [] = refl
-lines-twice (l ∷ ls) = ap₂ _∷_ (ap₂ (λ (k : ℕ) (u : ℤ). record { node = l .node; kind = k; parent = l .parent; weight = l .weight; utility = u; chances = l .chances }) (code-twice (l .kind)) (neg-neg (l .utility))) (lines-twice ls)
+lines-twice (l ∷ ls) = ap₂ _∷_ (ap₂ (λ (k : ℕ) (u : ℤ). record { node = l .node; kind = k; parent = l .parent; weight = l .weight; utility = u; chances = l .chances }) (code-twice (l .kind)) (negℤ-negℤ (l .utility))) (lines-twice ls)
 
 pub table-twice : (t : Table) → turnTable (turnTable t) ≡ t
 table-twice t =
-    let lowest = neg-neg (t .head .lowest) in
-    let highest = neg-neg (t .head .highest) in
+    let lowest = negℤ-negℤ (t .head .lowest) in
+    let highest = negℤ-negℤ (t .head .highest) in
     let lines = lines-twice (t .lines) in
     λ j. record { head = record { total = t .head .total; lowest = lowest j; highest = highest j }; lines = lines j }
 
