@@ -21,12 +21,12 @@ use Rattle.engine.proofs.Answered.{Sizes, Below}
 use Rattle.engine.proofs.RollAnswered.{RollSized}
 use Rattle.judge.specs.declared.Play.{Play}
 use Rattle.judge.specs.declared.Play.the-variants.{Child, NoPlay}
-use Rattle.abi.specs.Numbers.{nodeNumber, Small, SmallBounds, SmallRolled}
+use Rattle.abi.specs.Numbers.{nodeNumber, SmallSummary, SmallBounds, SmallRolled}
 
-pub small : (s : List ℕ) (t : Summary) → answer (readText s) ≡ Accepted t → Small t
+pub small : (s : List ℕ) (t : Summary) → answer (readText s) ≡ Accepted t → SmallSummary t
 small s t e =
     let (T, p, q) = answer-accepted (readText s) t e in
-    subst Small q (record {
+    subst SmallSummary q (record {
       nodes = omega (arith, accepted-size s T p);
       total = omega (arith, accepted-ranged s T p .total);
       chances = omega (arith, accepted-few s T p);

@@ -24,9 +24,9 @@ use Rattle.engine.specs.declared.Exact
 use Rattle.engine.specs.declared.Exact.{Exact}
 
 -- 0, or the refusal's line and number as one: the number in the last two decimal digits, so that 309 is refusal 9 at line 3
-abbrev pub codeOf : Reading → ℕ
-codeOf (Accepted t) = 0
-codeOf (Refused r) = 100 * lineOf r + numberOf r
+abbrev pub readCode : Reading → ℕ
+readCode (Accepted t) = 0
+readCode (Refused r) = 100 * lineOf r + numberOf r
 
 -- the table's numbers; none where it is refused
 abbrev pub numbersOf : Reading → List ℤ
@@ -100,7 +100,7 @@ module _ {A : Type 0} where
   put i (x ∷ xs) l = put (suc i) xs (set l i x)
 
 -- a table's counts fit a signed number
-pub record Small (t : Summary) : Type 0 where
+pub record SmallSummary (t : Summary) : Type 0 where
   pub nodes : t .nodes < 2 ^ 63
   pub total : t .total < 2 ^ 63
   pub chances : t .chances < 2 ^ 63

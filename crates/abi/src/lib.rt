@@ -8,7 +8,7 @@ ghost use Rattle.line.specs.Refusal.{lineOf};
 ghost use Rattle.table.specs.Table.{readText, answer};
 ghost use Rattle.table.specs.Slices.{laid, fitted, kindsOf, stopsOf, weightsOf, heightsOf, decoded};
 ghost use Rattle.engine.specs.Calls.{exactCall, judgeCall, searchCall, searchReads, rollCall, rollReads, rollStore, recorded, turnCall, turnBytes};
-ghost use Rattle.abi.specs.Numbers.{codeOf, numbersOf, worthCode, worthNumbers, judgeCode, judgedNumbers, judgeNumbers, nodeNumber, searchCode, boundsNumbers, searchNumbers, rollCode, rollNumbers, turnedCode, put, Small, SmallBounds, SmallRolled};
+ghost use Rattle.abi.specs.Numbers.{readCode, numbersOf, worthCode, worthNumbers, judgeCode, judgedNumbers, judgeNumbers, nodeNumber, searchCode, boundsNumbers, searchNumbers, rollCode, rollNumbers, turnedCode, put, SmallSummary, SmallBounds, SmallRolled};
 use engine::Bounded;
 use engine::Bounds;
 use engine::Exact;
@@ -38,7 +38,7 @@ fn signed(n: u64) -> i64
 }
 
 fn put_table(t: Summary, numbers: &mut [i64])
-    requires { ⌜ Small t ⌝ }
+    requires { ⌜ SmallSummary t ⌝ }
     ensures { λ _. ⌜ now (numbers .exit) ≡ put 0 (numbersOf (Reading.Accepted t)) (now (numbers .entry)) ⌝ }
 {
     put_at(numbers, 0, signed(t.nodes as u64));
@@ -52,7 +52,7 @@ fn put_table(t: Summary, numbers: &mut [i64])
 
 fn refusal_code(r: Refusal) -> u64
     requires { ⌜ lineOf r ≤ 1024 ⌝ }
-    ensures { λ n. ⌜ n ≡ codeOf (Reading.Refused r) ⌝ }
+    ensures { λ n. ⌜ n ≡ readCode (Reading.Refused r) ⌝ }
 {
     100 * (line::refusal_line(r) as u64) + line::refusal_number(r)
 }
@@ -68,7 +68,7 @@ pub extern "C" fn margin_read(
     weight: &mut [u8],
     height: &mut [u32],
 ) -> u64
-    ensures code { λ r. ⌜ r ≡ codeOf (answer (readText (now (text .entry)))) ⌝ }
+    ensures code { λ r. ⌜ r ≡ readCode (answer (readText (now (text .entry)))) ⌝ }
     ensures numbers { λ _. ⌜ now (numbers .exit) ≡ put 0 (numbersOf (answer (readText (now (text .entry))))) (now (numbers .entry)) ⌝ }
     ensures kinds { λ _. ⌜ now (kind .exit) ≡ fitted (decoded kindsOf (readText (now (text .entry)))) (now (kind .entry)) ⌝ }
     ensures stops { λ _. ⌜ now (stop .exit) ≡ fitted (decoded stopsOf (readText (now (text .entry)))) (now (stop .entry)) ⌝ }

@@ -8,7 +8,7 @@ use lib.IntN.{ℤ}
 use Rattle.table.specs.declared.Reading.{Reading}
 use Rattle.table.specs.declared.Reading.the-variants.{Accepted, Refused}
 use Rattle.table.specs.Table.{readText, answer}
-use Rattle.abi.specs.Numbers.{codeOf, numbersOf, put}
+use Rattle.abi.specs.Numbers.{readCode, numbersOf, put}
 use Rattle.table.proofs.Places.{refused-line}
 use Rattle.table.proofs.Accepted.{answer-refused}
 use Rattle.abi.proofs.Answers.{small}
@@ -42,7 +42,7 @@ returns c =
     let r = c .before .before .r .given in
     let R = c .before .before .before .before .before .before .before .before .before .before .before .before in
     let e = said R (Refused (r .0 .0)) (r .1) in
-    (c .refusal-code .ensures ∙ sym (ap codeOf e), (sym (ap (λ (x : Reading). put 0 (numbersOf x) (numbers-of R)) e), R .read .ensures .1))
+    (c .refusal-code .ensures ∙ sym (ap readCode e), (sym (ap (λ (x : Reading). put 0 (numbersOf x) (numbers-of R)) e), R .read .ensures .1))
 
 returns-2 : tie.Need-returns-2
 returns-2 c =
@@ -50,7 +50,7 @@ returns-2 c =
     let t = T .before .before .before .t .given in
     let R = T .before .before .before .before .before .before .before .before .before .before .before .before .before in
     let e = said R (Accepted (t .0 .0)) (t .1) in
-    (sym (ap codeOf e), (T .put-table .ensures ∙ sym (ap (λ (x : Reading). put 0 (numbersOf x) (numbers-of R)) e), R .read .ensures .1))
+    (sym (ap readCode e), (T .put-table .ensures ∙ sym (ap (λ (x : Reading). put 0 (numbersOf x) (numbers-of R)) e), R .read .ensures .1))
 
 pub margin-read-spec : {M : Type 1} → statement M
 margin-read-spec =
