@@ -1,4 +1,4 @@
--- The customer's demands at the public calls. Assumes nothing.
+-- Demand 3 at the public calls, and demand 2's sentence on rollouts. Assumes nothing.
 use Prim.Native.Nat.{ℕ, _≤_}
 use mathlib.Core.Path.{_≡_, refl, sym, ap, ap₂, subst, _∙_}
 use mathlib.Core.Bool.{Bool, true, false, _||_, cond}
@@ -17,7 +17,6 @@ use Rattle.line.specs.Line.{toNat}
 use Rattle.line.proofs.Checks.{or-left}
 use Rattle.table.specs.Tree.{leaves}
 use Rattle.table.specs.Table.{Table, tree, readText, grain}
-use Rattle.table.specs.Slices.{laid}
 use Rattle.worth.specs.Worth.{worthOf}
 use Rattle.judge.specs.Judge.{playOf}
 use Rattle.judge.specs.declared.Play.the-variants.{Child}
@@ -32,7 +31,6 @@ use Rattle.search.specs.Turned.{Turns}
 use Rattle.search.proofs.Demand.{contains, width, play-near}
 use Rattle.search.proofs.Changed as changed
 use Rattle.search.proofs.Turned as mirror
-use Rattle.rollout.specs.declared.Record.{Record}
 use Rattle.rollout.specs.Leaves.{Distinct}
 use Rattle.rollout.specs.Rollout.{Rolled}
 use Rattle.rollout.specs.Whole.{hasChance, rolled, rolledWorth}
@@ -41,10 +39,9 @@ use Rattle.engine.specs.declared.Bounds.{Bounds}
 use Rattle.engine.specs.declared.Bounded.the-variants.{Found, Refused}
 use Rattle.engine.specs.declared.Rolled
 use Rattle.engine.specs.declared.Rolled.the-variants.{Done}
-use Rattle.engine.specs.declared.Turned
 use Rattle.engine.specs.declared.Exact.the-variants.{Grains}
-use Rattle.engine.specs.Calls.{exactCall, badMargin, Sought, sought, boundsOf, searchAnswer, searchList, searchReads, rolls, rollAnswer, rollList, rollRecords, rollCall, recorded, turnOf, turnAnswer, turnWritten}
-use Rattle.demands.specs.Demands.{childWorth, Promised, SameLines, Mirrors, Answers, Sentence1, Sentence2, GivenText, Sentence3, TurnAnswers, TurningTwice, RolloutsEnd, RollAnswers, SearchUntouched, TurnUntouched, RollUntouched}
+use Rattle.engine.specs.Calls.{exactCall, badMargin, boundsOf, searchReads, rolls, rollAnswer, rollList, rollCall, turnOf}
+use Rattle.demands.specs.Demands.{childWorth, Promised, SameLines, Mirrors, Answers, Sentence1, Sentence2, GivenText, Sentence3, TurnAnswers, TurningTwice, RolloutsEnd, RollAnswers}
 use Rattle.engine.proofs.Answered.{answered, answers, reads}
 use Rattle.engine.proofs.Turning.{turn-fine}
 use Rattle.demands.proofs.Utilities.{tree-alike, given-same, given-accepted}
@@ -230,27 +227,3 @@ roll-answers s t p list room q c long wide = (
   length (rolled t p .read),
   ap (λ (v : Verdict Table). rollCall v p list room) q ∙ rw (c, le-ltb list (leaves (tree t)) long, le-ltb room (length (t .lines)) wide) refl,
 )
-
--- ---- refused calls
-
-nothing-sought : (v : Verdict Sought) (list : List ℕ) (r : Refusal) → searchAnswer v ≡ Refused r → laid (searchList v) list ≡ list
-nothing-sought (refused x) list r e = refl
-nothing-sought (fine s) list r e = let z : _≡_ {A = ℕ} 0 1 = cc in absurd (omega arith)
-
-pub search-untouched : SearchUntouched
-search-untouched s m list r e = nothing-sought (sought (readText s) m (length list)) list r e
-
-nothing-turned : (v : Verdict (List ℕ)) (buffer : List ℕ) (r : Refusal) → turnAnswer v ≡ Turned.the-variants.Refused r → laid (turnWritten v) buffer ≡ buffer
-nothing-turned (refused x) buffer r e = refl
-nothing-turned (fine s) buffer r e = let z : _≡_ {A = ℕ} 0 1 = cc in absurd (omega arith)
-
-pub turn-untouched : TurnUntouched
-turn-untouched s buffer r e = nothing-turned (turnOf (readText s) (length buffer)) buffer r e
-
-nothing-rolled : (p : List ℕ) (v : Verdict Table) (list : List ℕ) (store : List Record) (r : Refusal) → rollAnswer p v ≡ Rolled.the-variants.Refused r
-    → (laid (rollList p v) list ≡ list) × (recorded (rollRecords p v) store ≡ store)
-nothing-rolled p (refused x) list store r e = (refl, refl)
-nothing-rolled p (fine t) list store r e = let z : _≡_ {A = ℕ} 0 1 = cc in absurd (omega arith)
-
-pub roll-untouched : RollUntouched
-roll-untouched s p list store r e = nothing-rolled p (rolls (readText s) (length list) (length store)) list store r e

@@ -1,3 +1,4 @@
+pub mod Untouched
 pub mod Utilities
 pub mod Demands
 pub mod Rows

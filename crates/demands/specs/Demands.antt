@@ -1,5 +1,5 @@
--- The customer's demands at the public calls, stated over texts. Document 01, 'The search', third paragraph, says what the words of demand 3 mean; what
--- is quoted over the sentences is the demand itself. proofs/Demands.antt has the theorems. Assumes nothing: these are definitions.
+-- Demand 3 at the public calls, and demand 2's sentence on rollouts, stated over texts. Document 01, 'The search', third paragraph, says what the words of
+-- demand 3 mean; what is quoted over the sentences is the demand itself. proofs/Demands.antt has the theorems; demand 1 is in Untouched.antt.
 use Prim.Native.Nat.{ℕ, _≤_}
 use mathlib.Core.Path.{_≡_}
 use mathlib.Core.Bool.{true, false}
@@ -10,25 +10,19 @@ use lib.IntN.{ℤ, negℤ, _+ℤ_}
 use lib.Signed.{leZ}
 use Rattle.line.specs.declared.Head.{Head}
 use Rattle.line.specs.declared.Line.{Line}
-use Rattle.line.specs.declared.Refusal.{Refusal}
 use Rattle.line.specs.Refusal.{Verdict, refused, fine}
 use Rattle.line.specs.Line.{Within}
 use Rattle.table.specs.Tree.{leaves}
 use Rattle.table.specs.Table.{Table, tree, readText}
-use Rattle.table.specs.Slices.{laid}
 use Rattle.judge.specs.declared.Play.the-variants.{Child}
 use Rattle.search.specs.Whole.{playWorth}
-use Rattle.rollout.specs.declared.Record.{Record}
 use Rattle.rollout.specs.Leaves.{Distinct}
 use Rattle.rollout.specs.Whole.{hasChance}
 use Rattle.engine.specs.declared.Bounds.{Bounds}
-use Rattle.engine.specs.declared.Bounded
 use Rattle.engine.specs.declared.Bounded.the-variants.{Found}
-use Rattle.engine.specs.declared.Rolled
 use Rattle.engine.specs.declared.Rolled.the-variants.{Done}
-use Rattle.engine.specs.declared.Turned
 use Rattle.engine.specs.declared.Exact.the-variants.{Grains}
-use Rattle.engine.specs.Calls.{exactCall, badMargin, searchCall, searchReads, rollCall, rollReads, rollStore, recorded, turnOf, turnCall, turnBytes}
+use Rattle.engine.specs.Calls.{exactCall, badMargin, searchCall, searchReads, rollCall, rollReads, turnOf}
 
 -- ---- the bounds and the play
 
@@ -37,8 +31,8 @@ abbrev pub childWorth : Verdict Table → ℕ → Option ℤ
 childWorth (refused r) n = none
 childWorth (fine t) n = playWorth t n
 
--- What is promised of the answer b for the text s at the margin m: the exact worth lies within the two bounds, they differ by at most the margin,
--- and the play, if one is named, is worth within the margin of the exact worth. Both worths are the text's own.
+-- What is promised of the answer b for the text s at the margin m: "the exact worth lies between the two bounds or on one of them, they differ by at
+-- most the margin, and the play named, if any, is worth within the margin of the exact worth". Both worths are the text's own.
 pub record Promised (s : List ℕ) (m : ℤ) (b : Bounds) : Type 0 where
   pub worth : ℤ
   pub exact : exactCall (readText s) ≡ Grains worth (b .grain)
@@ -62,8 +56,8 @@ pub data SameLines (read : List ℕ) : List Line → List Line → Type 0 where
   same-none : SameLines read [] []
   same-more : {l : Line} {z : ℤ} {ls ms : List Line} → (List·Memᴰ (l .node) read → l .utility ≡ z) → SameLines read ls ms → SameLines read (l ∷ ls) (withUtility z l ∷ ms)
 
--- "unread leaves may be given any other utilities within the ends": each line is as it was, or is a leaf whose number is not in the list, with a
--- utility within the ends of the head h
+-- "if any unread leaves are then given other utilities within the table's ends": each line is as it was, or is a leaf whose number is not in the list,
+-- with a utility within the ends of the head h
 pub data Given (h : Head) (read : List ℕ) : List Line → List Line → Type 0 where
   given-none : Given h read [] []
   given-kept : {l : Line} {ls ms : List Line} → Given h read ls ms → Given h read (l ∷ ls) (l ∷ ms)
@@ -88,7 +82,7 @@ pub record Mirrors (b c : Bounds) : Type 0 where
   pub leaves : c .leaves ≡ b .leaves
   pub grain : c .grain ≡ b .grain
 
--- ---- the sentences, of every text s, margin m and list of `room` entries that the search accepts
+-- ---- the sentences: "For every table, margin and leaf list that the bounded search accepts", a text s, a margin m and a list of `room` entries
 
 -- these are all that have an accepted table, a margin of 12's range and room for the table's leaves: none is refused
 abbrev pub Answers : Type 0
@@ -96,11 +90,13 @@ Answers =
     (s : List ℕ) (t : Table) (m : ℤ) (room : ℕ) → readText s ≡ fine t → badMargin m ≡ false → LongEnough s room
     → (b : Bounds) × (searchCall (readText s) m room ≡ Found b)
 
--- "the exact worth lies within the two bounds, they differ by at most the margin, the play named is worth within the margin of the exact worth"
+-- "the exact worth lies between the two bounds or on one of them, they differ by at most the margin, and the play named, if any, is worth within the
+-- margin of the exact worth"
 abbrev pub Sentence1 : Type 0
 Sentence1 = (s : List ℕ) (m : ℤ) (room : ℕ) (b : Bounds) → searchCall (readText s) m room ≡ Found b → Promised s m b
 
--- "unread leaves may be given any other utilities within the ends and nothing changes, and all of this still holds of the new worths"
+-- "if any unread leaves are then given other utilities within the table's ends, the same answer and the same leaves in the same sequence come back, and
+-- all of this is still true of the new worths"
 abbrev pub Sentence2 : Type 0
 Sentence2 =
     (s : List ℕ) (m : ℤ) (room : ℕ) (b : Bounds) → searchCall (readText s) m room ≡ Found b
@@ -110,15 +106,15 @@ Sentence2 =
     × (searchReads (readText u) m other ≡ searchReads (readText s) m room)
     × Promised u m b
 
--- "may be given": whatever utilities unread leaves are given within the ends, there is an accepted text of the lines with them and the same header
+-- "are then given": whatever utilities unread leaves are given within the ends, there is an accepted text of the lines with them and the same header
 abbrev pub GivenText : Type 0
 GivenText =
     (s : List ℕ) (t : Table) → readText s ≡ fine t
     → (read : List ℕ) (lines : List Line) → Given (t .head) read (t .lines) lines
     → (u : List ℕ) × (D : Differ read s u) × (D .new .lines ≡ lines)
 
--- "the turned table reads the same leaves in the same sequence, names the same play or none, and its bounds come back negated and exchanged": u is
--- the text that turning writes, for some buffer
+-- "if the table is turned, the same leaves are read in the same sequence, the same play or again none is named, and the two bounds come back negated
+-- and exchanged": u is the text that turning writes, for some buffer
 abbrev pub Sentence3 : Type 0
 Sentence3 =
     (s : List ℕ) (m : ℤ) (room : ℕ) (b : Bounds) → searchCall (readText s) m room ≡ Found b
@@ -142,7 +138,7 @@ TurningTwice =
     (s : List ℕ) (size : ℕ) (u : List ℕ) → turnOf (readText s) size ≡ fine u
     → (other : ℕ) → length u ≤ other → turnOf (readText u) other ≡ fine s
 
--- ---- demand 2: "Rollouts on tables without dice end on the exact worth under every policy list and read no leaf twice."
+-- ---- demand 2: "Rollouts on tables without dice end on the exact worth under every policy list, and read no leaf twice."
 
 -- p is the policy list; the leaf list has `list` entries and the store `room` records
 abbrev pub RolloutsEnd : Type 0
@@ -156,21 +152,3 @@ RollAnswers =
     (s : List ℕ) (t : Table) (p : List ℕ) (list room : ℕ) → readText s ≡ fine t → hasChance t ≡ false
     → leaves (tree t) ≤ list → length (t .lines) ≤ room
     → (worth : ℤ) × (count : ℕ) × (rollCall (readText s) p list room ≡ Done worth count)
-
--- ---- demand 1: "A refused call changes no byte of what it was lent."
-
-abbrev pub SearchUntouched : Type 0
-SearchUntouched =
-    (s : List ℕ) (m : ℤ) (list : List ℕ) (r : Refusal) → searchCall (readText s) m (length list) ≡ Bounded.the-variants.Refused r
-    → laid (searchReads (readText s) m (length list)) list ≡ list
-
-abbrev pub TurnUntouched : Type 0
-TurnUntouched =
-    (s : List ℕ) (buffer : List ℕ) (r : Refusal) → turnCall (readText s) (length buffer) ≡ Turned.the-variants.Refused r
-    → laid (turnBytes (readText s) (length buffer)) buffer ≡ buffer
-
-abbrev pub RollUntouched : Type 0
-RollUntouched =
-    (s p list : List ℕ) (store : List Record) (r : Refusal) → rollCall (readText s) p (length list) (length store) ≡ Rolled.the-variants.Refused r
-    → (laid (rollReads (readText s) p (length list) (length store)) list ≡ list)
-    × (recorded (rollStore (readText s) p (length list) (length store)) store ≡ store)

@@ -1,2 +1,3 @@
+pub mod Untouched
 pub mod Demands
 pub mod Rows

@@ -1,5 +1,5 @@
 -- Document 01, 'Positions with known results': the rows with a star, as one table. Plays are named by node: in A and B the first root child is node 1.
--- Assumes nothing: these are definitions; proofs/Rows.antt has the theorem about all rows.
+-- proofs/Rows.antt has the theorem about all rows.
 use mathlib.Core.Path.{_≡_}
 use mathlib.Core.List.{List, [], _∷_}
 use Prim.Native.Nat.{ℕ}
@@ -15,24 +15,29 @@ use Rattle.engine.specs.declared.Bounded.{Bounded}
 use Rattle.engine.specs.declared.Bounded.the-variants.{Found}
 use Rattle.engine.specs.declared.Rolled.{Rolled}
 use Rattle.engine.specs.declared.Rolled.the-variants.{Done}
-use Rattle.engine.specs.Calls.{searchCall, searchReads, judgeCall, rollCall, rollReads}
+use Rattle.engine.specs.declared.Turned.{Turned}
+use Rattle.engine.specs.declared.Turned.the-variants.{Written}
+use Rattle.engine.specs.Calls.{searchCall, searchReads, judgeCall, rollCall, rollReads, turnCall, turnBytes}
 
--- a call with its arguments; leaf lists have 1,024 entries and stores 1,024 records
+-- a call with its arguments; leaf lists have 1,024 entries, stores 1,024 records and buffers 25,625 bytes
 pub data Call : Type 0 where
   search : (margin : ℤ) → Call
   judge : (number : ℤ) → Call
   roll : (policy : List ℕ) → Call
+  turn : Call
 
--- what a call tells: its answer, and the entries of the leaf list that it fills
+-- what a call tells: its answer, and the entries of the leaf list, or the bytes of the buffer, that it fills
 pub data Told : Type 0 where
   sought : Bounded → List ℕ → Told
   opined : Opinion → Told
   ended : Rolled → List ℕ → Told
+  wrote : Turned → List ℕ → Told
 
 abbrev pub tells : Call → List ℕ → Told
 tells (search margin) text = sought (searchCall (readText text) margin 1024) (searchReads (readText text) margin 1024)
 tells (judge number) text = opined (judgeCall (readText text) number)
 tells (roll policy) text = ended (rollCall (readText text) policy 1024 1024) (rollReads (readText text) policy 1024 1024)
+tells turn text = wrote (turnCall (readText text) 25625) (turnBytes (readText text) 25625)
 
 pub record Row : Type 0 where
   pub call : Call
@@ -52,6 +57,7 @@ rows =
     ∷ record { call = search (pos 0); text = table-b; told = bounds (pos 20) (pos 20) 4 (Child 1) 2 (1 ∷ 3 ∷ []) }
     ∷ record { call = search (pos 11); text = table-b; told = bounds (pos 20) (pos 20) 4 (Child 1) 2 (1 ∷ 3 ∷ []) }
     ∷ record { call = search (pos 12); text = table-b; told = bounds (pos 20) (pos 32) 4 (Child 1) 1 (1 ∷ []) }
+    ∷ record { call = turn; text = table-b; told = wrote (Written 150) turned-b }
     ∷ record { call = search (pos 12); text = turned-b; told = bounds (negsuc 31) (negsuc 19) 4 (Child 1) 1 (1 ∷ []) }
     ∷ record { call = search (pos 0); text = lone-leaf; told = bounds (pos 7) (pos 7) 1 NoPlay 1 (0 ∷ []) }
     ∷ record { call = search (pos 40000000000000); text = lone-leaf; told = bounds (pos 7) (pos 7) 1 NoPlay 1 (0 ∷ []) }

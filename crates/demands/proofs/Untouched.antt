@@ -1,0 +1,108 @@
+-- Demand 1: what a refused call was lent is as it was. Assumes nothing.
+use Prim.Native.Nat.{ℕ}
+use mathlib.Core.Path.{_≡_, refl}
+use mathlib.Core.List.{List, [], _∷_}
+use native.Mathlib.Omega.{arith}
+use lib.ListN.{length}
+use lib.IntN.{ℤ}
+use Rattle.line.specs.declared.Refusal.{Refusal}
+use Rattle.line.specs.Refusal.{Verdict, refused, fine}
+use Rattle.table.specs.declared.Reading
+use Rattle.table.specs.Table.{Table, readText, answer}
+use Rattle.table.specs.Slices.{laid, fitted}
+use Rattle.rollout.specs.declared.Record.{Record}
+use Rattle.engine.specs.declared.Opinion
+use Rattle.engine.specs.declared.Opinion.{Opinion}
+use Rattle.engine.specs.declared.Bounded
+use Rattle.engine.specs.declared.Rolled
+use Rattle.engine.specs.declared.Turned
+use Rattle.engine.specs.declared.Exact.{Exact}
+use Rattle.engine.specs.declared.Exact.the-variants.{Grains, Refused}
+use Rattle.engine.specs.Calls.{exactCall, judgeCall, Sought, sought, searchAnswer, searchList, turnOf, turnAnswer, turnWritten, rolls, rollAnswer, rollList, rollRecords, recorded}
+use Rattle.abi.specs.Numbers.{readCode, numbersOf, worthCode, worthNumbers, judgeCode, judgeNumbers, searchCode, searchNumbers, rollCode, rollNumbers, turnedCode, put}
+use Rattle.demands.specs.Untouched.{Refuses, SlicesKept, ReadUntouched, SearchUntouched, TurnUntouched, RollUntouched, CReadUntouched, CWorthUntouched, CJudgeUntouched, CSearchUntouched, CTurnUntouched, CRollUntouched}
+
+fitted-none : (a : List ℕ) → fitted [] a ≡ a
+fitted-none [] = refl
+fitted-none (x ∷ a) = refl
+
+slices-kept : (r : Refusal) (kind stop weight height : List ℕ) → SlicesKept (refused r) kind stop weight height
+slices-kept r kind stop weight height = (fitted-none kind, fitted-none stop, fitted-none weight, fitted-none height)
+
+-- ---- by the number that is returned; a call that is not refused returns 0
+
+read-code : (v : Verdict Table) (numbers : List ℤ) (kind stop weight height : List ℕ) → Refuses (readCode (answer v))
+    → (put 0 (numbersOf (answer v)) numbers ≡ numbers) × SlicesKept v kind stop weight height
+read-code (refused r) numbers kind stop weight height c = (refl, slices-kept r kind stop weight height)
+read-code (fine t) numbers kind stop weight height c = absurd (c refl)
+
+worth-code : (e : Exact) (numbers : List ℤ) → Refuses (worthCode e) → put 0 (worthNumbers e) numbers ≡ numbers
+worth-code (Grains z g) numbers c = absurd (c refl)
+worth-code (Refused r) numbers c = refl
+
+judge-code : (o : Opinion) (numbers : List ℕ) → Refuses (judgeCode o) → put 0 (judgeNumbers o) numbers ≡ numbers
+judge-code (Opinion.the-variants.Given j) numbers c = absurd (c refl)
+judge-code (Opinion.the-variants.Refused r) numbers c = refl
+
+search-code : (v : Verdict Sought) (list : List ℕ) (numbers : List ℤ) → Refuses (searchCode (searchAnswer v))
+    → (put 0 (searchNumbers (searchAnswer v)) numbers ≡ numbers) × (laid (searchList v) list ≡ list)
+search-code (refused r) list numbers c = (refl, refl)
+search-code (fine s) list numbers c = absurd (c refl)
+
+turn-code : (v : Verdict (List ℕ)) (buffer : List ℕ) → Refuses (turnedCode (turnAnswer v)) → laid (turnWritten v) buffer ≡ buffer
+turn-code (refused r) buffer c = refl
+turn-code (fine s) buffer c = absurd (c refl)
+
+roll-code : (p : List ℕ) (v : Verdict Table) (list : List ℕ) (store : List Record) (numbers : List ℤ) → Refuses (rollCode (rollAnswer p v))
+    → (put 0 (rollNumbers (rollAnswer p v)) numbers ≡ numbers) × (laid (rollList p v) list ≡ list) × (recorded (rollRecords p v) store ≡ store)
+roll-code p (refused r) list store numbers c = (refl, refl, refl)
+roll-code p (fine t) list store numbers c = absurd (c refl)
+
+pub c-read-untouched : CReadUntouched
+c-read-untouched s numbers kind stop weight height c = read-code (readText s) numbers kind stop weight height c
+
+pub c-worth-untouched : CWorthUntouched
+c-worth-untouched s numbers c = worth-code (exactCall (readText s)) numbers c
+
+pub c-judge-untouched : CJudgeUntouched
+c-judge-untouched s number numbers c = judge-code (judgeCall (readText s) number) numbers c
+
+pub c-search-untouched : CSearchUntouched
+c-search-untouched s m list numbers c = search-code (sought (readText s) m (length list)) list numbers c
+
+pub c-turn-untouched : CTurnUntouched
+c-turn-untouched s buffer c = turn-code (turnOf (readText s) (length buffer)) buffer c
+
+pub c-roll-untouched : CRollUntouched
+c-roll-untouched s p list store numbers c = roll-code p (rolls (readText s) (length list) (length store)) list store numbers c
+
+-- ---- by the answer
+
+pub read-untouched : ReadUntouched
+read-untouched s kind stop weight height r e = go (readText s) e
+  where
+    go : (v : Verdict Table) → answer v ≡ Reading.the-variants.Refused r → SlicesKept v kind stop weight height
+    go (refused x) e = slices-kept x kind stop weight height
+    go (fine t) e = let z : _≡_ {A = ℕ} 0 1 = cc in absurd (omega arith)
+
+nothing-sought : (v : Verdict Sought) (list : List ℕ) (r : Refusal) → searchAnswer v ≡ Bounded.the-variants.Refused r → laid (searchList v) list ≡ list
+nothing-sought (refused x) list r e = refl
+nothing-sought (fine s) list r e = let z : _≡_ {A = ℕ} 0 1 = cc in absurd (omega arith)
+
+pub search-untouched : SearchUntouched
+search-untouched s m list r e = nothing-sought (sought (readText s) m (length list)) list r e
+
+nothing-turned : (v : Verdict (List ℕ)) (buffer : List ℕ) (r : Refusal) → turnAnswer v ≡ Turned.the-variants.Refused r → laid (turnWritten v) buffer ≡ buffer
+nothing-turned (refused x) buffer r e = refl
+nothing-turned (fine s) buffer r e = let z : _≡_ {A = ℕ} 0 1 = cc in absurd (omega arith)
+
+pub turn-untouched : TurnUntouched
+turn-untouched s buffer r e = nothing-turned (turnOf (readText s) (length buffer)) buffer r e
+
+nothing-rolled : (p : List ℕ) (v : Verdict Table) (list : List ℕ) (store : List Record) (r : Refusal) → rollAnswer p v ≡ Rolled.the-variants.Refused r
+    → (laid (rollList p v) list ≡ list) × (recorded (rollRecords p v) store ≡ store)
+nothing-rolled p (refused x) list store r e = (refl, refl)
+nothing-rolled p (fine t) list store r e = let z : _≡_ {A = ℕ} 0 1 = cc in absurd (omega arith)
+
+pub roll-untouched : RollUntouched
+roll-untouched s p list store r e = nothing-rolled p (rolls (readText s) (length list) (length store)) list store r e

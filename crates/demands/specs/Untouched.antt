@@ -1,0 +1,87 @@
+-- Demand 1: "A refused call changes no byte of the lists and stores it was lent." Each call's promise says what then stands in everything that it was
+-- lent; this is that it is as it was, where the call is refused. A text is lent for reading alone. proofs/Untouched.antt has the theorems.
+use Prim.Native.Nat.{ℕ}
+use mathlib.Core.Path.{_≡_}
+use mathlib.Core.List.{List}
+use lib.ListN.{length}
+use lib.IntN.{ℤ}
+use Rattle.line.specs.declared.Refusal.{Refusal}
+use Rattle.line.specs.Refusal.{Verdict}
+use Rattle.table.specs.declared.Reading
+use Rattle.table.specs.Table.{Table, readText, answer}
+use Rattle.table.specs.Slices.{laid, fitted, kindsOf, stopsOf, weightsOf, heightsOf, decoded}
+use Rattle.rollout.specs.declared.Record.{Record}
+use Rattle.engine.specs.declared.Bounded
+use Rattle.engine.specs.declared.Rolled
+use Rattle.engine.specs.declared.Turned
+use Rattle.engine.specs.Calls.{exactCall, judgeCall, searchCall, searchReads, rollCall, rollReads, rollStore, recorded, turnCall, turnBytes}
+use Rattle.abi.specs.Numbers.{readCode, numbersOf, worthCode, worthNumbers, judgeCode, judgeNumbers, searchCode, searchNumbers, rollCode, rollNumbers, turnedCode, put}
+
+-- ---- the calls of `table` and `engine`; the exact worth and the judgement are lent nothing but the text
+
+-- the four slices that a table is decoded into
+abbrev pub SlicesKept : Verdict Table → (kind stop weight height : List ℕ) → Type 0
+SlicesKept v kind stop weight height =
+    (fitted (decoded kindsOf v) kind ≡ kind)
+    × (fitted (decoded stopsOf v) stop ≡ stop)
+    × (fitted (decoded weightsOf v) weight ≡ weight)
+    × (fitted (decoded heightsOf v) height ≡ height)
+
+abbrev pub ReadUntouched : Type 0
+ReadUntouched =
+    (s kind stop weight height : List ℕ) (r : Refusal) → answer (readText s) ≡ Reading.the-variants.Refused r
+    → SlicesKept (readText s) kind stop weight height
+
+abbrev pub SearchUntouched : Type 0
+SearchUntouched =
+    (s : List ℕ) (m : ℤ) (list : List ℕ) (r : Refusal) → searchCall (readText s) m (length list) ≡ Bounded.the-variants.Refused r
+    → laid (searchReads (readText s) m (length list)) list ≡ list
+
+abbrev pub TurnUntouched : Type 0
+TurnUntouched =
+    (s : List ℕ) (buffer : List ℕ) (r : Refusal) → turnCall (readText s) (length buffer) ≡ Turned.the-variants.Refused r
+    → laid (turnBytes (readText s) (length buffer)) buffer ≡ buffer
+
+abbrev pub RollUntouched : Type 0
+RollUntouched =
+    (s p list : List ℕ) (store : List Record) (r : Refusal) → rollCall (readText s) p (length list) (length store) ≡ Rolled.the-variants.Refused r
+    → (laid (rollReads (readText s) p (length list) (length store)) list ≡ list)
+    × (recorded (rollStore (readText s) p (length list) (length store)) store ≡ store)
+
+-- ---- the calls of the C interface, where the number that is returned is not 0
+
+-- a number returned by a refused call
+abbrev pub Refuses : ℕ → Type 0
+Refuses code = code ≡ 0 → ⊥
+
+abbrev pub CReadUntouched : Type 0
+CReadUntouched =
+    (s : List ℕ) (numbers : List ℤ) (kind stop weight height : List ℕ) → Refuses (readCode (answer (readText s)))
+    → (put 0 (numbersOf (answer (readText s))) numbers ≡ numbers)
+    × SlicesKept (readText s) kind stop weight height
+
+abbrev pub CWorthUntouched : Type 0
+CWorthUntouched =
+    (s : List ℕ) (numbers : List ℤ) → Refuses (worthCode (exactCall (readText s))) → put 0 (worthNumbers (exactCall (readText s))) numbers ≡ numbers
+
+abbrev pub CJudgeUntouched : Type 0
+CJudgeUntouched =
+    (s : List ℕ) (number : ℤ) (numbers : List ℕ) → Refuses (judgeCode (judgeCall (readText s) number))
+    → put 0 (judgeNumbers (judgeCall (readText s) number)) numbers ≡ numbers
+
+abbrev pub CSearchUntouched : Type 0
+CSearchUntouched =
+    (s : List ℕ) (m : ℤ) (list : List ℕ) (numbers : List ℤ) → Refuses (searchCode (searchCall (readText s) m (length list)))
+    → (put 0 (searchNumbers (searchCall (readText s) m (length list))) numbers ≡ numbers)
+    × (laid (searchReads (readText s) m (length list)) list ≡ list)
+
+abbrev pub CTurnUntouched : Type 0
+CTurnUntouched =
+    (s buffer : List ℕ) → Refuses (turnedCode (turnCall (readText s) (length buffer))) → laid (turnBytes (readText s) (length buffer)) buffer ≡ buffer
+
+abbrev pub CRollUntouched : Type 0
+CRollUntouched =
+    (s p list : List ℕ) (store : List Record) (numbers : List ℤ) → Refuses (rollCode (rollCall (readText s) p (length list) (length store)))
+    → (put 0 (rollNumbers (rollCall (readText s) p (length list) (length store))) numbers ≡ numbers)
+    × (laid (rollReads (readText s) p (length list) (length store)) list ≡ list)
+    × (recorded (rollStore (readText s) p (length list) (length store)) store ≡ store)
