@@ -8,6 +8,8 @@ use native.Mathlib.Omega.{arith}
 use lib.ListN.{length, getD, getElem?, take, drop, length-append, length-drop}
 use lib.Seq.{take-all, take-at, getD-take}
 use lib.IntN.{ℤ, pos, negsuc}
+use Rattle.line.specs.declared.Refusal.the-variants.{NoChild}
+use Rattle.line.specs.Refusal.{refused, fine}
 use Rattle.line.specs.Line.{letterCode}
 use Rattle.table.specs.Tree.{MAX, MIN, CHANCE, Forest, end, leaf, inner}
 use Rattle.table.specs.Accepted.{Filled, Rooted}
@@ -19,7 +21,7 @@ use Rattle.worth.specs.Inside.{kindIn, Beside, Lays}
 use Rattle.worth.proofs.Run.{lays-le}
 use Rattle.judge.specs.declared.Play.{Play}
 use Rattle.judge.specs.declared.Play.the-variants.{Child as Kid, NoPlay}
-use Rattle.judge.specs.Judge.{Side, AtM, AtN, Root, undecided, decided, rootOf, children, numbered, noDecision, judged, noSuchChild, playOf}
+use Rattle.judge.specs.Judge.{Side, AtM, AtN, Root, undecided, decided, rootOf, children, numbered, noDecision, judged, playOf}
 use Rattle.judge.specs.Heights.{heightLoss, heightLevels, heightJudgeChild, heightJudgeAt, Ahead}
 use Rattle.judge.specs.Inside.{Chained, Chain, Here, Room, Under, Listed, bestIn, AllAhead, levelsIn, forestJudge, Decided}
 use Rattle.judge.proofs.Best.{no-decision, best-ahead}
@@ -198,16 +200,16 @@ module _ (S : Beside) (g : Scale) (n : ℕ) (s : List ℕ) where
     decided-judge : (z : ℤ) → forestJudge g tree z ≡ heightJudgeChild side (g .grain) height kids (numbered z kids)
     decided-judge z = ap (λ (r : Root). heightJudgeAt r (g .grain) height kids z) (D .root)
 
-    pub well-none : (z : ℤ) (p : Play) → p ≡ NoPlay → p ≡ playOf (numbered z (chain-of .nodes)) → noSuchChild ≡ forestJudge g tree z
+    pub well-none : (z : ℤ) (p : Play) → p ≡ NoPlay → p ≡ playOf (numbered z (chain-of .nodes)) → refused NoChild ≡ forestJudge g tree z
     unfolding chain-of
     well-none z p e f =
         let o : List ℕ = starts (S .stops) 1 (children tree) in
         sym (decided-judge z ∙ ap (heightJudgeChild side (g .grain) height kids) (number-missing (S .stops) (g .total) (g .grain) 1 (children tree) z (play-none (numbered z o) (sym e ∙ f))))
 
     pub well-lost : (z : ℤ) (i : ℕ) (K : Found z i) (best h l level : ℕ) → best ≡ height → h ≡ K .child .share .worth
-        → l ≡ heightLoss side best h → level ≡ heightLevels side (g .grain) height kids → judged (pos l) level ≡ forestJudge g tree z
+        → l ≡ heightLoss side best h → level ≡ heightLevels side (g .grain) height kids → fine (judged (pos l) level) ≡ forestJudge g tree z
     well-lost z i K best h l level b w x y =
-        ap₂ (λ (m : ℕ) (v : ℕ). judged (pos m) v) (x ∙ ap₂ (heightLoss side) b w) y
+        ap₂ (λ (m : ℕ) (v : ℕ). fine (judged (pos m) v)) (x ∙ ap₂ (heightLoss side) b w) y
         ∙ sym (decided-judge z ∙ ap (heightJudgeChild side (g .grain) height kids) (K .there))
 
     pub found-ahead : (z : ℤ) (i : ℕ) (K : Found z i) (best h : ℕ) → best ≡ height → h ≡ K .child .share .worth → Ahead side best h
@@ -256,7 +258,7 @@ module _ (S : Beside) (n : ℕ) (s : List ℕ) where
     root-else (inner m w MIN under rest) l r a b = absurd (b (code ∙ l .0))
     root-else (inner m w CHANCE under rest) l r a b = refl
 
-pub whole-undecided : (g : Scale) (f : Forest ℕ) (i : ℤ) → rootOf f ≡ undecided → noDecision ≡ forestJudge g f i
+pub whole-undecided : (g : Scale) (f : Forest ℕ) (i : ℤ) → rootOf f ≡ undecided → fine noDecision ≡ forestJudge g f i
 whole-undecided g f i e =
     let G : ℕ = g .grain in
     let xs : List (Share ℕ) = heightShares (g .total) G (children f) in

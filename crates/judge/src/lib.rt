@@ -6,6 +6,7 @@ ghost use Rattle.table.specs.Tree.{MAX};
 ghost use Rattle.worth.specs.Inside.{beside, Ready, Worthy};
 ghost use Rattle.judge.specs.Heights.{heightLoss, Ahead};
 ghost use Rattle.judge.specs.Inside.{sideIf, Chain, Played, Under, Listed, better, bestIn, AllAhead, levelOne, levelsIn, Whole, WellJudged, Decided, WellDecided};
+use line::Refusal;
 use worth::Scale;
 
 // A play: a root child, by its node number, or none.
@@ -14,11 +15,16 @@ pub enum Play {
     NoPlay,
 }
 
-// A root without a decision; or the loss in grains and the number of level children; or no such child.
+// A root without a decision; or the loss in grains and the number of level children.
 pub enum Judged {
     NoDecision,
-    Judged(u64, u64),
-    NoChild,
+    Loss(u64, u64),
+}
+
+// A judgement, or a refusal: of the table, or of the number where there is no such child.
+pub enum Opinion {
+    Given(Judged),
+    Refused(Refusal),
 }
 
 fn stop_at(stop: &[u16], i: usize) -> usize
@@ -159,12 +165,12 @@ fn judge_root(
     g: Scale,
     max: bool,
     number: i64,
-) -> Judged
+) -> Opinion
     requires { ⌜ Decided (beside (now stop) (now weight) (now height)) g n (now lines) (sideIf max) ⌝ }
     ensures { λ r. ⌜ WellDecided (beside (now (stop .entry)) (now (weight .entry)) (now (height .entry))) g n (now (lines .entry)) (sideIf max) number r ⌝ }
 {
     match find_child(stop, n, number) {
-        Play::NoPlay => Judged::NoChild,
+        Play::NoPlay => Opinion::Refused(Refusal::NoChild),
         Play::Child(i) => {
             let e = stop_at(stop, i);
             let h = worth::worth_of(&lines[25 * i..25 * e], stop, weight, height, i, e, g);
@@ -172,7 +178,7 @@ fn judge_root(
             let m = list_worths(lines, stop, weight, height, n, g, &mut list);
             let best = best_of(&list, m, max);
             let level = count_levels(&list, m, max, best, g.grain);
-            Judged::Judged(loss(max, best, h), level)
+            Opinion::Given(Judged::Loss(loss(max, best, h), level))
         }
     }
 }
@@ -186,7 +192,7 @@ pub fn judge_table(
     n: usize,
     g: Scale,
     number: i64,
-) -> Judged
+) -> Opinion
     requires { ⌜ Whole (beside (now stop) (now weight) (now height)) g n (now lines) ⌝ }
     ensures { λ r. ⌜ WellJudged (beside (now (stop .entry)) (now (weight .entry)) (now (height .entry))) g n (now (lines .entry)) number r ⌝ }
 {
@@ -197,5 +203,5 @@ pub fn judge_table(
     if kind == 2 {
         return judge_root(lines, stop, weight, height, n, g, false, number);
     }
-    Judged::NoDecision
+    Opinion::Given(Judged::NoDecision)
 }
