@@ -1,7 +1,8 @@
 // Judging the play made: the loss of a root child, and how many root children are level with the best.
 ghost use mathlib.Core.Path.{_≡_};
-ghost use Prim.Native.Nat.{_<_, _≤_};
+ghost use Prim.Native.Nat.{_-_, _<_, _≤_};
 ghost use lib.ListN.{length, getD, take};
+ghost use Rattle.line.specs.Line.{toNat};
 ghost use Rattle.table.specs.Tree.{MAX};
 ghost use Rattle.worth.specs.Inside.{beside, Ready, Worthy};
 ghost use Rattle.judge.specs.Heights.{heightLoss, Ahead};
@@ -118,6 +119,14 @@ fn list_worths(
     m
 }
 
+// The worth of root child `number`, in the list of all.
+fn worth_at(list: &[u64], number: i64) -> u64
+    requires { ⌜ (0 < toNat number) × (toNat number ≤ length (now list)) ⌝ }
+    ensures { λ r. ⌜ r ≡ getD (now (list .entry)) (toNat number - 1) 0 ⌝ }
+{
+    list[line::natural(number) as usize - 1]
+}
+
 fn better_of(max: bool, a: u64, h: u64) -> u64
     ensures { λ r. ⌜ r ≡ better (sideIf max) a h ⌝ }
 {
@@ -155,7 +164,7 @@ fn count_levels(list: &[u64], m: usize, max: bool, best: u64, grain: u64) -> u64
     count
 }
 
-// At an M root, where `max`, or at an N root.
+// At an M root, where `max`, or at an N root. Each child is evaluated once: the one played is taken from the list.
 fn judge_root(
     lines: &[u8],
     stop: &[u16],
@@ -171,11 +180,10 @@ fn judge_root(
 {
     match find_child(stop, n, number) {
         Play::NoPlay => Opinion::Refused(Refusal::NoChild),
-        Play::Child(i) => {
-            let e = stop_at(stop, i);
-            let h = worth::worth_of(&lines[25 * i..25 * e], stop, weight, height, i, e, g);
+        Play::Child(_) => {
             let mut list = [0u64; 1024];
             let m = list_worths(lines, stop, weight, height, n, g, &mut list);
+            let h = worth_at(&list, number);
             let best = best_of(&list, m, max);
             let level = count_levels(&list, m, max, best, g.grain);
             Opinion::Given(Judged::Loss(loss(max, best, h), level))
