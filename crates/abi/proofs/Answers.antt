@@ -1,19 +1,19 @@
 -- What an answer tells of the text, and that its numbers are small. Assumes nothing.
 use Prim.Native.Nat.{ℕ, _≤_, _<_}
-use mathlib.Core.Path.{_≡_, ap₂, subst, _∙_}
+use mathlib.Core.Path.{_≡_, refl, ap, ap₂, subst, _∙_}
 use mathlib.Core.List.{List}
 use native.Mathlib.Omega.{arith}
 use lib.ListN.{set}
 use lib.IntN.{ℤ}
 use Rattle.line.specs.declared.Refusal.{Refusal}
-use Rattle.line.specs.Refusal.{Verdict, refused, fine}
+use Rattle.line.specs.Refusal.{Verdict, refused, fine, lineOf}
 use Rattle.table.specs.declared.Summary.{Summary}
 use Rattle.table.specs.declared.Reading.the-variants.{Accepted}
 use Rattle.table.specs.Table.{Table, readText, answer, grain}
 use Rattle.table.proofs.Accepted.{answer-accepted, accepted-ranged, accepted-size, accepted-few, accepted-grain, accepted-leaf-lines}
+use Rattle.table.proofs.Places.{refused-line}
 use Rattle.engine.specs.declared.Exact.the-variants.{Grains, Refused}
-use Rattle.engine.specs.declared.Opinion
-use Rattle.engine.specs.Calls.{exactCall, judgeCall}
+use Rattle.engine.specs.Calls.{exactCall, judgeAnswer, judgeCall}
 use Rattle.engine.specs.declared.Bounds.{Bounds}
 use Rattle.engine.specs.declared.Rolled
 use Rattle.engine.specs.declared.Rolled.{Rolled}
@@ -21,6 +21,9 @@ use Rattle.engine.proofs.Answered.{Sizes, Below}
 use Rattle.engine.proofs.RollAnswered.{RollSized}
 use Rattle.judge.specs.declared.Play.{Play}
 use Rattle.judge.specs.declared.Play.the-variants.{Child, NoPlay}
+use Rattle.judge.specs.declared.Opinion
+use Rattle.judge.specs.Judge.{Judgement, judge}
+use Rattle.judge.proofs.Judge.{judge-refused}
 use Rattle.abi.specs.Numbers.{nodeNumber, SmallSummary, SmallBounds, SmallRolled}
 
 pub small : (s : List ℕ) (t : Summary) → answer (readText s) ≡ Accepted t → SmallSummary t
@@ -47,9 +50,16 @@ exact-small s z g e =
     let (T, p, q) = exact-grains (readText s) z g e in
     omega (arith, q, accepted-grain s T p)
 
-pub opinion-refused : (v : Verdict Table) (i : ℤ) (r : Refusal) → judgeCall v i ≡ Opinion.the-variants.Refused r → v ≡ refused r
-opinion-refused (refused x) i r e = cc
-opinion-refused (fine t) i r e = let z : _≡_ {A = ℕ} 0 1 = cc in absurd (omega arith)
+pub judge-line : (s : List ℕ) (i : ℤ) (r : Refusal) → judgeCall (readText s) i ≡ Opinion.the-variants.Refused r → lineOf r ≤ 1024
+judge-line s i r e = line-at (readText s) refl e
+  where
+    line-fine : (t : Table) (v : Verdict Judgement) → judge t i ≡ v → judgeAnswer v ≡ Opinion.the-variants.Refused r → lineOf r ≤ 1024
+    line-fine t (refused x) p e = let q : x ≡ r = cc in omega (arith, ap lineOf (judge-refused t i r (p ∙ ap refused q)))
+    line-fine t (fine j) p e = let z : _≡_ {A = ℕ} 0 1 = cc in absurd (omega arith)
+
+    line-at : (v : Verdict Table) → readText s ≡ v → judgeCall v i ≡ Opinion.the-variants.Refused r → lineOf r ≤ 1024
+    line-at (refused x) p e = let q : x ≡ r = cc in refused-line s r (p ∙ ap refused q)
+    line-at (fine t) p e = line-fine t (judge t i) refl e
 
 -- an entry more was written
 pub stored : {A : Type 0} {a b b′ : List A} {z z′ : A} (i : ℕ) → a ≡ set b i z → b ≡ b′ → z ≡ z′ → a ≡ set b′ i z′

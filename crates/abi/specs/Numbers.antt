@@ -10,9 +10,9 @@ use Rattle.line.specs.Refusal.{numberOf, lineOf}
 use Rattle.judge.specs.declared.Play.{Play}
 use Rattle.judge.specs.declared.Play.the-variants.{Child, NoPlay}
 use Rattle.judge.specs.declared.Judged.{Judged}
-use Rattle.judge.specs.declared.Judged.the-variants.{NoDecision, Judged as Lost, NoChild}
-use Rattle.engine.specs.declared.Opinion
-use Rattle.engine.specs.declared.Opinion.{Opinion}
+use Rattle.judge.specs.declared.Judged.the-variants.{NoDecision, Loss}
+use Rattle.judge.specs.declared.Opinion
+use Rattle.judge.specs.declared.Opinion.{Opinion}
 use Rattle.engine.specs.declared.Bounds.{Bounds}
 use Rattle.engine.specs.declared.Bounded
 use Rattle.engine.specs.declared.Bounded.{Bounded}
@@ -48,8 +48,7 @@ judgeCode o = 100 * judgeLine o + judgeNumber o
 
 abbrev pub judgedNumbers : Judged → List ℕ
 judgedNumbers NoDecision = 0 ∷ []
-judgedNumbers (Lost loss level) = 1 ∷ loss ∷ level ∷ []
-judgedNumbers NoChild = []
+judgedNumbers (Loss loss level) = 1 ∷ loss ∷ level ∷ []
 
 abbrev pub judgeNumbers : Opinion → List ℕ
 judgeNumbers (Opinion.the-variants.Given j) = judgedNumbers j

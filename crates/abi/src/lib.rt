@@ -12,10 +12,10 @@ ghost use Rattle.abi.specs.Numbers.{readCode, numbersOf, worthCode, wort
 use engine::Bounded;
 use engine::Bounds;
 use engine::Exact;
-use engine::Opinion;
 use engine::Rolled;
 use engine::Turned;
 use judge::Judged;
+use judge::Opinion;
 use judge::Play;
 use line::Refusal;
 use rollout::Record;
@@ -117,28 +117,19 @@ fn put_natural(numbers: &mut [u64], i: usize, n: u64)
 }
 
 fn put_loss(loss: u64, level: u64, numbers: &mut [u64])
-    ensures { λ _. ⌜ now (numbers .exit) ≡ put 0 (judgedNumbers (Judged.Judged loss level)) (now (numbers .entry)) ⌝ }
+    ensures { λ _. ⌜ now (numbers .exit) ≡ put 0 (judgedNumbers (Judged.Loss loss level)) (now (numbers .entry)) ⌝ }
 {
     put_natural(numbers, 0, 1);
     put_natural(numbers, 1, loss);
     put_natural(numbers, 2, level);
 }
 
-// A judgement's numbers, and 14 where there is no such child.
-fn put_judged(j: Judged, numbers: &mut [u64]) -> u64
-    ensures code { λ r. ⌜ r ≡ judgeCode (Opinion.Given j) ⌝ }
-    ensures numbers { λ _. ⌜ now (numbers .exit) ≡ put 0 (judgedNumbers j) (now (numbers .entry)) ⌝ }
+fn put_judged(j: Judged, numbers: &mut [u64])
+    ensures { λ _. ⌜ now (numbers .exit) ≡ put 0 (judgedNumbers j) (now (numbers .entry)) ⌝ }
 {
     match j {
-        Judged::NoDecision => {
-            put_natural(numbers, 0, 0);
-            0
-        }
-        Judged::Judged(loss, level) => {
-            put_loss(loss, level, numbers);
-            0
-        }
-        Judged::NoChild => 14,
+        Judged::NoDecision => put_natural(numbers, 0, 0),
+        Judged::Loss(loss, level) => put_loss(loss, level, numbers),
     }
 }
 
@@ -151,7 +142,10 @@ pub extern "C" fn margin_judge(text: &[u8], number: i64, numbers: &mut [u64]) ->
 {
     match engine::judge_play(text, number) {
         Opinion::Refused(r) => refusal_code(r),
-        Opinion::Given(j) => put_judged(j, numbers),
+        Opinion::Given(j) => {
+            put_judged(j, numbers);
+            0
+        }
     }
 }
 

@@ -11,8 +11,8 @@ use Rattle.table.specs.declared.Reading
 use Rattle.table.specs.Table.{Table, readText, answer}
 use Rattle.table.specs.Slices.{laid, fitted}
 use Rattle.rollout.specs.declared.Record.{Record}
-use Rattle.engine.specs.declared.Opinion
-use Rattle.engine.specs.declared.Opinion.{Opinion}
+use Rattle.judge.specs.declared.Opinion
+use Rattle.judge.specs.declared.Opinion.{Opinion}
 use Rattle.engine.specs.declared.Bounded
 use Rattle.engine.specs.declared.Rolled
 use Rattle.engine.specs.declared.Turned

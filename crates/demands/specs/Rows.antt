@@ -8,9 +8,9 @@ use Rattle.table.specs.Table.{readText}
 use Rattle.table.specs.Examples.{table-a, table-b, turned-b, lone-leaf}
 use Rattle.judge.specs.declared.Play.{Play}
 use Rattle.judge.specs.declared.Play.the-variants.{Child, NoPlay}
-use Rattle.judge.specs.declared.Judged.the-variants.{Judged as Lost}
-use Rattle.engine.specs.declared.Opinion.{Opinion}
-use Rattle.engine.specs.declared.Opinion.the-variants.{Given}
+use Rattle.judge.specs.declared.Judged.the-variants.{Loss}
+use Rattle.judge.specs.declared.Opinion.{Opinion}
+use Rattle.judge.specs.declared.Opinion.the-variants.{Given}
 use Rattle.engine.specs.declared.Bounded.{Bounded}
 use Rattle.engine.specs.declared.Bounded.the-variants.{Found}
 use Rattle.engine.specs.declared.Rolled.{Rolled}
@@ -61,7 +61,7 @@ rows =
     ∷ record { call = search (pos 12); text = turned-b; told = bounds (negsuc 31) (negsuc 19) 4 (Child 1) 1 (1 ∷ []) }
     ∷ record { call = search (pos 0); text = lone-leaf; told = bounds (pos 7) (pos 7) 1 NoPlay 1 (0 ∷ []) }
     ∷ record { call = search (pos 40000000000000); text = lone-leaf; told = bounds (pos 7) (pos 7) 1 NoPlay 1 (0 ∷ []) }
-    ∷ record { call = judge (pos 2); text = table-b; told = opined (Given (Lost 6 1)) }
+    ∷ record { call = judge (pos 2); text = table-b; told = opined (Given (Loss 6 1)) }
     ∷ record { call = roll []; text = table-a; told = ended (Done (pos 3) 3) (2 ∷ 3 ∷ 5 ∷ []) }
     ∷ record { call = roll (1 ∷ 1 ∷ []); text = table-a; told = ended (Done (pos 3) 4) (6 ∷ 2 ∷ 3 ∷ 5 ∷ []) }
     ∷ []

@@ -29,13 +29,13 @@ use Rattle.worth.specs.Inside.{beside, Reach, Ready, Worthy}
 use Rattle.worth.specs.Heights.{heightWorth}
 use Rattle.worth.proofs.Worth.{shift, height-within, span-grains}
 use Rattle.worth.proofs.Judged.{accepted-ready, judged-worth}
-use Rattle.judge.specs.declared.Judged.{Judged}
-use Rattle.judge.specs.declared.Judged.the-variants.{NoDecision, Judged as Lost, NoChild}
-use Rattle.judge.specs.Inside.{judgedOf, Whole, WellJudged}
+use Rattle.judge.specs.declared.Judged.the-variants.{NoDecision, Loss}
+use Rattle.judge.specs.declared.Opinion
+use Rattle.judge.specs.declared.Opinion.{Opinion}
+use Rattle.judge.specs.Inside.{meant, Whole, WellJudged}
 use Rattle.judge.proofs.Answer.{accepted-whole, judged-table}
 use Rattle.engine.specs.declared.Exact.the-variants.{Grains}
-use Rattle.engine.specs.declared.Opinion.the-variants.{Given}
-use Rattle.engine.specs.Calls.{exactCall, told, judgeCall}
+use Rattle.engine.specs.Calls.{exactCall, judgeAnswer, judgeCall}
 use Rattle.engine.specs.Inside.{Spread, scaleFor}
 use Rattle.engine.proofs.Sums.{read-back, grains-back}
 
@@ -136,11 +136,11 @@ module _ {s : List ℕ} {t : Summary} {K S W H : List ℕ} (G : Taken s t K S W 
 
 -- ---- the exact worth and the judgement
 
--- what is told of a judgement is the answer that means it
-told-back : (r : Judged) → r ≡ told (judgedOf r)
-told-back NoDecision = refl
-told-back (Lost loss level) = refl
-told-back NoChild = refl
+-- what is answered with a judgement is the opinion that means it
+meant-back : (r : Opinion) → r ≡ judgeAnswer (meant r)
+meant-back (Opinion.the-variants.Given NoDecision) = refl
+meant-back (Opinion.the-variants.Given (Loss loss level)) = refl
+meant-back (Opinion.the-variants.Refused r) = refl
 
 -- g is the scale; the text is handed on from byte 25
 module _ {s : List ℕ} {t : Summary} {K S W H : List ℕ} (G : Taken s t K S W H) {g : Scale} (q : g ≡ scaleFor t) where
@@ -176,8 +176,8 @@ module _ {s : List ℕ} {t : Summary} {K S W H : List ℕ} (G : Taken s t K S W 
         ∙ ap exactCall (sym p))
 
   -- r is what `judge_table` gave of the child i
-  pub given-at : (i : ℤ) (r : Judged) → WellJudged (beside S W H) g (t .nodes) lines i r → Given r ≡ judgeCall (readText s) i
+  pub given-at : (i : ℤ) (r : Opinion) → WellJudged (beside S W H) g (t .nodes) lines i r → r ≡ judgeCall (readText s) i
   given-at i r w =
-      of-table G (λ t K S W H. WellJudged (beside S W H) (scaleFor t) (t .nodes) (drop 25 s) i r → Given r ≡ judgeCall (readText s) i) (λ T p w.
-      ap Given (told-back r ∙ ap told (judged-table s T p zeros zeros zeros (zeros-reach s T p) i r w)) ∙ ap (λ (v : Verdict Table). judgeCall v i) (sym p))
+      of-table G (λ t K S W H. WellJudged (beside S W H) (scaleFor t) (t .nodes) (drop 25 s) i r → r ≡ judgeCall (readText s) i) (λ T p w.
+      meant-back r ∙ ap judgeAnswer (judged-table s T p zeros zeros zeros (zeros-reach s T p) i r w) ∙ ap (λ (v : Verdict Table). judgeCall v i) (sym p))
       (rw (q, from-all) at w)

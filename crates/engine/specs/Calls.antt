@@ -13,8 +13,10 @@ use Rattle.table.specs.Tree.{leaves}
 use Rattle.table.specs.Table.{Table, tree, grain}
 use Rattle.worth.specs.Worth.{worthOf}
 use Rattle.judge.specs.declared.Judged.{Judged}
-use Rattle.judge.specs.declared.Judged.the-variants.{NoDecision, Judged as Lost, NoChild}
-use Rattle.judge.specs.Judge.{Judgement, noDecision, judged, noSuchChild, judge, playOf}
+use Rattle.judge.specs.declared.Judged.the-variants.{NoDecision, Loss}
+use Rattle.judge.specs.declared.Opinion
+use Rattle.judge.specs.declared.Opinion.{Opinion}
+use Rattle.judge.specs.Judge.{Judgement, noDecision, judged, judge, playOf}
 use Rattle.turn.specs.Turn.{turnedText}
 use Rattle.search.specs.Search.{Seen, nodeOf}
 use Rattle.search.specs.Whole.{searched}
@@ -23,8 +25,6 @@ use Rattle.rollout.specs.Rollout.{Pair}
 use Rattle.rollout.specs.Whole.{hasChance, rolled, rolledWorth, rolledStore}
 use Rattle.engine.specs.declared.Rolled
 use Rattle.engine.specs.declared.Rolled.{Rolled}
-use Rattle.engine.specs.declared.Opinion
-use Rattle.engine.specs.declared.Opinion.{Opinion}
 use Rattle.engine.specs.declared.Bounded
 use Rattle.engine.specs.declared.Bounded.{Bounded}
 use Rattle.engine.specs.declared.Bounds.{Bounds}
@@ -50,19 +50,19 @@ exactLine (Refused r) = lineOf r
 -- a judgement as the call gives it; that a loss is never below zero is a theorem (judge/Judge.loss-natural)
 abbrev pub told : Judgement → Judged
 told noDecision = NoDecision
-told (judged loss level) = Lost (toNat loss) level
-told noSuchChild = NoChild
+told (judged loss level) = Loss (toNat loss) level
 
--- the judgement of root child number i, or refusal 1 to 10
+abbrev pub judgeAnswer : Verdict Judgement → Opinion
+judgeAnswer (refused r) = Opinion.the-variants.Refused r
+judgeAnswer (fine j) = Opinion.the-variants.Given (told j)
+
+-- the judgement of root child number i, or refusal 1 to 10, then 14
 abbrev pub judgeCall : Verdict Table → ℤ → Opinion
-judgeCall (refused r) i = Opinion.the-variants.Refused r
-judgeCall (fine t) i = Opinion.the-variants.Given (told (judge t i))
+judgeCall v i = judgeAnswer (next v (λ (t : Table). judge t i))
 
--- document 01's number and line of every answer, 0 where there is no refusal: 14 is "no such child"
+-- document 01's number and line of every answer, 0 where there is no refusal
 abbrev pub judgeNumber : Opinion → ℕ
-judgeNumber (Opinion.the-variants.Given NoDecision) = 0
-judgeNumber (Opinion.the-variants.Given (Lost loss level)) = 0
-judgeNumber (Opinion.the-variants.Given NoChild) = 14
+judgeNumber (Opinion.the-variants.Given j) = 0
 judgeNumber (Opinion.the-variants.Refused r) = numberOf r
 
 abbrev pub judgeLine : Opinion → ℕ

@@ -10,7 +10,7 @@ ghost use Rattle.engine.specs.Calls.{exactCall, judgeCall, badMargin, se
 ghost use Rattle.table.specs.Slices.{laid};
 ghost use Rattle.search.specs.Inside.{playAt};
 ghost use Rattle.engine.specs.Inside.{Spread, scaleFor, ruleFor, Started, RollsTo};
-use judge::Judged;
+use judge::Opinion;
 use judge::Play;
 use line::Refusal;
 use rollout::Record;
@@ -22,12 +22,6 @@ use worth::Scale;
 // The worth in grains and G, or a refusal.
 pub enum Exact {
     Grains(i64, u64),
-    Refused(Refusal),
-}
-
-// The judgement, in which `NoChild` is refusal 14, or a table's refusal.
-pub enum Opinion {
-    Given(Judged),
     Refused(Refusal),
 }
 
@@ -115,15 +109,7 @@ pub fn judge_play(text: &[u8], number: i64) -> Opinion
         Reading::Refused(r) => Opinion::Refused(r),
         Reading::Accepted(t) => {
             let g = scale_of(t);
-            Opinion::Given(judge::judge_table(
-                &text[25..],
-                &stop,
-                &weight,
-                &height,
-                t.nodes,
-                g,
-                number,
-            ))
+            judge::judge_table(&text[25..], &stop, &weight, &height, t.nodes, g, number)
         }
     }
 }

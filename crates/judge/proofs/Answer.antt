@@ -13,9 +13,9 @@ use Rattle.worth.specs.Inside.{beside, Reach}
 use Rattle.worth.proofs.Worth.{rooted-some, heights-small}
 use Rattle.worth.proofs.Text.{accepted-lays}
 use Rattle.worth.proofs.Judged.{scaleOf, lentOf, accepted-ready}
-use Rattle.judge.specs.declared.Judged.{Judged}
+use Rattle.judge.specs.declared.Opinion.{Opinion}
 use Rattle.judge.specs.Judge.{judge}
-use Rattle.judge.specs.Inside.{judgedOf, Whole, WellJudged}
+use Rattle.judge.specs.Inside.{meant, Whole, WellJudged}
 use Rattle.judge.proofs.Judge.{judge-heights}
 
 module _ (s : List ℕ) (t : Table) (h : readText s ≡ fine t) (st w g : List ℕ) (room : Reach (beside st w g) (length (t .lines))) where
@@ -37,6 +37,6 @@ module _ (s : List ℕ) (t : Table) (h : readText s ≡ fine t) (st w g : List �
         rooted = heights-rooted s t h;
       }
 
-  pub judged-table : (i : ℤ) (r : Judged) → WellJudged (lentOf t st w g) (scaleOf t) (length (t .lines)) (drop 25 s) i r → judgedOf r ≡ judge t i
+  pub judged-table : (i : ℤ) (r : Opinion) → WellJudged (lentOf t st w g) (scaleOf t) (length (t .lines)) (drop 25 s) i r → meant r ≡ judge t i
   unfolding accepted-whole
   judged-table i r told = told accepted-whole ∙ sym (judge-heights s t h i)

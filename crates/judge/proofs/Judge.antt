@@ -10,7 +10,9 @@ use lib.IntN.{ℤ, pos, _+ℤ_, _*ℤ_}
 use lib.Signed.{leZ}
 use lib.Dec.{leb·zero}
 use Rattle.line.specs.declared.Head.{Head}
-use Rattle.line.specs.Refusal.{fine}
+use Rattle.line.specs.declared.Refusal.{Refusal}
+use Rattle.line.specs.declared.Refusal.the-variants.{NoChild}
+use Rattle.line.specs.Refusal.{refused, fine}
 use Rattle.line.specs.Line.{Within}
 use Rattle.table.specs.Tree.{Forest, end, leaf, inner, isChance}
 use Rattle.table.specs.Table.{Table, tree, readText, greatest, grain}
@@ -66,17 +68,29 @@ back b (some y) x e = (y, refl, cc)
 
 -- a judgement that gives a loss gives that of a child
 child-judged : (s : Side) (G best : ℕ) (xs : List (Share ℕ)) (o : Option (Share ℕ)) (loss : ℤ) (level : ℕ)
-    → heightJudgeChild s G best xs o ≡ judged loss level → (n : ℕ) × (pos n ≡ loss) × (heightLevels s G best xs ≡ level)
+    → heightJudgeChild s G best xs o ≡ fine (judged loss level) → (n : ℕ) × (pos n ≡ loss) × (heightLevels s G best xs ≡ level)
 child-judged s G best xs none loss level e = let z : _≡_ {A = ℕ} 0 1 = cc in absurd (omega arith)
 child-judged s G best xs (some x) loss level e = (heightLoss s best (x .worth), cc, cc)
 
 root-judged : (r : Root) (G best : ℕ) (xs : List (Share ℕ)) (i loss : ℤ) (level : ℕ)
-    → heightJudgeAt r G best xs i ≡ judged loss level
+    → heightJudgeAt r G best xs i ≡ fine (judged loss level)
     → (s : Side) × (n : ℕ) × (r ≡ decided s) × (pos n ≡ loss) × (heightLevels s G best xs ≡ level)
 root-judged undecided G best xs i loss level e = let z : _≡_ {A = ℕ} 0 1 = cc in absurd (omega arith)
 root-judged (decided s) G best xs i loss level e =
     let (n, p, q) = child-judged s G best xs (numbered i xs) loss level e in
     (s, n, refl, p, q)
+
+-- the only refusal of judging is 14
+child-refused : (s : Side) (G : ℕ) (exact : ℤ) (xs : List (Share ℤ)) (o : Option (Share ℤ)) (r : Refusal) → judgeChild s G exact xs o ≡ refused r → NoChild ≡ r
+child-refused s G exact xs none r e = cc
+child-refused s G exact xs (some x) r e = let z : _≡_ {A = ℕ} 0 1 = cc in absurd (omega arith)
+
+pub judge-refused : (t : Table) (i : ℤ) (r : Refusal) → judge t i ≡ refused r → NoChild ≡ r
+judge-refused t i r = go (rootOf (tree t))
+  where
+    go : (o : Root) → judgeAt o (grain t) (worthOf t) (worths t) i ≡ refused r → NoChild ≡ r
+    go undecided e = let z : _≡_ {A = ℕ} 0 1 = cc in absurd (omega arith)
+    go (decided s) e = child-refused s (grain t) (worthOf t) (worths t) (numbered i (worths t)) r e
 
 not-below : (n : ℕ) (z : ℤ) → pos n ≡ z → leZ (pos 0) z ≡ true
 not-below n z e = sym (ap (leZ (pos 0)) e) ∙ leb·zero n
@@ -171,22 +185,22 @@ module _ (s : List ℕ) (t : Table) (h : readText s ≡ fine t) where
     pub some-level : 1 ≤ levels side (grain t) (worthOf t) (worths t)
     some-level = rw levels-heights level-heights
 
-    pub best-judged : (i : ℤ) × (level : ℕ) × (judge t i ≡ judged (pos 0) level)
+    pub best-judged : (i : ℤ) × (level : ℕ) × (judge t i ≡ fine (judged (pos 0) level))
     best-judged =
         let (i, x, f, z) = best-child in (
           i,
           levels side (grain t) (worthOf t) (worths t),
           ap (λ (r : Root). judgeAt r (grain t) (worthOf t) (worths t) i) e
               ∙ ap (judgeChild side (grain t) (worthOf t) (worths t)) f
-              ∙ ap (λ (l : ℤ). judged l (levels side (grain t) (worthOf t) (worths t))) z,
+              ∙ ap (λ (l : ℤ). fine (judged l (levels side (grain t) (worthOf t) (worths t)))) z,
         )
 
   -- of every judgement with a loss: the loss is not negative, and a child is level
-  pub judged-sound : (i loss : ℤ) (level : ℕ) → judge t i ≡ judged loss level → (leZ (pos 0) loss ≡ true) × (1 ≤ level)
+  pub judged-sound : (i loss : ℤ) (level : ℕ) → judge t i ≡ fine (judged loss level) → (leZ (pos 0) loss ≡ true) × (1 ≤ level)
   judged-sound i loss level e =
       let (side, n, r, p, q) = root-judged (rootOf (heightTree t)) (grain t) (heightWorth t) (heightWorths t) i loss level (sym (judge-heights i) ∙ e) in
       (not-below n loss p, rw q at (level-heights side (sym root-heights ∙ r)))
 
   -- at a C or L root there is no decision, for every number
-  pub undecided-judged : rootOf (tree t) ≡ undecided → (i : ℤ) → judge t i ≡ noDecision
+  pub undecided-judged : rootOf (tree t) ≡ undecided → (i : ℤ) → judge t i ≡ fine noDecision
   undecided-judged e i = ap (λ (r : Root). judgeAt r (grain t) (worthOf t) (worths t) i) e

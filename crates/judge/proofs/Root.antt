@@ -1,34 +1,39 @@
 -- A root with all under it in the lines: its children by number, the best worth, and the judgement. Assumes nothing.
 use Prim.Native.Nat.{ℕ, zero, suc, _+_, _-_, _*_, _≤_, _<_}
 use mathlib.Core.Path.{_≡_, refl, sym, ap, ap₂, subst, _∙_}
-use mathlib.Core.List.{List, []}
+use mathlib.Core.List.{List, [], _∷_}
 use mathlib.Core.Option.{Option, none, some}
-use native.Mathlib.Decide.{decLe}
 use native.Mathlib.Omega.{arith}
-use lib.ListN.{length, getD, getElem?, take, drop, length-append, length-drop}
+use lib.ListN.{length, getD, getElem?, take, drop, length-append, length-drop, List·getD-append}
 use lib.Seq.{take-all, take-at, getD-take}
 use lib.IntN.{ℤ, pos, negsuc}
-use Rattle.line.specs.Line.{letterCode}
+use Rattle.line.specs.declared.Refusal.the-variants.{NoChild}
+use Rattle.line.specs.Refusal.{refused, fine}
+use Rattle.line.specs.Line.{letterCode, toNat}
 use Rattle.table.specs.Tree.{MAX, MIN, CHANCE, Forest, end, leaf, inner}
 use Rattle.table.specs.Accepted.{Filled, Rooted}
 use Rattle.table.specs.Slices.{laid}
 use Rattle.worth.specs.declared.Scale.{Scale}
 use Rattle.worth.specs.Worth.{Share}
-use Rattle.worth.specs.Heights.{heightShares, firstHeight, Small}
+use Rattle.worth.specs.Heights.{heightValue, heightShares, firstHeight, Small}
 use Rattle.worth.specs.Inside.{kindIn, Beside, Lays}
 use Rattle.worth.proofs.Run.{lays-le}
 use Rattle.judge.specs.declared.Play.{Play}
 use Rattle.judge.specs.declared.Play.the-variants.{Child as Kid, NoPlay}
-use Rattle.judge.specs.Judge.{Side, AtM, AtN, Root, undecided, decided, rootOf, children, numbered, noDecision, judged, noSuchChild, playOf}
+use Rattle.judge.specs.Judge.{Side, AtM, AtN, Root, undecided, decided, rootOf, children, numbered, noDecision, judged, playOf}
 use Rattle.judge.specs.Heights.{heightLoss, heightLevels, heightJudgeChild, heightJudgeAt, Ahead}
 use Rattle.judge.specs.Inside.{Chained, Chain, Here, Room, Under, Listed, bestIn, AllAhead, levelsIn, forestJudge, Decided}
 use Rattle.judge.proofs.Best.{no-decision, best-ahead}
 use Rattle.judge.proofs.Shift.{numbered-each}
-use Rattle.judge.proofs.Walk.{none-left}
-use Rattle.judge.proofs.Run.{starts, Child, child-at}
-use Rattle.judge.proofs.Worths.{worths, kids-some, best-root, all-ahead, levels-worths}
+use Rattle.judge.proofs.Worths.{worths, numbered-worth, kids-some, best-root, all-ahead, levels-worths}
 
 -- ---- the children by number
+
+-- the node numbers of nodes with one parent, by the stops
+abbrev starts : List ℕ → ℕ → Forest ℕ → List ℕ
+starts S c end = []
+starts S c (leaf n w v rest) = c ∷ starts S (getD S c 0) rest
+starts S c (inner n w k under rest) = c ∷ starts S (getD S c 0) rest
 
 lays-chained : (S : Beside) (c e : ℕ) (s : List ℕ) (f : Forest ℕ) → Lays S c e s f → Chained (S .stops) e c (starts (S .stops) c f)
 unfolding Lays
@@ -39,40 +44,6 @@ lays-chained S c e s (inner n w k under rest) l =
     let j : ℕ = getD (S .stops) c 0 in
     let later : c + 1 ≤ j = lays-le S (c + 1) j (take (25 * (j - (c + 1))) (drop 25 s)) under (l .2) in
     (refl, omega (arith, later), lays-chained S j e (drop (25 * (j - c)) s) rest (l .3))
-
--- the node i is entry k of the nodes f
-record Reached (S : Beside) (g : Scale) (n : ℕ) (s : List ℕ) (k i : ℕ) (f : Forest ℕ) : Type 0 where
-  rest : Forest ℕ
-  child : Child S g n s i rest
-  there : getElem? (heightShares (g .total) (g .grain) f) k ≡ some (child .share)
-
-module _ (S : Beside) (g : Scale) (n : ℕ) (s : List ℕ) (room : Room S g n s) where
-  none-there : (k c i : ℕ) (f : Forest ℕ) → Here S g n s c f → n ≤ c → getElem? (starts (S .stops) c f) k ≡ some i → ⊥
-  none-there k c i f H h e =
-      let nothing : starts (S .stops) c f ≡ [] = none-left (S .stops) n c (starts (S .stops) c f) (lays-chained S c n (drop (25 * c) s) f (H .lays)) h in
-      let missing : none ≡ some i = sym (ap (λ (ns : List ℕ). getElem? ns k) nothing) ∙ e in
-      let z : _≡_ {A = ℕ} 0 1 = cc in
-      omega arith
-
-  reach : (k c i : ℕ) (f : Forest ℕ) → Here S g n s c f → getElem? (starts (S .stops) c f) k ≡ some i → Reached S g n s k i f
-  reach zero c i f H e = elim (decLe n c) [
-    | yes h ↦ absurd (none-there zero c i f H h e)
-    | no h ↦ first (child-at S g n s room c f H (omega arith))
-  ]
-    where
-      first : Child S g n s c f → Reached S g n s 0 i f
-      first C =
-          let one : some c ≡ some i = sym (ap (λ (ns : List ℕ). getElem? ns 0) (C .starts)) ∙ e in
-          let same : c ≡ i = cc in
-          subst (λ (j : ℕ). Reached S g n s 0 j f) same
-          (record { rest = f; child = C; there = ap (λ (xs : List (Share ℕ)). getElem? xs 0) (C .shares) })
-  reach (suc k) c i f H e = elim (decLe n c) [
-    | yes h ↦ absurd (none-there (suc k) c i f H h e)
-    | no h ↦
-        let C = child-at S g n s room c f H (omega arith) in
-        let r = reach k (getD (S .stops) c 0) i (C .rest) (C .here) (sym (ap (λ (ns : List ℕ). getElem? ns (suc k)) (C .starts)) ∙ e) in
-        record { rest = r .rest; child = r .child; there = ap (λ (xs : List (Share ℕ)). getElem? xs (suc k)) (C .shares) ∙ r .there }
-  ]
 
 missing : (S : List ℕ) (T G k c : ℕ) (f : Forest ℕ) → getElem? (starts S c f) k ≡ none → getElem? (heightShares T G f) k ≡ none
 unfolding heightShares
@@ -86,6 +57,21 @@ number-missing : (S : List ℕ) (T G c : ℕ) (f : Forest ℕ) (z : ℤ) → num
 number-missing S T G c f (pos zero) e = refl
 number-missing S T G c f (pos (suc k)) e = missing S T G k c f e
 number-missing S T G c f (negsuc k) e = refl
+
+-- there is a share for every node
+present : (S : List ℕ) (T G k c i : ℕ) (f : Forest ℕ) → getElem? (starts S c f) k ≡ some i → (x : Share ℕ) × (getElem? (heightShares T G f) k ≡ some x)
+unfolding heightShares
+present S T G k c i end e = let z : _≡_ {A = ℕ} 0 1 = cc in absurd (omega arith)
+present S T G zero c i (leaf n w v rest) e = (record { weight = w; worth = v * G }, refl)
+present S T G zero c i (inner n w kind under rest) e = (record { weight = w; worth = heightValue T kind (heightShares T G under) }, refl)
+present S T G (suc k) c i (leaf n w v rest) e = present S T G k (getD S c 0) i rest e
+present S T G (suc k) c i (inner n w kind under rest) e = present S T G k (getD S c 0) i rest e
+
+number-present : (S : List ℕ) (T G c i : ℕ) (f : Forest ℕ) (z : ℤ) → numbered z (starts S c f) ≡ some i
+    → (x : Share ℕ) × (numbered z (heightShares T G f) ≡ some x)
+number-present S T G c i f (pos zero) e = let z : _≡_ {A = ℕ} 0 1 = cc in absurd (omega arith)
+number-present S T G c i f (pos (suc k)) e = present S T G k c i f e
+number-present S T G c i f (negsuc k) e = let z : _≡_ {A = ℕ} 0 1 = cc in absurd (omega arith)
 
 -- what a play says of the number
 play-child : (o : Option ℕ) (i : ℕ) → Kid i ≡ playOf o → o ≡ some i
@@ -163,6 +149,15 @@ module _ (S : Beside) (g : Scale) (n : ℕ) (s : List ℕ) where
       pub list-room : m ≤ length list
       list-room = omega (arith, told .0, ap length (told .1), length-append (worths kids) (drop (length (worths kids)) came))
 
+      -- the child of number z has its worth at this place
+      pub entry-of : (z : ℤ) (x : Share ℕ) → numbered z kids ≡ some x → (0 < toNat z) × (toNat z ≤ length list) × (getD list (toNat z - 1) 0 ≡ x .worth)
+      entry-of z x e =
+          let r = numbered-worth z kids x e in (
+            r .0,
+            omega (arith, r .1, told .0, list-room),
+            ap (λ (l : List ℕ). getD l (toNat z - 1) 0) (told .1) ∙ List·getD-append (worths kids) (drop (length (worths kids)) came) 0 (toNat z - 1) (omega (arith, r .0, r .1)) ∙ r .2,
+          )
+
       pub best-of : (r : ℕ) → r ≡ bestIn side (take m list) → r ≡ height
       best-of r e =
           e ∙ ap (bestIn side) front ∙ best-root (g .total) (g .grain) side tree (D .whole .ready .fits .filled) (D .root)
@@ -177,42 +172,34 @@ module _ (S : Beside) (g : Scale) (n : ℕ) (s : List ℕ) where
 
     -- ---- the child of a number
 
-    pub record Found (z : ℤ) (i : ℕ) : Type 0 where
-      pub rest : Forest ℕ
-      pub child : Child S g n s i rest
-      pub there : numbered z kids ≡ some (child .share)
+    abbrev pub Found : ℤ → Type 0
+    Found z = (x : Share ℕ) × (numbered z kids ≡ some x)
 
-    at-number : (z : ℤ) (i : ℕ) → numbered z (starts (S .stops) 1 (children tree)) ≡ some i → Found z i
-    at-number (pos zero) i e = let z : _≡_ {A = ℕ} 0 1 = cc in absurd (omega arith)
-    at-number (negsuc k) i e = let z : _≡_ {A = ℕ} 0 1 = cc in absurd (omega arith)
-    at-number (pos (suc k)) i e =
-        let r = reach S g n s room-of k 1 i (children tree) here e in
-        record { rest = r .rest; child = r .child; there = r .there }
-
-    pub found : (z : ℤ) (i : ℕ) (p : Play) → p ≡ Kid i → p ≡ playOf (numbered z (chain-of .nodes)) → Found z i
+    pub found : (z : ℤ) (i : ℕ) (p : Play) → p ≡ Kid i → p ≡ playOf (numbered z (chain-of .nodes)) → Found z
     unfolding chain-of
-    found z i p e f = at-number z i (play-child (numbered z (starts (S .stops) 1 (children tree))) i (sym e ∙ f))
+    found z i p e f =
+        number-present (S .stops) (g .total) (g .grain) 1 i (children tree) z (play-child (numbered z (starts (S .stops) 1 (children tree))) i (sym e ∙ f))
 
     -- ---- the judgement
 
     decided-judge : (z : ℤ) → forestJudge g tree z ≡ heightJudgeChild side (g .grain) height kids (numbered z kids)
     decided-judge z = ap (λ (r : Root). heightJudgeAt r (g .grain) height kids z) (D .root)
 
-    pub well-none : (z : ℤ) (p : Play) → p ≡ NoPlay → p ≡ playOf (numbered z (chain-of .nodes)) → noSuchChild ≡ forestJudge g tree z
+    pub well-none : (z : ℤ) (p : Play) → p ≡ NoPlay → p ≡ playOf (numbered z (chain-of .nodes)) → refused NoChild ≡ forestJudge g tree z
     unfolding chain-of
     well-none z p e f =
         let o : List ℕ = starts (S .stops) 1 (children tree) in
         sym (decided-judge z ∙ ap (heightJudgeChild side (g .grain) height kids) (number-missing (S .stops) (g .total) (g .grain) 1 (children tree) z (play-none (numbered z o) (sym e ∙ f))))
 
-    pub well-lost : (z : ℤ) (i : ℕ) (K : Found z i) (best h l level : ℕ) → best ≡ height → h ≡ K .child .share .worth
-        → l ≡ heightLoss side best h → level ≡ heightLevels side (g .grain) height kids → judged (pos l) level ≡ forestJudge g tree z
-    well-lost z i K best h l level b w x y =
-        ap₂ (λ (m : ℕ) (v : ℕ). judged (pos m) v) (x ∙ ap₂ (heightLoss side) b w) y
-        ∙ sym (decided-judge z ∙ ap (heightJudgeChild side (g .grain) height kids) (K .there))
+    pub well-lost : (z : ℤ) (K : Found z) (best h l level : ℕ) → best ≡ height → h ≡ K .0 .worth
+        → l ≡ heightLoss side best h → level ≡ heightLevels side (g .grain) height kids → fine (judged (pos l) level) ≡ forestJudge g tree z
+    well-lost z K best h l level b w x y =
+        ap₂ (λ (m : ℕ) (v : ℕ). fine (judged (pos m) v)) (x ∙ ap₂ (heightLoss side) b w) y
+        ∙ sym (decided-judge z ∙ ap (heightJudgeChild side (g .grain) height kids) (K .1))
 
-    pub found-ahead : (z : ℤ) (i : ℕ) (K : Found z i) (best h : ℕ) → best ≡ height → h ≡ K .child .share .worth → Ahead side best h
-    found-ahead z i K best h b w =
-        rw (b, w) (numbered-each (Ahead side height) kids z (K .child .share) (best-ahead (g .total) (g .grain) side tree (D .root)) (K .there))
+    pub found-ahead : (z : ℤ) (K : Found z) (best h : ℕ) → best ≡ height → h ≡ K .0 .worth → Ahead side best h
+    found-ahead z K best h b w =
+        rw (b, w) (numbered-each (Ahead side height) kids z (K .0) (best-ahead (g .total) (g .grain) side tree (D .root)) (K .1))
 
 -- ---- the root's letter
 
@@ -256,7 +243,7 @@ module _ (S : Beside) (n : ℕ) (s : List ℕ) where
     root-else (inner m w MIN under rest) l r a b = absurd (b (code ∙ l .0))
     root-else (inner m w CHANCE under rest) l r a b = refl
 
-pub whole-undecided : (g : Scale) (f : Forest ℕ) (i : ℤ) → rootOf f ≡ undecided → noDecision ≡ forestJudge g f i
+pub whole-undecided : (g : Scale) (f : Forest ℕ) (i : ℤ) → rootOf f ≡ undecided → fine noDecision ≡ forestJudge g f i
 whole-undecided g f i e =
     let G : ℕ = g .grain in
     let xs : List (Share ℕ) = heightShares (g .total) G (children f) in

@@ -40,19 +40,12 @@ only end = end
 only (leaf n w v rest) = leaf n w v end
 only (inner n w k under rest) = inner n w k under end
 
--- the node numbers of nodes with one parent, by the stops
-abbrev pub starts : List ℕ → ℕ → Forest ℕ → List ℕ
-starts S c end = []
-starts S c (leaf n w v rest) = c ∷ starts S (getD S c 0) rest
-starts S c (inner n w k under rest) = c ∷ starts S (getD S c 0) rest
-
 record Lead (S : Beside) (g : Scale) (c e : ℕ) (s : List ℕ) (f : Forest ℕ) : Type 0 where
   share : Share ℕ
   rest : Forest ℕ
   later : c < getD (S .stops) c 0
   within : getD (S .stops) c 0 ≤ e
   shares : heightShares (g .total) (g .grain) f ≡ share ∷ heightShares (g .total) (g .grain) rest
-  starts : starts (S .stops) c f ≡ c ∷ starts (S .stops) (getD (S .stops) c 0) rest
   lays : Lays S (getD (S .stops) c 0) e (drop (25 * (getD (S .stops) c 0 - c)) s) rest
   filled : Filled rest
   small : Small (g .total) (g .grain) (g .top) rest
@@ -76,7 +69,6 @@ module _ (S : Beside) (g : Scale) (c e : ℕ) (s : List ℕ) where
         later = later;
         within = lays-le S j e (drop (25 * (j - c)) s) rest (l .4);
         shares = refl;
-        starts = refl;
         lays = l .4;
         filled = F;
         small = M .1;
@@ -104,7 +96,6 @@ module _ (S : Beside) (g : Scale) (c e : ℕ) (s : List ℕ) where
         later = later;
         within = lays-le S j e (drop (25 * (j - c)) s) rest (l .3);
         shares = refl;
-        starts = refl;
         lays = l .3;
         filled = F .2;
         small = M .3;
@@ -128,13 +119,12 @@ pub record Child (S : Beside) (g : Scale) (n : ℕ) (s : List ℕ) (i : ℕ) (f 
   pub later : i < getD (S .stops) i 0
   pub within : getD (S .stops) i 0 ≤ n
   pub shares : heightShares (g .total) (g .grain) f ≡ share ∷ heightShares (g .total) (g .grain) rest
-  pub starts : starts (S .stops) i f ≡ i ∷ starts (S .stops) (getD (S .stops) i 0) rest
   pub here : Here S g n s (getD (S .stops) i 0) rest
   pub ready : Ready S g MAX i (getD (S .stops) i 0) (take (25 * getD (S .stops) i 0 - 25 * i) (drop (25 * i) s))
   pub worth : heightValue (g .total) MAX (heightShares (g .total) (g .grain) (ready .nodes)) ≡ share .worth
 
 module _ (S : Beside) (g : Scale) (n : ℕ) (s : List ℕ) (room : Room S g n s) where
-  pub child-at : (i : ℕ) (f : Forest ℕ) → Here S g n s i f → i < n → Child S g n s i f
+  child-at : (i : ℕ) (f : Forest ℕ) → Here S g n s i f → i < n → Child S g n s i f
   child-at i f H h =
       let j : ℕ = getD (S .stops) i 0 in
       let L = lead S g i n (drop (25 * i) s) f (H .lays) (H .filled) (H .small) h in
@@ -148,7 +138,6 @@ module _ (S : Beside) (g : Scale) (n : ℕ) (s : List ℕ) (room : Room S g n s)
         later = L .later;
         within = L .within;
         shares = L .shares;
-        starts = L .starts;
         here = record {
           lays = subst (λ (t : List ℕ). Lays S j n t (L .rest)) cut (L .lays);
           filled = L .filled;

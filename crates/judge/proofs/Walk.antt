@@ -47,7 +47,7 @@ ahead S n i [] c h = absurd (omega (arith, c))
 ahead S n i (m ∷ ms) c h =
     record { later = c .1; within = chained-le S n (getD S i 0) ms (c .2); rest = ms; nodes = ap (λ (x : ℕ). x ∷ ms) (c .0); chained = c .2 }
 
-pub none-left : (S : List ℕ) (n i : ℕ) (ns : List ℕ) → Chained S n i ns → n ≤ i → ns ≡ []
+none-left : (S : List ℕ) (n i : ℕ) (ns : List ℕ) → Chained S n i ns → n ≤ i → ns ≡ []
 none-left S n i [] c h = refl
 none-left S n i (m ∷ ms) c h = absurd (omega (arith, c .1, chained-le S n (getD S i 0) ms (c .2)))
 

@@ -4,16 +4,17 @@ use mathlib.Core.Path.{_≡_, refl}
 use mathlib.Core.List.{List, [], _∷_, _++_, map}
 use lib.IntN.{ℤ, pos, negsuc}
 use Rattle.field.specs.Field.{strip, digits, whole, signed}
-use Rattle.line.specs.Refusal.{Verdict, fine, unless, unlessAt, next}
+use Rattle.line.specs.declared.Refusal.the-variants.{NoChild}
+use Rattle.line.specs.Refusal.{Verdict, refused, fine, unless, unlessAt, next}
 use Rattle.line.specs.Line.{climb}
 use Rattle.table.specs.Tree.{run, after, forest, weigh, nodesWhere}
 use Rattle.table.specs.Examples.{max-root, b-head, chance, b3, b4, table-b, turned-b, lone-leaf}
 use Rattle.table.specs.Table.{Table, nodeLines, complete, readText, greatest}
 use Rattle.worth.specs.Worth.{maxZ, minZ, floorZ, largest, smallest, weighted, value, shares}
-use Rattle.judge.specs.Judge.{levels, Judgement, noDecision, judged, noSuchChild, judge}
+use Rattle.judge.specs.Judge.{levels, Judgement, noDecision, judged, judge}
 
 -- the judgements of the root children of these numbers
-found : List ℤ → Table → Verdict (List Judgement)
+found : List ℤ → Table → Verdict (List (Verdict Judgement))
 found is t = fine (map (judge t) is)
 
 -- "   1 L    0            4"
@@ -49,31 +50,31 @@ toss2 : List ℕ
 toss2 = 32 ∷ 32 ∷ 32 ∷ 50 ∷ 32 ∷ 76 ∷ 32 ∷ 32 ∷ 32 ∷ 32 ∷ 48 ∷ 32 ∷ 32 ∷ 32 ∷ 32 ∷ 49 ∷ 32 ∷ 32 ∷ 32 ∷ 32 ∷ 32 ∷ 32 ∷ 32 ∷ 56 ∷ 10 ∷ []
 
 -- table B: the second child played loses 6 and one child is level; there is no child 0, 3 or -1
-judged-b : next (readText table-b) (found (pos 2 ∷ pos 1 ∷ pos 0 ∷ pos 3 ∷ negsuc 0 ∷ [])) ≡ fine (judged (pos 6) 1 ∷ judged (pos 0) 1 ∷ noSuchChild ∷ noSuchChild ∷ noSuchChild ∷ [])
+judged-b : next (readText table-b) (found (pos 2 ∷ pos 1 ∷ pos 0 ∷ pos 3 ∷ negsuc 0 ∷ [])) ≡ fine (fine (judged (pos 6) 1) ∷ fine (judged (pos 0) 1) ∷ refused NoChild ∷ refused NoChild ∷ refused NoChild ∷ [])
 unfolding found maxZ minZ floorZ largest smallest weighted value shares levels strip digits whole signed unless unlessAt climb run after forest weigh nodesWhere nodeLines complete readText greatest
 judged-b = refl
 
 -- B with 4 in place of 5: the second child loses 2 grains of the 4 that a point has, and both are level
-judged-near : next (readText (b-head ++ (max-root ++ (near1 ++ (chance ++ (b3 ++ b4)))))) (found (pos 2 ∷ pos 1 ∷ [])) ≡ fine (judged (pos 2) 2 ∷ judged (pos 0) 2 ∷ [])
+judged-near : next (readText (b-head ++ (max-root ++ (near1 ++ (chance ++ (b3 ++ b4)))))) (found (pos 2 ∷ pos 1 ∷ [])) ≡ fine (fine (judged (pos 2) 2) ∷ fine (judged (pos 0) 2) ∷ [])
 unfolding near1 found maxZ minZ floorZ largest smallest weighted value shares levels strip digits whole signed unless unlessAt climb run after forest weigh nodesWhere nodeLines complete readText greatest
 judged-near = refl
 
 -- B turned: the same at an N root
-judged-turned : next (readText turned-b) (found (pos 2 ∷ pos 1 ∷ pos 0 ∷ pos 3 ∷ negsuc 0 ∷ [])) ≡ fine (judged (pos 6) 1 ∷ judged (pos 0) 1 ∷ noSuchChild ∷ noSuchChild ∷ noSuchChild ∷ [])
+judged-turned : next (readText turned-b) (found (pos 2 ∷ pos 1 ∷ pos 0 ∷ pos 3 ∷ negsuc 0 ∷ [])) ≡ fine (fine (judged (pos 6) 1) ∷ fine (judged (pos 0) 1) ∷ refused NoChild ∷ refused NoChild ∷ refused NoChild ∷ [])
 unfolding found maxZ minZ floorZ largest smallest weighted value shares levels strip digits whole signed unless unlessAt climb run after forest weigh nodesWhere nodeLines complete readText greatest
 judged-turned = refl
 
 -- leaves of 3 and 2 under an M: a loss of just one point is not level
-judged-point : next (readText (point-head ++ (max-root ++ (point1 ++ point2)))) (found (pos 2 ∷ pos 1 ∷ [])) ≡ fine (judged (pos 1) 1 ∷ judged (pos 0) 1 ∷ [])
+judged-point : next (readText (point-head ++ (max-root ++ (point1 ++ point2)))) (found (pos 2 ∷ pos 1 ∷ [])) ≡ fine (fine (judged (pos 1) 1) ∷ fine (judged (pos 0) 1) ∷ [])
 unfolding point-head point1 point2 found maxZ minZ floorZ largest smallest weighted value shares levels strip digits whole signed unless unlessAt climb run after forest weigh nodesWhere nodeLines complete readText greatest
 judged-point = refl
 
 -- a lone leaf: no decision, whatever the number
-judged-lone : next (readText lone-leaf) (found (pos 1 ∷ pos 7 ∷ pos 0 ∷ negsuc 0 ∷ [])) ≡ fine (noDecision ∷ noDecision ∷ noDecision ∷ noDecision ∷ [])
+judged-lone : next (readText lone-leaf) (found (pos 1 ∷ pos 7 ∷ pos 0 ∷ negsuc 0 ∷ [])) ≡ fine (fine noDecision ∷ fine noDecision ∷ fine noDecision ∷ fine noDecision ∷ [])
 unfolding found maxZ minZ floorZ largest smallest weighted value shares levels strip digits whole signed unless unlessAt climb run after forest weigh nodesWhere nodeLines complete readText greatest
 judged-lone = refl
 
 -- a C root: the same
-judged-toss : next (readText (toss-head ++ (toss-root ++ (toss1 ++ toss2)))) (found (pos 1 ∷ pos 2 ∷ pos 3 ∷ pos 0 ∷ negsuc 0 ∷ [])) ≡ fine (noDecision ∷ noDecision ∷ noDecision ∷ noDecision ∷ noDecision ∷ [])
+judged-toss : next (readText (toss-head ++ (toss-root ++ (toss1 ++ toss2)))) (found (pos 1 ∷ pos 2 ∷ pos 3 ∷ pos 0 ∷ negsuc 0 ∷ [])) ≡ fine (fine noDecision ∷ fine noDecision ∷ fine noDecision ∷ fine noDecision ∷ fine noDecision ∷ [])
 unfolding toss-head toss-root toss1 toss2 found maxZ minZ floorZ largest smallest weighted value shares levels strip digits whole signed unless unlessAt climb run after forest weigh nodesWhere nodeLines complete readText greatest
 judged-toss = refl

@@ -1,19 +1,22 @@
 -- The worths of the root's children as a list of numbers: the best of them, and those level with it. Assumes nothing.
-use Prim.Native.Nat.{ℕ, suc, _+_, _≤_, _<_}
+use Prim.Native.Nat.{ℕ, zero, suc, _+_, _-_, _≤_, _<_}
 use mathlib.Core.Path.{_≡_, refl, sym, ap, ap₂, _∙_}
 use mathlib.Core.Bool.{Bool, true, false, cond}
 use mathlib.Core.List.{List, [], _∷_, map}
+use mathlib.Core.Option.{some}
 use native.Mathlib.Omega.{arith}
-use lib.ListN.{length, getD, take, drop}
+use lib.ListN.{length, getD, getElem?, take, drop}
 use lib.Seq.{length-take-le, getD-take, drop-cons, drop-length}
 use lib.Dec.{ltb}
+use lib.IntN.{ℤ, pos, negsuc}
+use Rattle.line.specs.Line.{toNat}
 use Rattle.table.specs.Tree.{Forest, end, leaf, inner}
 use Rattle.table.specs.Accepted.{Filled}
 use Rattle.worth.specs.Worth.{Share}
 use Rattle.worth.specs.Heights.{tallest, shortest, heightValue, heightShares, firstHeight}
 use Rattle.worth.proofs.Bounds.{Each}
 use Rattle.worth.proofs.Shift.{Some, some-shares}
-use Rattle.judge.specs.Judge.{Side, AtM, AtN, decided, rootOf, children}
+use Rattle.judge.specs.Judge.{Side, AtM, AtN, decided, rootOf, children, numbered}
 use Rattle.judge.specs.Heights.{heightLoss, heightLevels, Ahead}
 use Rattle.judge.specs.Inside.{better, bestFrom, bestIn, AllAhead, levelOne, levelsIn}
 use Rattle.judge.proofs.Best.{no-decision, kindAt, kind-side}
@@ -22,6 +25,21 @@ use Rattle.judge.proofs.Best.{no-decision, kindAt, kind-side}
 
 abbrev pub worths : List (Share ℕ) → List ℕ
 worths xs = map (λ (x : Share ℕ). x .worth) xs
+
+-- the share of number z has its worth at this place
+entry-worth : (k : ℕ) (xs : List (Share ℕ)) (x : Share ℕ) → getElem? xs k ≡ some x → (k < length (worths xs)) × (getD (worths xs) k 0 ≡ x .worth)
+entry-worth k [] x e = let z : _≡_ {A = ℕ} 0 1 = cc in absurd (omega arith)
+entry-worth zero (y ∷ ys) x e = let same : y ≡ x = cc in (omega arith, ap (λ (v : Share ℕ). v .worth) same)
+entry-worth (suc k) (y ∷ ys) x e = let r = entry-worth k ys x e in (omega (arith, r .0), r .1)
+
+pub numbered-worth : (z : ℤ) (xs : List (Share ℕ)) (x : Share ℕ) → numbered z xs ≡ some x
+    → (0 < toNat z) × (toNat z ≤ length (worths xs)) × (getD (worths xs) (toNat z - 1) 0 ≡ x .worth)
+numbered-worth (pos zero) xs x e = let z : _≡_ {A = ℕ} 0 1 = cc in absurd (omega arith)
+numbered-worth (pos (suc k)) xs x e =
+    let r = entry-worth k xs x e in
+    let z : suc k - 1 ≡ k = omega arith in
+    (omega arith, omega (arith, r .0), ap (λ (m : ℕ). getD (worths xs) m 0) z ∙ r .1)
+numbered-worth (negsuc k) xs x e = let z : _≡_ {A = ℕ} 0 1 = cc in absurd (omega arith)
 
 -- one child more
 value-more : (T : ℕ) (s : Side) (x y : Share ℕ) (ys : List (Share ℕ))

@@ -1,16 +1,18 @@
--- The judgement over heights, in grains above the lowest end: what is computed with. Assumes nothing.
+-- The judgement over heights, in grains above the lowest end: what is computed with.
 use Prim.Native.Nat.{ℕ, zero, suc, _+_, _-_, _≤_}
 use mathlib.Core.Bool.{cond}
 use mathlib.Core.List.{List, [], _∷_}
 use mathlib.Core.Option.{Option, none, some}
 use lib.Dec.{ltb}
 use lib.IntN.{ℤ, pos}
+use Rattle.line.specs.declared.Refusal.the-variants.{NoChild}
+use Rattle.line.specs.Refusal.{Verdict, refused, fine}
 use Rattle.table.specs.Tree.{Forest, end, leaf, inner}
 use Rattle.table.specs.Table.{Table, grain}
 use Rattle.table.specs.Slices.{heightTree}
 use Rattle.worth.specs.Worth.{Share}
 use Rattle.worth.specs.Heights.{heightShares, heightWorth}
-use Rattle.judge.specs.Judge.{Side, AtM, AtN, Root, undecided, decided, rootOf, children, numbered, Judgement, noDecision, judged, noSuchChild}
+use Rattle.judge.specs.Judge.{Side, AtM, AtN, Root, undecided, decided, rootOf, children, numbered, Judgement, noDecision, judged}
 
 -- the root's children with their worths
 abbrev pub heightWorths : Table → List (Share ℕ)
@@ -25,15 +27,15 @@ unfoldable pub heightLevels : Side → (G best : ℕ) → List (Share ℕ) → �
 heightLevels s G best [] = 0
 heightLevels s G best (x ∷ xs) = cond (ltb (heightLoss s best (x .worth)) G) 1 0 + heightLevels s G best xs
 
-abbrev pub heightJudgeChild : Side → (G best : ℕ) (xs : List (Share ℕ)) → Option (Share ℕ) → Judgement
-heightJudgeChild s G best xs none = noSuchChild
-heightJudgeChild s G best xs (some x) = judged (pos (heightLoss s best (x .worth))) (heightLevels s G best xs)
+abbrev pub heightJudgeChild : Side → (G best : ℕ) (xs : List (Share ℕ)) → Option (Share ℕ) → Verdict Judgement
+heightJudgeChild s G best xs none = refused NoChild
+heightJudgeChild s G best xs (some x) = fine (judged (pos (heightLoss s best (x .worth))) (heightLevels s G best xs))
 
-abbrev pub heightJudgeAt : Root → (G best : ℕ) (xs : List (Share ℕ)) → ℤ → Judgement
-heightJudgeAt undecided G best xs i = noDecision
+abbrev pub heightJudgeAt : Root → (G best : ℕ) (xs : List (Share ℕ)) → ℤ → Verdict Judgement
+heightJudgeAt undecided G best xs i = fine noDecision
 heightJudgeAt (decided s) G best xs i = heightJudgeChild s G best xs (numbered i xs)
 
-abbrev pub heightJudge : Table → ℤ → Judgement
+abbrev pub heightJudge : Table → ℤ → Verdict Judgement
 heightJudge t i = heightJudgeAt (rootOf (heightTree t)) (grain t) (heightWorth t) (heightWorths t) i
 
 -- no child is better than the best

@@ -1,4 +1,4 @@
--- The judge by the lines: what its code asks of them and of the slices beside them, and what it answers. Assumes nothing.
+-- The judge by the lines: what its code asks of them and of the slices beside them, and what it answers.
 use Prim.Native.Nat.{ℕ, _+_, _*_, _≤_, _<_, min, max}
 use mathlib.Core.Path.{_≡_}
 use mathlib.Core.Bool.{Bool, true, false, cond}
@@ -6,6 +6,7 @@ use mathlib.Core.List.{List, [], _∷_, map}
 use lib.Dec.{ltb}
 use lib.ListN.{length, getD, drop}
 use lib.IntN.{ℤ, pos}
+use Rattle.line.specs.Refusal.{Verdict, refused, fine}
 use Rattle.table.specs.Tree.{MAX, Forest}
 use Rattle.table.specs.Accepted.{Filled, Rooted}
 use Rattle.table.specs.Slices.{laid}
@@ -15,8 +16,10 @@ use Rattle.worth.specs.Heights.{heightShares, firstHeight, Small}
 use Rattle.worth.specs.Inside.{Beside, Reach, Lays, OkScale, Ready}
 use Rattle.judge.specs.declared.Play.{Play}
 use Rattle.judge.specs.declared.Judged.{Judged}
-use Rattle.judge.specs.declared.Judged.the-variants.{NoDecision, Judged as Told, NoChild}
-use Rattle.judge.specs.Judge.{Side, AtM, AtN, decided, rootOf, children, numbered, Judgement, noDecision, judged, noSuchChild, playOf}
+use Rattle.judge.specs.declared.Judged.the-variants.{NoDecision, Loss}
+use Rattle.judge.specs.declared.Opinion.{Opinion}
+use Rattle.judge.specs.declared.Opinion.the-variants.{Given, Refused}
+use Rattle.judge.specs.Judge.{Side, AtM, AtN, decided, rootOf, children, numbered, Judgement, noDecision, judged, playOf}
 use Rattle.judge.specs.Heights.{heightLoss, heightJudgeAt, Ahead}
 
 abbrev pub sideIf : Bool → Side
@@ -102,11 +105,14 @@ levelsIn s G best (h ∷ hs) = levelOne s G best h + levelsIn s G best hs
 -- what each answer means
 abbrev pub judgedOf : Judged → Judgement
 judgedOf NoDecision = noDecision
-judgedOf (Told loss level) = judged (pos loss) level
-judgedOf NoChild = noSuchChild
+judgedOf (Loss loss level) = judged (pos loss) level
+
+abbrev pub meant : Opinion → Verdict Judgement
+meant (Given j) = fine (judgedOf j)
+meant (Refused r) = refused r
 
 -- the judgement at the first of the nodes f; for a table's nodes this is `heightJudge`
-abbrev pub forestJudge : Scale → Forest ℕ → ℤ → Judgement
+abbrev pub forestJudge : Scale → Forest ℕ → ℤ → Verdict Judgement
 forestJudge g f i =
     heightJudgeAt (rootOf f) (g .grain) (firstHeight (heightShares (g .total) (g .grain) f)) (heightShares (g .total) (g .grain) (children f)) i
 
@@ -115,13 +121,13 @@ pub record Whole (S : Beside) (g : Scale) (n : ℕ) (s : List ℕ) : Type 0 wher
   pub ready : Ready S g MAX 0 n s
   pub rooted : Rooted (ready .nodes)
 
-abbrev pub WellJudged : Beside → Scale → ℕ → List ℕ → ℤ → Judged → Type 0
-WellJudged S g n s i r = (W : Whole S g n s) → judgedOf r ≡ forestJudge g (W .ready .nodes) i
+abbrev pub WellJudged : Beside → Scale → ℕ → List ℕ → ℤ → Opinion → Type 0
+WellJudged S g n s i r = (W : Whole S g n s) → meant r ≡ forestJudge g (W .ready .nodes) i
 
 -- the same of an M or N root
 pub record Decided (S : Beside) (g : Scale) (n : ℕ) (s : List ℕ) (side : Side) : Type 0 where
   pub whole : Whole S g n s
   pub root : rootOf (whole .ready .nodes) ≡ decided side
 
-abbrev pub WellDecided : Beside → Scale → ℕ → List ℕ → Side → ℤ → Judged → Type 0
-WellDecided S g n s side i r = (D : Decided S g n s side) → judgedOf r ≡ forestJudge g (D .whole .ready .nodes) i
+abbrev pub WellDecided : Beside → Scale → ℕ → List ℕ → Side → ℤ → Opinion → Type 0
+WellDecided S g n s side i r = (D : Decided S g n s side) → meant r ≡ forestJudge g (D .whole .ready .nodes) i

@@ -1,4 +1,4 @@
--- The judgement of the play made at the root. Document 01, 'Judging and turning'. Assumes nothing.
+-- The judgement of the play made at the root. Document 01, 'Judging and turning'.
 use Prim.Native.Nat.{ℕ, zero, suc, _+_}
 use mathlib.Core.Bool.{cond}
 use mathlib.Core.List.{List, [], _∷_}
@@ -6,6 +6,8 @@ use mathlib.Core.Option.{Option, none, some}
 use lib.ListN.{getElem?}
 use lib.IntN.{ℤ, pos, negsuc, _-ℤ_}
 use lib.Signed.{ltZ}
+use Rattle.line.specs.declared.Refusal.the-variants.{NoChild}
+use Rattle.line.specs.Refusal.{Verdict, refused, fine}
 use Rattle.table.specs.Tree.{Kind, MAX, MIN, CHANCE, Forest, end, leaf, inner}
 use Rattle.table.specs.Table.{Table, tree, grain}
 use Rattle.worth.specs.Worth.{Share, shares, worthOf}
@@ -74,22 +76,21 @@ unfoldable pub levels : Side → (G : ℕ) (exact : ℤ) → List (Share ℤ) �
 levels s G exact [] = 0
 levels s G exact (x ∷ xs) = cond (ltZ (lossAt s exact (x .worth)) (pos G)) 1 0 + levels s G exact xs
 
--- ""no decision" alone, with no loss or level number", or the two, or 14: "judging at M or N: no such child"
+-- ""no decision" alone, with no loss or level number", or the two
 pub data Judgement : Type 0 where
   noDecision : Judgement
   judged : (loss : ℤ) (level : ℕ) → Judgement
-  noSuchChild : Judgement
 
--- where a child x of the children xs is played; "the number of level children is returned too"
-abbrev pub judgeChild : Side → (G : ℕ) (exact : ℤ) (xs : List (Share ℤ)) → Option (Share ℤ) → Judgement
-judgeChild s G exact xs none = noSuchChild
-judgeChild s G exact xs (some x) = judged (lossAt s exact (x .worth)) (levels s G exact xs)
+-- where a child x of the children xs is played, "the number of level children is returned too"; 14: "judging at M or N: no such child"
+abbrev pub judgeChild : Side → (G : ℕ) (exact : ℤ) (xs : List (Share ℤ)) → Option (Share ℤ) → Verdict Judgement
+judgeChild s G exact xs none = refused NoChild
+judgeChild s G exact xs (some x) = fine (judged (lossAt s exact (x .worth)) (levels s G exact xs))
 
 -- "At a C or L root the answer is "no decision" alone, .. for every number. Otherwise the loss .."
-abbrev pub judgeAt : Root → (G : ℕ) (exact : ℤ) (xs : List (Share ℤ)) → ℤ → Judgement
-judgeAt undecided G exact xs i = noDecision
+abbrev pub judgeAt : Root → (G : ℕ) (exact : ℤ) (xs : List (Share ℤ)) → ℤ → Verdict Judgement
+judgeAt undecided G exact xs i = fine noDecision
 judgeAt (decided s) G exact xs i = judgeChild s G exact xs (numbered i xs)
 
 -- "Judging takes the number, from 1, of the root child played": the answer for number i
-abbrev pub judge : Table → ℤ → Judgement
+abbrev pub judge : Table → ℤ → Verdict Judgement
 judge t i = judgeAt (rootOf (tree t)) (grain t) (worthOf t) (worths t) i

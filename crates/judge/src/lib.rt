@@ -1,11 +1,13 @@
 // Judging the play made: the loss of a root child, and how many root children are level with the best.
 ghost use mathlib.Core.Path.{_≡_};
-ghost use Prim.Native.Nat.{_<_, _≤_};
+ghost use Prim.Native.Nat.{_-_, _<_, _≤_};
 ghost use lib.ListN.{length, getD, take};
+ghost use Rattle.line.specs.Line.{toNat};
 ghost use Rattle.table.specs.Tree.{MAX};
 ghost use Rattle.worth.specs.Inside.{beside, Ready, Worthy};
 ghost use Rattle.judge.specs.Heights.{heightLoss, Ahead};
 ghost use Rattle.judge.specs.Inside.{sideIf, Chain, Played, Under, Listed, better, bestIn, AllAhead, levelOne, levelsIn, Whole, WellJudged, Decided, WellDecided};
+use line::Refusal;
 use worth::Scale;
 
 // A play: a root child, by its node number, or none.
@@ -14,11 +16,16 @@ pub enum Play {
     NoPlay,
 }
 
-// A root without a decision; or the loss in grains and the number of level children; or no such child.
+// A root without a decision; or the loss in grains and the number of level children.
 pub enum Judged {
     NoDecision,
-    Judged(u64, u64),
-    NoChild,
+    Loss(u64, u64),
+}
+
+// A judgement, or a refusal: of the table, or of the number where there is no such child.
+pub enum Opinion {
+    Given(Judged),
+    Refused(Refusal),
 }
 
 fn stop_at(stop: &[u16], i: usize) -> usize
@@ -112,6 +119,14 @@ fn list_worths(
     m
 }
 
+// The worth of root child `number`, in the list of all.
+fn worth_at(list: &[u64], number: i64) -> u64
+    requires { ⌜ (0 < toNat number) × (toNat number ≤ length (now list)) ⌝ }
+    ensures { λ r. ⌜ r ≡ getD (now (list .entry)) (toNat number - 1) 0 ⌝ }
+{
+    list[line::natural(number) as usize - 1]
+}
+
 fn better_of(max: bool, a: u64, h: u64) -> u64
     ensures { λ r. ⌜ r ≡ better (sideIf max) a h ⌝ }
 {
@@ -149,7 +164,7 @@ fn count_levels(list: &[u64], m: usize, max: bool, best: u64, grain: u64) -> u64
     count
 }
 
-// At an M root, where `max`, or at an N root.
+// At an M root, where `max`, or at an N root. Each child is evaluated once: the one played is taken from the list.
 fn judge_root(
     lines: &[u8],
     stop: &[u16],
@@ -159,20 +174,19 @@ fn judge_root(
     g: Scale,
     max: bool,
     number: i64,
-) -> Judged
+) -> Opinion
     requires { ⌜ Decided (beside (now stop) (now weight) (now height)) g n (now lines) (sideIf max) ⌝ }
     ensures { λ r. ⌜ WellDecided (beside (now (stop .entry)) (now (weight .entry)) (now (height .entry))) g n (now (lines .entry)) (sideIf max) number r ⌝ }
 {
     match find_child(stop, n, number) {
-        Play::NoPlay => Judged::NoChild,
-        Play::Child(i) => {
-            let e = stop_at(stop, i);
-            let h = worth::worth_of(&lines[25 * i..25 * e], stop, weight, height, i, e, g);
+        Play::NoPlay => Opinion::Refused(Refusal::NoChild),
+        Play::Child(_) => {
             let mut list = [0u64; 1024];
             let m = list_worths(lines, stop, weight, height, n, g, &mut list);
+            let h = worth_at(&list, number);
             let best = best_of(&list, m, max);
             let level = count_levels(&list, m, max, best, g.grain);
-            Judged::Judged(loss(max, best, h), level)
+            Opinion::Given(Judged::Loss(loss(max, best, h), level))
         }
     }
 }
@@ -186,7 +200,7 @@ pub fn judge_table(
     n: usize,
     g: Scale,
     number: i64,
-) -> Judged
+) -> Opinion
     requires { ⌜ Whole (beside (now stop) (now weight) (now height)) g n (now lines) ⌝ }
     ensures { λ r. ⌜ WellJudged (beside (now (stop .entry)) (now (weight .entry)) (now (height .entry))) g n (now (lines .entry)) number r ⌝ }
 {
@@ -197,5 +211,5 @@ pub fn judge_table(
     if kind == 2 {
         return judge_root(lines, stop, weight, height, n, g, false, number);
     }
-    Judged::NoDecision
+    Opinion::Given(Judged::NoDecision)
 }

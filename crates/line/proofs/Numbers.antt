@@ -2,10 +2,10 @@
 use Prim.Native.Nat.{_≤_}
 use native.Mathlib.Omega.{arith}
 use Rattle.line.specs.declared.Refusal.{Refusal}
-use Rattle.line.specs.declared.Refusal.the-variants.{Length, IllWritten, OutOfRange, Misnumbered, UnknownKind, WrongParent, Misfilled, Childless, WrongSum, TooDeep, NoRoom, BadMargin, HasChance}
+use Rattle.line.specs.declared.Refusal.the-variants.{Length, IllWritten, OutOfRange, Misnumbered, UnknownKind, WrongParent, Misfilled, Childless, WrongSum, TooDeep, NoRoom, BadMargin, HasChance, NoChild}
 use Rattle.line.specs.Refusal.{numberOf}
 
-pub number-small : (r : Refusal) → numberOf r ≤ 13
+pub number-small : (r : Refusal) → numberOf r ≤ 14
 number-small Length = omega arith
 number-small (IllWritten n) = omega arith
 number-small (OutOfRange n) = omega arith
@@ -19,3 +19,4 @@ number-small (TooDeep n) = omega arith
 number-small NoRoom = omega arith
 number-small BadMargin = omega arith
 number-small HasChance = omega arith
+number-small NoChild = omega arith

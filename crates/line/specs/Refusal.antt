@@ -1,10 +1,9 @@
--- Refusals of a table, 1 to 10, and of a call on an accepted one, 11 to 13; 14 is a case of judging's answer (engine/specs/Calls). Document 01,
--- 'Refused tables and calls'.
+-- Refusals of a table, 1 to 10, and of a call on an accepted one, 11 to 14. Document 01, 'Refused tables and calls'.
 use Prim.Native.Nat.{ℕ}
 use mathlib.Core.Bool.{Bool, cond}
 use mathlib.Core.List.{List, [], _∷_}
 use Rattle.line.specs.declared.Refusal.{Refusal}
-use Rattle.line.specs.declared.Refusal.the-variants.{Length, IllWritten, OutOfRange, Misnumbered, UnknownKind, WrongParent, Misfilled, Childless, WrongSum, TooDeep, NoRoom, BadMargin, HasChance}
+use Rattle.line.specs.declared.Refusal.the-variants.{Length, IllWritten, OutOfRange, Misnumbered, UnknownKind, WrongParent, Misfilled, Childless, WrongSum, TooDeep, NoRoom, BadMargin, HasChance, NoChild}
 
 -- "Returned": the number and the line of every refusal
 abbrev pub numberOf : Refusal → ℕ
@@ -21,6 +20,7 @@ numberOf (TooDeep line) = 10
 numberOf NoRoom = 11
 numberOf BadMargin = 12
 numberOf HasChance = 13
+numberOf NoChild = 14
 
 abbrev pub lineOf : Refusal → ℕ
 lineOf Length = 0
@@ -36,6 +36,7 @@ lineOf (TooDeep line) = line
 lineOf NoRoom = 0
 lineOf BadMargin = 0
 lineOf HasChance = 0
+lineOf NoChild = 0
 
 -- what a step of the reading gives: a refusal, or what it read
 pub data Verdict (A : Type 0) : Type 0 where

@@ -25,6 +25,7 @@ pub enum Refusal {
     NoRoom,
     BadMargin,
     HasChance,
+    NoChild,
 }
 
 // The header's fields, and what they say.
@@ -95,6 +96,7 @@ pub fn refusal_number(r: Refusal) -> u64
         Refusal::NoRoom => 11,
         Refusal::BadMargin => 12,
         Refusal::HasChance => 13,
+        Refusal::NoChild => 14,
     }
 }
 
@@ -116,6 +118,7 @@ pub fn refusal_line(r: Refusal) -> usize
         Refusal::NoRoom => 0,
         Refusal::BadMargin => 0,
         Refusal::HasChance => 0,
+        Refusal::NoChild => 0,
     }
 }
 

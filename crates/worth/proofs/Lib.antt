@@ -5,7 +5,6 @@ pub mod Shift
 pub mod Span
 pub mod Worth
 pub mod Worked
-pub mod Chain
 pub mod Codes
 pub mod Run
 pub mod Text

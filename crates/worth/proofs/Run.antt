@@ -280,13 +280,6 @@ sum-fits S g CHANCE c e s a i R N k =
 
 -- ---- the parts of the text
 
--- the line at a byte, as the code cuts it
-pub line-same : (at : ℕ) (s : List ℕ) → take (at + 25 - at) (drop at s) ≡ take 25 (drop at s)
-line-same at s = let n : at + 25 - at ≡ 25 = omega arith in ap (λ (m : ℕ). take m (drop at s)) n
-
-pub line-long : (at : ℕ) (s : List ℕ) → at + 25 ≤ length s → length (take (at + 25 - at) (drop at s)) ≡ 25
-line-long at s h = ap length (line-same at s) ∙ length-take-le 25 (drop at s) (omega (arith, length-drop at s))
-
 -- the lines under node i, up to node j, as the code cuts them
 part-same : (c i j : ℕ) (s : List ℕ) → c ≤ i → i < j
     → take (25 * (j - c) - (25 * (i - c) + 25)) (drop (25 * (i - c) + 25) s) ≡ take (25 * (j - (i + 1))) (drop 25 (drop (25 * (i - c)) s))
@@ -309,20 +302,19 @@ module _ (S : Beside) (g : Scale) (k : Kind) (c e : ℕ) (s : List ℕ) (a i : �
   turn-of = record { from = N .0 .from; here = N .1 .later; upto = N .1 .within; room = R .room; few = R .few; long = R .long }
 
   -- the child's kind, stop and lines, as the code has them
-  pub child-of : (q j : ℕ) → q ≡ kindIn (take (25 * (i - c) + 25 - 25 * (i - c)) (drop (25 * (i - c)) s)) → j ≡ getD (S .stops) i 0 → (q ≡ 0 → ⊥)
+  pub child-of : (q j : ℕ) → q ≡ kindIn (take 25 (drop (25 * (i - c)) s)) → j ≡ getD (S .stops) i 0 → (q ≡ 0 → ⊥)
       → Child S g q (i + 1) j (take (25 * (j - c) - (25 * (i - c) + 25)) (drop (25 * (i - c) + 25) s)) (N .1 .share .worth)
   child-of q j kind stop inside =
       let at : ℕ = 25 * (i - c) in
       let m : ℕ = getD (S .stops) i 0 in
       let v : ℕ = N .1 .share .worth in
-      let line : q ≡ kindIn (take 25 (drop at s)) = kind ∙ ap kindIn (line-same at s) in
-      let x = N .1 .child (λ z. inside (line ∙ z)) in
+      let x = N .1 .child (λ z. inside (kind ∙ z)) in
       let y = subst (λ (p : List ℕ). Child S g (kindIn (take 25 (drop at s))) (i + 1) m p v) (sym (part-same c i m s (N .0 .from) (N .1 .later))) x in
       let z = subst (λ (n : ℕ). Child S g (kindIn (take 25 (drop at s))) (i + 1) n (take (25 * (n - c) - (at + 25)) (drop (at + 25) s)) v) (sym stop) y in
-      subst (λ (n : ℕ). Child S g n (i + 1) j (take (25 * (j - c) - (at + 25)) (drop (at + 25) s)) v) (sym line) z
+      subst (λ (n : ℕ). Child S g n (i + 1) j (take (25 * (j - c) - (at + 25)) (drop (at + 25) s)) v) (sym kind) z
 
-  pub leaf-of : kindIn (take (25 * (i - c) + 25 - 25 * (i - c)) (drop (25 * (i - c)) s)) ≡ 0 → getD (S .heights) i 0 * g .grain ≡ N .1 .share .worth
-  leaf-of none = sym (N .1 .leafy (sym (ap kindIn (line-same (25 * (i - c)) s)) ∙ none))
+  pub leaf-of : kindIn (take 25 (drop (25 * (i - c)) s)) ≡ 0 → getD (S .heights) i 0 * g .grain ≡ N .1 .share .worth
+  leaf-of none = sym (N .1 .leafy none)
 
   -- what the child is taken with
   pub turn-fits : (h : ℕ) → h ≡ N .1 .share .worth → k ≡ CHANCE → a + getD (S .weights) i 0 * h < 9223372036854775808

@@ -1,4 +1,4 @@
--- The worth over heights, in grains above the lowest end: what is computed with. Assumes nothing.
+-- The worth over heights, in grains above the lowest end: what is computed with.
 use Prim.Native.Nat.{ℕ, _+_, _*_, _/_, _≤_, min, max}
 use mathlib.Core.Bool.{true}
 use mathlib.Core.List.{List, [], _∷_}

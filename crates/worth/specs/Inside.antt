@@ -1,11 +1,11 @@
--- The worth by a run of lines: how the lines, and the slices beside them, hold nodes, and what the code computes with. Assumes nothing: these are definitions.
+-- The worth by a run of lines: how the lines, and the slices beside them, hold nodes, and what the code computes with.
 use Prim.Native.Nat.{ℕ, _+_, _-_, _*_, _/_, _≤_, _<_, min, max}
 use mathlib.Core.Path.{_≡_}
 use mathlib.Core.Bool.{true, false}
 use mathlib.Core.List.{List, [], _∷_}
 use lib.ListN.{length, getD, take, drop}
 use Rattle.line.specs.Line.{letterCode}
-use Rattle.table.specs.Tree.{Kind, MAX, MIN, CHANCE, Forest, end, leaf, inner, codeOf, kindOf, isChance, isEnd}
+use Rattle.table.specs.Tree.{Kind, MAX, MIN, CHANCE, Forest, end, leaf, inner, codeOf, isChance, isEnd}
 use Rattle.table.specs.Accepted.{Filled}
 use Rattle.worth.specs.declared.Scale.{Scale}
 use Rattle.worth.specs.Worth.{Share}
@@ -64,19 +64,6 @@ sealed T CHANCE a = a / T
 unfoldable pub takeAll : Kind → ℕ → List (Share ℕ) → ℕ
 takeAll k a [] = a
 takeAll k a (x ∷ xs) = takeAll k (taken k a (x .weight) (x .worth)) xs
-
--- a node of the kind of the number k is worth what its first child is, of the kind of the number q: it is no C, its run ends where the
--- child's does, and the child is no leaf
-abbrev pub Leads : ℕ → ℕ → ℕ → ℕ → Type 0
-Leads k q s e = (isChance (kindOf k) ≡ false) × (q ≡ 0 → ⊥) × (s ≡ e)
-
--- the number of node k's kind, in the lines s of the nodes from c on
-abbrev pub kindAt : List ℕ → ℕ → ℕ → ℕ
-kindAt s c k = kindIn (take 25 (drop (25 * (k - c)) s))
-
--- each node from i up to j is worth what its first child is; their runs end at e
-abbrev pub Chain : List ℕ → List ℕ → ℕ → ℕ → ℕ → ℕ → Type 0
-Chain S s c e i j = (k : ℕ) → i ≤ k → k < j → Leads (kindAt s c k) (kindAt s c (k + 1)) (getD S (k + 1) 0) e
 
 -- the numbers of an accepted table
 pub record OkScale (g : Scale) : Type 0 where

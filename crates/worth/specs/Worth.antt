@@ -1,4 +1,4 @@
--- The worth of a table: equation (1) of document 000, in whole grains. Document 01, 'Grains'. Assumes nothing.
+-- The worth of a table: equation (1) of document 000, in whole grains. Document 01, 'Grains'.
 use Prim.Native.Nat.{ℕ, suc, _+_, _-_, _/_}
 use mathlib.Core.Bool.{true, cond}
 use mathlib.Core.List.{List, [], _∷_}

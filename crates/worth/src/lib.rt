@@ -1,12 +1,9 @@
 // The exact worth of a run of lines, in grains above the lowest end: the kinds are those of the lines, the numbers those that were decoded.
 ghost use mathlib.Core.Path.{_≡_};
-ghost use mathlib.Core.Bool.{true};
-ghost use Prim.Native.Nat.{_+_, _-_, _*_, _<_, _≤_};
+ghost use Prim.Native.Nat.{_+_, _*_, _<_, _≤_};
 ghost use lib.ListN.{length, getD, take, drop};
-ghost use lib.Dec.{eqb};
-ghost use Rattle.line.specs.Line.{letterCode};
 ghost use Rattle.table.specs.Tree.{MAX, CHANCE, kindOf};
-ghost use Rattle.worth.specs.Inside.{kindIn, beside, begin, taken, sealed, Leads, Chain, Ready, Worthy};
+ghost use Rattle.worth.specs.Inside.{kindIn, beside, begin, taken, sealed, Ready, Worthy};
 
 // A table's total and grain count, and the highest end's grains above the lowest.
 pub struct Scale {
@@ -15,26 +12,12 @@ pub struct Scale {
     pub top: u64,
 }
 
-fn is_leaf(line: &[u8]) -> bool
-    requires { ⌜ length (now line) ≡ 25 ⌝ }
-    ensures { λ r. ⌜ r ≡ eqb (kindIn (now (line .entry))) 0 ⌝ }
-{
-    line[5] == b'L'
-}
-
-// The letter of the line at the byte `at`.
-fn letter_at(run: &[u8], at: usize) -> u8
-    requires { ⌜ at + 25 ≤ length (now run) ⌝ }
-    ensures { λ r. ⌜ r ≡ getD (take 25 (drop at (now (run .entry)))) 5 0 ⌝ }
-{
-    run[at + 5]
-}
-
+// The kind that the line at the byte `at` says.
 fn kind_at(run: &[u8], at: usize) -> u8
     requires { ⌜ at + 25 ≤ length (now run) ⌝ }
     ensures { λ r. ⌜ r ≡ kindIn (take 25 (drop at (now (run .entry)))) ⌝ }
 {
-    line::letter_code(letter_at(run, at))
+    line::letter_code(run[at + 5])
 }
 
 // A leaf's grains above the lowest end.
@@ -87,34 +70,7 @@ fn seal(k: u8, total: u64, a: u64) -> u64
     a / total
 }
 
-// Whether a node is worth what its first child is, and that is no leaf: it is an M or N, and its run ends at e as the child's does at s.
-fn leads(letter: u8, next: u8, s: usize, e: usize) -> bool
-    ensures { λ r. ⌜ (r ≡ true → Leads (letterCode letter) (letterCode next) s e) ⌝ }
-{
-    ((letter == b'M') | (letter == b'N')) & (next != b'L') & (s == e)
-}
-
-// From node i, whose run ends at e, down past the nodes that are worth what their only child is.
-fn chain_end(run: &[u8], stop: &[u16], c: usize, i: usize, e: usize) -> usize
-    requires { ⌜ (c ≤ i) × (i < e) × (e ≤ 1024) × (e ≤ length (now stop)) × (25 * (e - c) ≤ length (now run)) ⌝ }
-    ensures { λ r. ⌜ (i ≤ r) × (r < e) × Chain (now (stop .entry)) (now (run .entry)) c e i r ⌝ }
-{
-    let mut j = i;
-    while j + 1 < e {
-        let at = 25 * (j - c);
-        let letter = letter_at(run, at);
-        let next = letter_at(run, at + 25);
-        let s = index_at(stop, j + 1);
-        if !leads(letter, next, s, e) {
-            return j;
-        }
-        j += 1;
-    }
-    j
-}
-
-// A node of kind k whose children's runs are the lines `run`, nodes c up to e: each child's run is a part of it. A chain of only children
-// is gone down by a loop, as a call for each of up to 64 nodes takes longer.
+// A node of kind k whose children's runs are the lines `run`, nodes c up to e: each child's run is a part of it.
 fn worth_under(
     k: u8,
     run: &[u8],
@@ -132,22 +88,19 @@ fn worth_under(
     let mut i = c;
     while i < e {
         let at = 25 * (i - c);
-        let line = &run[at..at + 25];
+        let kind = kind_at(run, at);
         let s = index_at(stop, i);
         let mut h: u64 = 0;
-        if is_leaf(line) {
+        if kind == 0 {
             h = leaf_worth(height, i, g.grain);
         } else {
-            let j = chain_end(run, stop, c, i, s);
-            let from = 25 * (j - c);
-            let kind = kind_at(run, from);
             h = worth_under(
                 kind,
-                &run[from + 25..25 * (s - c)],
+                &run[at + 25..25 * (s - c)],
                 stop,
                 weight,
                 height,
-                j + 1,
+                i + 1,
                 s,
                 g,
             );

@@ -8,12 +8,11 @@ use lib.IntN.{ℤ}
 use mir.Syntax.{w64}
 use mir.Val.{toZ, ofZ}
 use Rattle.table.specs.Table.{readText}
-use Rattle.table.proofs.Places.{refused-line}
-use Rattle.engine.specs.declared.Opinion.{Opinion}
-use Rattle.engine.specs.declared.Opinion.the-variants.{Given, Refused}
+use Rattle.judge.specs.declared.Opinion.{Opinion}
+use Rattle.judge.specs.declared.Opinion.the-variants.{Given, Refused}
 use Rattle.engine.specs.Calls.{judgeCall}
 use Rattle.abi.specs.Numbers.{judgeCode, judgeNumbers, put}
-use Rattle.abi.proofs.Answers.{opinion-refused}
+use Rattle.abi.proofs.Answers.{judge-line}
 use Rattle.abi.proofs.margin_judge.Statement.{statement}
 use Rattle.abi.proofs.margin_judge.Tie as tie
 
@@ -38,7 +37,7 @@ refusal-code-requires : tie.Need-refusal-code-requires
 refusal-code-requires c κs =
     let E = c .before .before .before in
     let r = c .before .r .given in
-    refused-line (text-of E) (r .0 .0) (opinion-refused (readText (text-of E)) (number-of E) (r .0 .0) (said E (Refused (r .0 .0)) (r .1)))
+    judge-line (text-of E) (number-of E) (r .0 .0) (said E (Refused (r .0 .0)) (r .1))
 
 returns : tie.Need-returns
 returns c =
@@ -53,7 +52,7 @@ returns-2 c =
     let E = P .before .before .before .before .before in
     let j = P .before .before .before .j .given in
     let e = said E (Given (j .0 .0)) (j .1) in
-    (P .put-judged .ensures .0 ∙ sym (ap judgeCode e), P .put-judged .ensures .1 ∙ sym (ap (λ (x : Opinion). put 0 (judgeNumbers x) (numbers-of E)) e))
+    (sym (ap judgeCode e), P .put-judged .ensures ∙ sym (ap (λ (x : Opinion). put 0 (judgeNumbers x) (numbers-of E)) e))
 
 pub margin-judge-spec : {M : Type 1} → statement M
 margin-judge-spec =

@@ -3,9 +3,8 @@ use mathlib.Core.Path.{_≡_, sym, ap, _∙_}
 use borrow.Author.Needs.{needs}
 use denote.Ref.{now}
 use Rattle.judge.specs.declared.Judged.{Judged}
-use Rattle.judge.specs.declared.Judged.the-variants.{NoDecision, NoChild}
-use Rattle.engine.specs.declared.Opinion.the-variants.{Given}
-use Rattle.abi.specs.Numbers.{judgeCode, judgedNumbers, put}
+use Rattle.judge.specs.declared.Judged.the-variants.{NoDecision}
+use Rattle.abi.specs.Numbers.{judgedNumbers, put}
 use Rattle.abi.proofs.put_judged.Statement.{statement}
 use Rattle.abi.proofs.put_judged.Tie as tie
 
@@ -17,25 +16,14 @@ returns c =
     let P = c .before .before in
     let T = P .before .before in
     let s = T .before .before .before in
-    let e = sym (undecided T) in
-    (ap (λ (x : Judged). judgeCode (Given x)) e, P .put-natural .ensures ∙ ap (λ (x : Judged). put 0 (judgedNumbers x) (now (s .args .numbers))) e)
+    P .put-natural .ensures ∙ ap (λ (x : Judged). put 0 (judgedNumbers x) (now (s .args .numbers))) (sym (undecided T))
 
 returns-2 : tie.Need-returns-2
 returns-2 c =
     let P = c .before .before in
     let J = P .before .before .before in
     let s = J .before .before .before in
-    let e = sym (J .j .given .1) in
-    (ap (λ (x : Judged). judgeCode (Given x)) e, P .put-loss .ensures ∙ ap (λ (x : Judged). put 0 (judgedNumbers x) (now (s .args .numbers))) e)
-
-missing : (c : tie.After-enum-told2) → c .before .before .before .args .j ≡ NoChild
-missing c = search needs
-
-returns-3 : tie.Need-returns-3
-returns-3 c =
-    let s = c .before .before .before in
-    let e = sym (missing c) in
-    (ap (λ (x : Judged). judgeCode (Given x)) e, ap (λ (x : Judged). put 0 (judgedNumbers x) (now (s .args .numbers))) e)
+    P .put-loss .ensures ∙ ap (λ (x : Judged). put 0 (judgedNumbers x) (now (s .args .numbers))) (sym (J .j .given .1))
 
 pub put-judged-spec : {M : Type 1} → statement M
 put-judged-spec =
@@ -46,8 +34,6 @@ put-judged-spec =
     (λ c. search needs)
     (λ c κs. search needs)
     (λ c. search needs)
-    (λ c. search needs)
     returns
     (λ c. search needs)
-    returns-2
-    returns-3)
+    returns-2)
