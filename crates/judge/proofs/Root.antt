@@ -19,7 +19,7 @@ use Rattle.worth.specs.Heights.{heightValue, heightShares, firstHeight, SmallWo
 use Rattle.worth.specs.Inside.{kindIn, Beside, Lays}
 use Rattle.worth.proofs.Run.{lays-le}
 use Rattle.judge.specs.declared.Play.{Play}
-use Rattle.judge.specs.declared.Play.the-variants.{Child as Kid, NoPlay}
+use Rattle.judge.specs.declared.Play.the-variants.{Child, NoPlay}
 use Rattle.judge.specs.Judge.{Side, AtM, AtN, Root, undecided, decided, rootOf, children, numbered, noDecision, judged, playOf}
 use Rattle.judge.specs.Heights.{heightLoss, heightLevels, heightJudgeChild, heightJudgeAt, Ahead}
 use Rattle.judge.specs.Inside.{Chained, Chain, heightsIn, Here, Room, Under, Listed, bestIn, AllAhead, levelsIn, forestJudge, Decided}
@@ -74,7 +74,7 @@ number-present S T G c i f (pos (suc k)) e = present S T G k c i f e
 number-present S T G c i f (negsuc k) e = let z : _≡_ {A = ℕ} 0 1 = cc in absurd (omega arith)
 
 -- what a play says of the number
-play-child : (o : Option ℕ) (i : ℕ) → Kid i ≡ playOf o → o ≡ some i
+play-child : (o : Option ℕ) (i : ℕ) → Child i ≡ playOf o → o ≡ some i
 play-child none i e = let z : _≡_ {A = ℕ} 0 1 = cc in absurd (omega arith)
 play-child (some j) i e = let same : i ≡ j = cc in ap some (sym same)
 
@@ -111,7 +111,7 @@ module _ (S : Beside) (g : Scale) (n : ℕ) (s : List ℕ) where
     abbrev pub kids : List (Share ℕ)
     kids = heightShares (g .total) (g .grain) (children tree)
 
-    pub room-of : Room S g n s
+    room-of : Room S g n s
     room-of =
         let R = D .whole .ready in
         record { long = omega (arith, R .long); room = R .room; few = R .few; scale = R .scale }
@@ -175,7 +175,7 @@ module _ (S : Beside) (g : Scale) (n : ℕ) (s : List ℕ) where
     abbrev pub Found : ℤ → Type 0
     Found z = (x : Share ℕ) × (numbered z kids ≡ some x)
 
-    pub found : (z : ℤ) (i : ℕ) (p : Play) → p ≡ Kid i → p ≡ playOf (numbered z (chain-of .nodes)) → Found z
+    pub found : (z : ℤ) (i : ℕ) (p : Play) → p ≡ Child i → p ≡ playOf (numbered z (chain-of .nodes)) → Found z
     unfolding chain-of
     found z i p e f =
         number-present (S .stops) (g .total) (g .grain) 1 i (children tree) z (play-child (numbered z (starts (S .stops) 1 (children tree))) i (sym e ∙ f))
