@@ -25,14 +25,14 @@ use Rattle.table.proofs.Copied.{fitted-all}
 use Rattle.table.proofs.Complete.{stops-long}
 use Rattle.table.proofs.Accepted.{answer-accepted, answer-refused, accepted-ranged, accepted-size, accepted-grain}
 use Rattle.worth.specs.declared.Scale.{Scale}
-use Rattle.worth.specs.Inside.{beside, Reach, Ready, Worthy}
+use Rattle.worth.specs.Inside.{beside, Reach, ReadyRun, Worthy}
 use Rattle.worth.specs.Heights.{heightWorth}
 use Rattle.worth.proofs.Worth.{shift, height-within, span-grains}
 use Rattle.worth.proofs.Judged.{accepted-ready, judged-worth}
 use Rattle.judge.specs.declared.Judged.the-variants.{NoDecision, Loss}
 use Rattle.judge.specs.declared.Opinion
 use Rattle.judge.specs.declared.Opinion.{Opinion}
-use Rattle.judge.specs.Inside.{meant, Whole, WellJudged}
+use Rattle.judge.specs.Inside.{meant, WholeLines, WellJudged}
 use Rattle.judge.proofs.Answer.{accepted-whole, judged-table}
 use Rattle.engine.specs.declared.Exact.the-variants.{Grains}
 use Rattle.engine.specs.Calls.{exactCall, judgeAnswer, judgeCall}
@@ -150,13 +150,13 @@ module _ {s : List ℕ} {t : Summary} {K S W H : List ℕ} (G : Taken s t K S W 
   from-all : lines ≡ drop 25 s
   from-all = take-all (length s - 25) (drop 25 s) (omega (arith, length-drop 25 s))
 
-  pub ready-at : Ready (beside S W H) g MAX 0 (t .nodes) lines
+  pub ready-at : ReadyRun (beside S W H) g MAX 0 (t .nodes) lines
   ready-at =
-      rw (q, from-all) (of-table G (λ t K S W H. Ready (beside S W H) (scaleFor t) MAX 0 (t .nodes) (drop 25 s)) (λ T p. accepted-ready s T p zeros zeros zeros (zeros-reach s T p)))
+      rw (q, from-all) (of-table G (λ t K S W H. ReadyRun (beside S W H) (scaleFor t) MAX 0 (t .nodes) (drop 25 s)) (λ T p. accepted-ready s T p zeros zeros zeros (zeros-reach s T p)))
 
-  pub whole-at : Whole (beside S W H) g (t .nodes) lines
+  pub whole-at : WholeLines (beside S W H) g (t .nodes) lines
   whole-at =
-      rw (q, from-all) (of-table G (λ t K S W H. Whole (beside S W H) (scaleFor t) (t .nodes) (drop 25 s)) (λ T p. accepted-whole s T p zeros zeros zeros (zeros-reach s T p)))
+      rw (q, from-all) (of-table G (λ t K S W H. WholeLines (beside S W H) (scaleFor t) (t .nodes) (drop 25 s)) (λ T p. accepted-whole s T p zeros zeros zeros (zeros-reach s T p)))
 
   -- h is what `worth_of` gave
   module _ (h : ℕ) (w : Worthy (beside S W H) g MAX 0 (t .nodes) lines h) where

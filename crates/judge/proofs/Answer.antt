@@ -15,12 +15,12 @@ use Rattle.worth.proofs.Text.{accepted-lays}
 use Rattle.worth.proofs.Judged.{scaleOf, lentOf, accepted-ready}
 use Rattle.judge.specs.declared.Opinion.{Opinion}
 use Rattle.judge.specs.Judge.{judge}
-use Rattle.judge.specs.Inside.{meant, Whole, WellJudged}
+use Rattle.judge.specs.Inside.{meant, WholeLines, WellJudged}
 use Rattle.judge.proofs.Judge.{judge-heights}
 
 module _ (s : List ℕ) (t : Table) (h : readText s ≡ fine t) (st w g : List ℕ) (room : Reach (beside st w g) (length (t .lines))) where
   -- st, w and g are the slices that were lent; the nodes are named, so that the judgement is of these
-  pub accepted-whole : Whole (lentOf t st w g) (scaleOf t) (length (t .lines)) (drop 25 s)
+  pub accepted-whole : WholeLines (lentOf t st w g) (scaleOf t) (length (t .lines)) (drop 25 s)
   accepted-whole =
       let R = accepted-ready s t h st w g room in
       record {

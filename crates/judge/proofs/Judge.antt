@@ -25,7 +25,7 @@ use Rattle.worth.specs.Heights.{heightShares, heightWorth, raised}
 use Rattle.worth.proofs.Bounds.{Each}
 use Rattle.worth.proofs.Shift.{shares-shift}
 use Rattle.worth.proofs.Worth.{shift}
-use Rattle.judge.specs.Judge.{Side, Root, undecided, decided, rootOf, children, nodes, numbered, worths, lossAt, levels, noDecision, judged, judgeChild, judgeAt, judge}
+use Rattle.judge.specs.Judge.{Side, Root, undecided, decided, rootOf, children, nodes, numbered, childWorths, lossAt, levels, noDecision, judged, judgeChild, judgeAt, judge}
 use Rattle.judge.specs.Heights.{heightWorths, heightLoss, heightLevels, heightJudgeChild, heightJudgeAt, heightJudge, Ahead}
 use Rattle.judge.proofs.Best.{Met, none-lost, met-level, best-ahead, best-met}
 use Rattle.judge.proofs.Shift.{mapped, numbered-map, numbered-each, loss-shift, levels-shift, judge-shift}
@@ -88,9 +88,9 @@ child-refused s G exact xs (some x) r e = let z : _≡_ {A = ℕ} 0 1 = cc in ab
 pub judge-refused : (t : Table) (i : ℤ) (r : Refusal) → judge t i ≡ refused r → NoChild ≡ r
 judge-refused t i r = go (rootOf (tree t))
   where
-    go : (o : Root) → judgeAt o (grain t) (worthOf t) (worths t) i ≡ refused r → NoChild ≡ r
+    go : (o : Root) → judgeAt o (grain t) (worthOf t) (childWorths t) i ≡ refused r → NoChild ≡ r
     go undecided e = let z : _≡_ {A = ℕ} 0 1 = cc in absurd (omega arith)
-    go (decided s) e = child-refused s (grain t) (worthOf t) (worths t) (numbered i (worths t)) r e
+    go (decided s) e = child-refused s (grain t) (worthOf t) (childWorths t) (numbered i (childWorths t)) r e
 
 not-below : (n : ℕ) (z : ℤ) → pos n ≡ z → leZ (pos 0) z ≡ true
 not-below n z e = sym (ap (leZ (pos 0)) e) ∙ leb·zero n
@@ -117,7 +117,7 @@ module _ (s : List ℕ) (t : Table) (h : readText s ≡ fine t) where
   pub nodes-heights : nodes (children (heightTree t)) ≡ nodes (children (tree t))
   nodes-heights = ap nodes (sym children-heights) ∙ nodes-map (above (t .head .lowest)) (children (tree t))
 
-  pub worths-heights : worths t ≡ map (raised base) (heightWorths t)
+  pub worths-heights : childWorths t ≡ map (raised base) (heightWorths t)
   worths-heights =
       children-shift (t .head .total) (grain t) (t .head) (accepted-ranged s t h .some) (greatest (t .lines)) 0 0 false (tree t)
       (accepted-proper s t h) (accepted-filled s t h) (accepted-balanced s t h)
@@ -135,7 +135,7 @@ module _ (s : List ℕ) (t : Table) (h : readText s ≡ fine t) where
 
   module _ (side : Side) (e : rootOf (tree t) ≡ decided side) where
     -- a child's loss is the difference of the heights
-    pub loss-heights : (i : ℤ) (x : Share ℤ) → numbered i (worths t) ≡ some x
+    pub loss-heights : (i : ℤ) (x : Share ℤ) → numbered i (childWorths t) ≡ some x
         → (y : Share ℕ) × (numbered i (heightWorths t) ≡ some y) × (lossAt side (worthOf t) (x .worth) ≡ pos (heightLoss side (heightWorth t) (y .worth)))
     loss-heights i x f =
         let g : mapped (raised base) (numbered i (heightWorths t)) ≡ some x =
@@ -148,7 +148,7 @@ module _ (s : List ℕ) (t : Table) (h : readText s ≡ fine t) where
         )
 
     -- a loss is never negative
-    pub loss-natural : (i : ℤ) (x : Share ℤ) → numbered i (worths t) ≡ some x → leZ (pos 0) (lossAt side (worthOf t) (x .worth)) ≡ true
+    pub loss-natural : (i : ℤ) (x : Share ℤ) → numbered i (childWorths t) ≡ some x → leZ (pos 0) (lossAt side (worthOf t) (x .worth)) ≡ true
     loss-natural i x f =
         let (y, p, q) = loss-heights i x f in
         not-below (heightLoss side (heightWorth t) (y .worth)) (lossAt side (worthOf t) (x .worth)) (sym q)
@@ -157,9 +157,9 @@ module _ (s : List ℕ) (t : Table) (h : readText s ≡ fine t) where
     met = best-met (t .head .total) (grain t) side (heightTree t) (heights-filled s t h) (root-heights ∙ e)
 
     -- some child has loss 0
-    pub best-child : (i : ℤ) × (x : Share ℤ) × (numbered i (worths t) ≡ some x) × (lossAt side (worthOf t) (x .worth) ≡ pos 0)
+    pub best-child : (i : ℤ) × (x : Share ℤ) × (numbered i (childWorths t) ≡ some x) × (lossAt side (worthOf t) (x .worth) ≡ pos 0)
     best-child =
-        let f : numbered (pos (suc (met .place))) (worths t) ≡ some (raised base (met .share)) =
+        let f : numbered (pos (suc (met .place))) (childWorths t) ≡ some (raised base (met .share)) =
         ap (numbered (pos (suc (met .place)))) worths-heights
         ∙ numbered-map (raised base) (pos (suc (met .place))) (heightWorths t)
         ∙ ap (mapped (raised base)) (met .there) in (
@@ -172,7 +172,7 @@ module _ (s : List ℕ) (t : Table) (h : readText s ≡ fine t) where
               ∙ ap pos (none-lost side (heightWorth t) (met .share .worth) (met .worth)),
         )
 
-    pub levels-heights : levels side (grain t) (worthOf t) (worths t) ≡ heightLevels side (grain t) (heightWorth t) (heightWorths t)
+    pub levels-heights : levels side (grain t) (worthOf t) (childWorths t) ≡ heightLevels side (grain t) (heightWorth t) (heightWorths t)
     levels-heights =
         ap₂ (levels side (grain t)) (shift s t h) worths-heights
         ∙ levels-shift base side (grain t) (heightWorth t) (heightWorths t) (heights-ahead side e)
@@ -182,17 +182,17 @@ module _ (s : List ℕ) (t : Table) (h : readText s ≡ fine t) where
     level-heights =
         met-level side (grain t) (heightWorth t) (met .place) (heightWorths t) (met .share) (met .there) (met .worth) some-grains
 
-    pub some-level : 1 ≤ levels side (grain t) (worthOf t) (worths t)
+    pub some-level : 1 ≤ levels side (grain t) (worthOf t) (childWorths t)
     some-level = rw levels-heights level-heights
 
     pub best-judged : (i : ℤ) × (level : ℕ) × (judge t i ≡ fine (judged (pos 0) level))
     best-judged =
         let (i, x, f, z) = best-child in (
           i,
-          levels side (grain t) (worthOf t) (worths t),
-          ap (λ (r : Root). judgeAt r (grain t) (worthOf t) (worths t) i) e
-              ∙ ap (judgeChild side (grain t) (worthOf t) (worths t)) f
-              ∙ ap (λ (l : ℤ). fine (judged l (levels side (grain t) (worthOf t) (worths t)))) z,
+          levels side (grain t) (worthOf t) (childWorths t),
+          ap (λ (r : Root). judgeAt r (grain t) (worthOf t) (childWorths t) i) e
+              ∙ ap (judgeChild side (grain t) (worthOf t) (childWorths t)) f
+              ∙ ap (λ (l : ℤ). fine (judged l (levels side (grain t) (worthOf t) (childWorths t)))) z,
         )
 
   -- of every judgement with a loss: the loss is not negative, and a child is level
@@ -203,4 +203,4 @@ module _ (s : List ℕ) (t : Table) (h : readText s ≡ fine t) where
 
   -- at a C or L root there is no decision, for every number
   pub undecided-judged : rootOf (tree t) ≡ undecided → (i : ℤ) → judge t i ≡ fine noDecision
-  undecided-judged e i = ap (λ (r : Root). judgeAt r (grain t) (worthOf t) (worths t) i) e
+  undecided-judged e i = ap (λ (r : Root). judgeAt r (grain t) (worthOf t) (childWorths t) i) e

@@ -9,7 +9,7 @@ use Rattle.table.specs.Tree.{MAX}
 use Rattle.worth.specs.declared.Scale.{Scale}
 use Rattle.worth.specs.Worth.{Share}
 use Rattle.worth.specs.Heights.{tallest, heightValue, heightShares}
-use Rattle.worth.specs.Inside.{kindIn, Beside, Ready}
+use Rattle.worth.specs.Inside.{kindIn, Beside, ReadyRun}
 use Rattle.worth.proofs.Run.{lays-none, Front, front}
 use Rattle.worth.proofs.Shift.{Some, some-shares}
 
@@ -17,7 +17,7 @@ value-one : (T : ℕ) (x : Share ℕ) → x .worth ≡ heightValue T MAX (x ∷ 
 unfolding heightValue tallest
 value-one T x = refl
 
-module _ (S : Beside) (g : Scale) (c e : ℕ) (s : List ℕ) (one : c + 1 ≡ e) (R : Ready S g MAX c e s) where
+module _ (S : Beside) (g : Scale) (c e : ℕ) (s : List ℕ) (one : c + 1 ≡ e) (R : ReadyRun S g MAX c e s) where
   first : Front S g c e s (R .nodes)
   first = front S g c e s (R .nodes) (R .lays) (R .fits .filled) (R .fits .small) (omega arith) (R .long) (R .room) (R .few) (R .scale)
 

@@ -15,17 +15,17 @@ use Rattle.table.specs.Accepted.{Filled, Rooted}
 use Rattle.table.specs.Slices.{laid}
 use Rattle.worth.specs.declared.Scale.{Scale}
 use Rattle.worth.specs.Worth.{Share}
-use Rattle.worth.specs.Heights.{heightValue, heightShares, firstHeight, Small}
+use Rattle.worth.specs.Heights.{heightValue, heightShares, firstHeight, SmallWorths}
 use Rattle.worth.specs.Inside.{kindIn, Beside, Lays}
 use Rattle.worth.proofs.Run.{lays-le}
 use Rattle.judge.specs.declared.Play.{Play}
-use Rattle.judge.specs.declared.Play.the-variants.{Child as Kid, NoPlay}
+use Rattle.judge.specs.declared.Play.the-variants.{Child, NoPlay}
 use Rattle.judge.specs.Judge.{Side, AtM, AtN, Root, undecided, decided, rootOf, children, numbered, noDecision, judged, playOf}
 use Rattle.judge.specs.Heights.{heightLoss, heightLevels, heightJudgeChild, heightJudgeAt, Ahead}
-use Rattle.judge.specs.Inside.{Chained, Chain, Here, Room, Under, Listed, bestIn, AllAhead, levelsIn, forestJudge, Decided}
+use Rattle.judge.specs.Inside.{Chained, Chain, heightsIn, Here, Room, Under, Listed, bestIn, AllAhead, levelsIn, forestJudge, Decided}
 use Rattle.judge.proofs.Best.{no-decision, best-ahead}
 use Rattle.judge.proofs.Shift.{numbered-each}
-use Rattle.judge.proofs.Worths.{worths, numbered-worth, kids-some, best-root, all-ahead, levels-worths}
+use Rattle.judge.proofs.Worths.{numbered-worth, kids-some, best-root, all-ahead, levels-worths}
 
 -- ---- the children by number
 
@@ -74,7 +74,7 @@ number-present S T G c i f (pos (suc k)) e = present S T G k c i f e
 number-present S T G c i f (negsuc k) e = let z : _≡_ {A = ℕ} 0 1 = cc in absurd (omega arith)
 
 -- what a play says of the number
-play-child : (o : Option ℕ) (i : ℕ) → Kid i ≡ playOf o → o ≡ some i
+play-child : (o : Option ℕ) (i : ℕ) → Child i ≡ playOf o → o ≡ some i
 play-child none i e = let z : _≡_ {A = ℕ} 0 1 = cc in absurd (omega arith)
 play-child (some j) i e = let same : i ≡ j = cc in ap some (sym same)
 
@@ -86,7 +86,7 @@ play-none (some j) e = let z : _≡_ {A = ℕ} 0 1 = cc in absurd (omega arith)
 
 module _ (S : Beside) (g : Scale) (n : ℕ) (s : List ℕ) where
   -- the lines after the root's own are its children's
-  children-here : (side : Side) (f : Forest ℕ) → Lays S 0 n s f → Filled f → Small (g .total) (g .grain) (g .top) f
+  children-here : (side : Side) (f : Forest ℕ) → Lays S 0 n s f → Filled f → SmallWorths (g .total) (g .grain) (g .top) f
       → length s ≡ 25 * n → Rooted f → rootOf f ≡ decided side → Here S g n s 1 (children f)
   unfolding Lays
   children-here side end l F M h r e = absurd r
@@ -111,7 +111,7 @@ module _ (S : Beside) (g : Scale) (n : ℕ) (s : List ℕ) where
     abbrev pub kids : List (Share ℕ)
     kids = heightShares (g .total) (g .grain) (children tree)
 
-    pub room-of : Room S g n s
+    room-of : Room S g n s
     room-of =
         let R = D .whole .ready in
         record { long = omega (arith, R .long); room = R .room; few = R .few; scale = R .scale }
@@ -135,19 +135,19 @@ module _ (S : Beside) (g : Scale) (n : ℕ) (s : List ℕ) where
     -- ---- the list of the worths
 
     module _ (came list : List ℕ) (m : ℕ) (place : 1024 ≤ length came) (listed : Listed S g n s m came list) where
-      told : (m ≡ length (worths kids)) × (list ≡ laid (worths kids) came)
+      told : (m ≡ length (heightsIn kids)) × (list ≡ laid (heightsIn kids) came)
       unfolding under-of
       told = listed (under-of came place)
 
-      front : take m list ≡ worths kids
+      front : take m list ≡ heightsIn kids
       front =
-          ap (take m) (told .1) ∙ take-at (worths kids) (drop (length (worths kids)) came) m (sym (told .0))
+          ap (take m) (told .1) ∙ take-at (heightsIn kids) (drop (length (heightsIn kids)) came) m (sym (told .0))
 
       pub list-some : 0 < m
       list-some = omega (arith, told .0, kids-some (g .total) (g .grain) side tree (D .whole .ready .fits .filled) (D .root))
 
       pub list-room : m ≤ length list
-      list-room = omega (arith, told .0, ap length (told .1), length-append (worths kids) (drop (length (worths kids)) came))
+      list-room = omega (arith, told .0, ap length (told .1), length-append (heightsIn kids) (drop (length (heightsIn kids)) came))
 
       -- the child of number z has its worth at this place
       pub entry-of : (z : ℤ) (x : Share ℕ) → numbered z kids ≡ some x → (0 < toNat z) × (toNat z ≤ length list) × (getD list (toNat z - 1) 0 ≡ x .worth)
@@ -155,7 +155,7 @@ module _ (S : Beside) (g : Scale) (n : ℕ) (s : List ℕ) where
           let r = numbered-worth z kids x e in (
             r .0,
             omega (arith, r .1, told .0, list-room),
-            ap (λ (l : List ℕ). getD l (toNat z - 1) 0) (told .1) ∙ List·getD-append (worths kids) (drop (length (worths kids)) came) 0 (toNat z - 1) (omega (arith, r .0, r .1)) ∙ r .2,
+            ap (λ (l : List ℕ). getD l (toNat z - 1) 0) (told .1) ∙ List·getD-append (heightsIn kids) (drop (length (heightsIn kids)) came) 0 (toNat z - 1) (omega (arith, r .0, r .1)) ∙ r .2,
           )
 
       pub best-of : (r : ℕ) → r ≡ bestIn side (take m list) → r ≡ height
@@ -175,7 +175,7 @@ module _ (S : Beside) (g : Scale) (n : ℕ) (s : List ℕ) where
     abbrev pub Found : ℤ → Type 0
     Found z = (x : Share ℕ) × (numbered z kids ≡ some x)
 
-    pub found : (z : ℤ) (i : ℕ) (p : Play) → p ≡ Kid i → p ≡ playOf (numbered z (chain-of .nodes)) → Found z
+    pub found : (z : ℤ) (i : ℕ) (p : Play) → p ≡ Child i → p ≡ playOf (numbered z (chain-of .nodes)) → Found z
     unfolding chain-of
     found z i p e f =
         number-present (S .stops) (g .total) (g .grain) 1 i (children tree) z (play-child (numbered z (starts (S .stops) 1 (children tree))) i (sym e ∙ f))

@@ -2,7 +2,7 @@
 use Prim.Native.Nat.{ℕ, _+_, _-_, _*_, _≤_, _<_}
 use mathlib.Core.Path.{_≡_, refl, sym, ap, subst, _∙_}
 use mathlib.Core.Bool.{false}
-use mathlib.Core.List.{List, [], _∷_, _++_, map, append-assoc, append-nil}
+use mathlib.Core.List.{List, [], _∷_, _++_, append-assoc, append-nil}
 use native.Mathlib.Omega.{arith}
 use lib.ListN.{length, getD, set, take, drop, length-append, length-drop}
 use lib.Seq.{length-take-le, take-take, drop-drop}
@@ -13,10 +13,10 @@ use Rattle.table.specs.Slices.{laid}
 use Rattle.table.proofs.Gather.{laid-more}
 use Rattle.worth.specs.declared.Scale.{Scale}
 use Rattle.worth.specs.Worth.{Share}
-use Rattle.worth.specs.Heights.{tallest, heightValue, heightShares, Small}
-use Rattle.worth.specs.Inside.{kindIn, Beside, Lays, Ready, Worthy}
+use Rattle.worth.specs.Heights.{tallest, heightValue, heightShares, SmallWorths}
+use Rattle.worth.specs.Inside.{kindIn, Beside, Lays, ReadyRun, Worthy}
 use Rattle.worth.proofs.Run.{drop-take, lays-le, lays-none, reach-less}
-use Rattle.judge.specs.Inside.{worthsOf, Here, Room, Under}
+use Rattle.judge.specs.Inside.{heightsIn, worthsOf, Here, Room, Under}
 
 -- ---- a part of the lines
 
@@ -48,15 +48,15 @@ record Lead (S : Beside) (g : Scale) (c e : ℕ) (s : List ℕ) (f : Forest ℕ)
   shares : heightShares (g .total) (g .grain) f ≡ share ∷ heightShares (g .total) (g .grain) rest
   lays : Lays S (getD (S .stops) c 0) e (drop (25 * (getD (S .stops) c 0 - c)) s) rest
   filled : Filled rest
-  small : Small (g .total) (g .grain) (g .top) rest
+  small : SmallWorths (g .total) (g .grain) (g .top) rest
   single : Lays S c (getD (S .stops) c 0) (take (25 * (getD (S .stops) c 0 - c)) s) (only f)
   some : isEnd (only f) ≡ false
   whole : Filled (only f)
-  fits : Small (g .total) (g .grain) (g .top) (only f)
+  fits : SmallWorths (g .total) (g .grain) (g .top) (only f)
   worth : heightValue (g .total) MAX (heightShares (g .total) (g .grain) (only f)) ≡ share .worth
 
 module _ (S : Beside) (g : Scale) (c e : ℕ) (s : List ℕ) where
-  lead : (f : Forest ℕ) → Lays S c e s f → Filled f → Small (g .total) (g .grain) (g .top) f → c < e → Lead S g c e s f
+  lead : (f : Forest ℕ) → Lays S c e s f → Filled f → SmallWorths (g .total) (g .grain) (g .top) f → c < e → Lead S g c e s f
   unfolding Lays heightShares heightValue tallest
   lead end l F M h = absurd (omega (arith, l))
   lead (leaf n w v rest) l F M h =
@@ -120,7 +120,7 @@ pub record Child (S : Beside) (g : Scale) (n : ℕ) (s : List ℕ) (i : ℕ) (f 
   pub within : getD (S .stops) i 0 ≤ n
   pub shares : heightShares (g .total) (g .grain) f ≡ share ∷ heightShares (g .total) (g .grain) rest
   pub here : Here S g n s (getD (S .stops) i 0) rest
-  pub ready : Ready S g MAX i (getD (S .stops) i 0) (take (25 * getD (S .stops) i 0 - 25 * i) (drop (25 * i) s))
+  pub ready : ReadyRun S g MAX i (getD (S .stops) i 0) (take (25 * getD (S .stops) i 0 - 25 * i) (drop (25 * i) s))
   pub worth : heightValue (g .total) MAX (heightShares (g .total) (g .grain) (ready .nodes)) ≡ share .worth
 
 module _ (S : Beside) (g : Scale) (n : ℕ) (s : List ℕ) (room : Room S g n s) where
@@ -158,8 +158,8 @@ module _ (S : Beside) (g : Scale) (n : ℕ) (s : List ℕ) (room : Room S g n s)
 
   -- the part that ends at `e`, and what it is said to be worth
   module _ (i : ℕ) (f : Forest ℕ) (C : Child S g n s i f) (e : ℕ) (stop : e ≡ getD (S .stops) i 0) where
-    pub part-ready : Ready S g MAX i e (take (25 * e - 25 * i) (drop (25 * i) s))
-    part-ready = subst (λ (m : ℕ). Ready S g MAX i m (take (25 * m - 25 * i) (drop (25 * i) s))) (sym stop) (C .ready)
+    pub part-ready : ReadyRun S g MAX i e (take (25 * e - 25 * i) (drop (25 * i) s))
+    part-ready = subst (λ (m : ℕ). ReadyRun S g MAX i m (take (25 * m - 25 * i) (drop (25 * i) s))) (sym stop) (C .ready)
 
     pub part-worth : (r : ℕ) → Worthy S g MAX i e (take (25 * e - 25 * i) (drop (25 * i) s)) r → r ≡ C .share .worth
     part-worth r w =
@@ -206,7 +206,7 @@ module _ (S : Beside) (g : Scale) (n : ℕ) (s came : List ℕ) where
         let C = list-child h in
         let one : List ℕ = w ∷ [] in
         let next : worthsOf g (L .rest) ≡ w ∷ worthsOf g (C .rest) =
-        ap (map (λ (v : Share ℕ). v .worth)) (C .shares) ∙ ap (λ (v : ℕ). v ∷ worthsOf g (C .rest)) (sym x) in
+        ap heightsIn (C .shares) ∙ ap (λ (v : ℕ). v ∷ worthsOf g (C .rest)) (sym x) in
         rw z
         (record {
           done = L .done ++ one;
@@ -225,5 +225,5 @@ module _ (S : Beside) (g : Scale) (n : ℕ) (s came : List ℕ) where
         let L = all U in
         let none = lays-none S (g .total) (g .grain) i n (drop (25 * i) s) (L .rest) (L .here .lays) h in
         let whole : worthsOf g (U .nodes) ≡ L .done =
-        L .same ∙ ap (λ (xs : List (Share ℕ)). L .done ++ map (λ (v : Share ℕ). v .worth) xs) none ∙ append-nil (L .done) in
+        L .same ∙ ap (λ (xs : List (Share ℕ)). L .done ++ heightsIn xs) none ∙ append-nil (L .done) in
         (sym (ap length whole ∙ L .count), L .front ∙ ap (λ (v : List ℕ). laid v came) (sym whole))

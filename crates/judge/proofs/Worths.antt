@@ -2,7 +2,7 @@
 use Prim.Native.Nat.{ℕ, zero, suc, _+_, _-_, _≤_, _<_}
 use mathlib.Core.Path.{_≡_, refl, sym, ap, ap₂, _∙_}
 use mathlib.Core.Bool.{Bool, true, false, cond}
-use mathlib.Core.List.{List, [], _∷_, map}
+use mathlib.Core.List.{List, [], _∷_}
 use mathlib.Core.Option.{some}
 use native.Mathlib.Omega.{arith}
 use lib.ListN.{length, getD, getElem?, take, drop}
@@ -18,27 +18,24 @@ use Rattle.worth.proofs.Bounds.{Each}
 use Rattle.worth.proofs.Shift.{Some, some-shares}
 use Rattle.judge.specs.Judge.{Side, AtM, AtN, decided, rootOf, children, numbered}
 use Rattle.judge.specs.Heights.{heightLoss, heightLevels, Ahead}
-use Rattle.judge.specs.Inside.{better, bestFrom, bestIn, AllAhead, levelOne, levelsIn}
+use Rattle.judge.specs.Inside.{heightsIn, better, bestFrom, bestIn, AllAhead, levelOne, levelsIn}
 use Rattle.judge.proofs.Best.{no-decision, kindAt, kind-side}
 
 -- ---- of shares
 
-abbrev pub worths : List (Share ℕ) → List ℕ
-worths xs = map (λ (x : Share ℕ). x .worth) xs
-
 -- the share of number z has its worth at this place
-entry-worth : (k : ℕ) (xs : List (Share ℕ)) (x : Share ℕ) → getElem? xs k ≡ some x → (k < length (worths xs)) × (getD (worths xs) k 0 ≡ x .worth)
+entry-worth : (k : ℕ) (xs : List (Share ℕ)) (x : Share ℕ) → getElem? xs k ≡ some x → (k < length (heightsIn xs)) × (getD (heightsIn xs) k 0 ≡ x .worth)
 entry-worth k [] x e = let z : _≡_ {A = ℕ} 0 1 = cc in absurd (omega arith)
 entry-worth zero (y ∷ ys) x e = let same : y ≡ x = cc in (omega arith, ap (λ (v : Share ℕ). v .worth) same)
 entry-worth (suc k) (y ∷ ys) x e = let r = entry-worth k ys x e in (omega (arith, r .0), r .1)
 
 pub numbered-worth : (z : ℤ) (xs : List (Share ℕ)) (x : Share ℕ) → numbered z xs ≡ some x
-    → (0 < toNat z) × (toNat z ≤ length (worths xs)) × (getD (worths xs) (toNat z - 1) 0 ≡ x .worth)
+    → (0 < toNat z) × (toNat z ≤ length (heightsIn xs)) × (getD (heightsIn xs) (toNat z - 1) 0 ≡ x .worth)
 numbered-worth (pos zero) xs x e = let z : _≡_ {A = ℕ} 0 1 = cc in absurd (omega arith)
 numbered-worth (pos (suc k)) xs x e =
     let r = entry-worth k xs x e in
     let z : suc k - 1 ≡ k = omega arith in
-    (omega arith, omega (arith, r .0), ap (λ (m : ℕ). getD (worths xs) m 0) z ∙ r .1)
+    (omega arith, omega (arith, r .0), ap (λ (m : ℕ). getD (heightsIn xs) m 0) z ∙ r .1)
 numbered-worth (negsuc k) xs x e = let z : _≡_ {A = ℕ} 0 1 = cc in absurd (omega arith)
 
 -- one child more
@@ -58,14 +55,14 @@ better-assoc AtM a b c = omega arith
 better-assoc AtN a b c = omega arith
 
 best-from : (T : ℕ) (s : Side) (a : ℕ) (x : Share ℕ) (xs : List (Share ℕ))
-    → bestFrom s a (worths (x ∷ xs)) ≡ better s a (heightValue T (kindAt s) (x ∷ xs))
+    → bestFrom s a (heightsIn (x ∷ xs)) ≡ better s a (heightValue T (kindAt s) (x ∷ xs))
 unfolding bestFrom
 best-from T s a x [] = ap (better s a) (sym (value-one T s x))
 best-from T s a x (y ∷ ys) =
     best-from T s (better s a (x .worth)) y ys ∙ better-assoc s a (x .worth) (heightValue T (kindAt s) (y ∷ ys))
     ∙ ap (better s a) (sym (value-more T s x y ys))
 
-best-value : (T : ℕ) (s : Side) (xs : List (Share ℕ)) → Some xs → bestIn s (worths xs) ≡ heightValue T (kindAt s) xs
+best-value : (T : ℕ) (s : Side) (xs : List (Share ℕ)) → Some xs → bestIn s (heightsIn xs) ≡ heightValue T (kindAt s) xs
 unfolding bestFrom
 best-value T s [] m = absurd m
 best-value T s (x ∷ []) m = sym (value-one T s x)
@@ -73,29 +70,29 @@ best-value T s (x ∷ y ∷ ys) m = best-from T s (x .worth) y ys ∙ sym (value
 
 module _ (T G : ℕ) where
   -- an M or N node has a child
-  pub kids-some : (s : Side) (F : Forest ℕ) → Filled F → rootOf F ≡ decided s → 0 < length (worths (heightShares T G (children F)))
+  pub kids-some : (s : Side) (F : Forest ℕ) → Filled F → rootOf F ≡ decided s → 0 < length (heightsIn (heightShares T G (children F)))
   kids-some s end f e = absurd (no-decision s e)
   kids-some s (leaf n w v rest) f e = absurd (no-decision s e)
   kids-some s (inner n w k under rest) f e = some-long (heightShares T G under) (some-shares T G under (f .0))
     where
-      some-long : (xs : List (Share ℕ)) → Some xs → 0 < length (worths xs)
+      some-long : (xs : List (Share ℕ)) → Some xs → 0 < length (heightsIn xs)
       some-long [] m = absurd m
       some-long (x ∷ xs) m = omega arith
 
   -- and is worth the best of its children's worths
   pub best-root : (s : Side) (F : Forest ℕ) → Filled F → rootOf F ≡ decided s
-      → bestIn s (worths (heightShares T G (children F))) ≡ firstHeight (heightShares T G F)
+      → bestIn s (heightsIn (heightShares T G (children F))) ≡ firstHeight (heightShares T G F)
   unfolding heightShares
   best-root s end f e = absurd (no-decision s e)
   best-root s (leaf n w v rest) f e = absurd (no-decision s e)
   best-root s (inner n w k under rest) f e =
       rw (kind-side k s e) (best-value T s (heightShares T G under) (some-shares T G under (f .0)))
 
-pub all-ahead : (s : Side) (best : ℕ) (xs : List (Share ℕ)) → Each (Ahead s best) xs → AllAhead s best (worths xs)
+pub all-ahead : (s : Side) (best : ℕ) (xs : List (Share ℕ)) → Each (Ahead s best) xs → AllAhead s best (heightsIn xs)
 all-ahead s best [] e = tt
 all-ahead s best (x ∷ xs) e = (e .0, all-ahead s best xs (e .1))
 
-pub levels-worths : (s : Side) (G best : ℕ) (xs : List (Share ℕ)) → levelsIn s G best (worths xs) ≡ heightLevels s G best xs
+pub levels-worths : (s : Side) (G best : ℕ) (xs : List (Share ℕ)) → levelsIn s G best (heightsIn xs) ≡ heightLevels s G best xs
 unfolding levelsIn heightLevels
 levels-worths s G best [] = refl
 levels-worths s G best (x ∷ xs) = ap (λ (k : ℕ). levelOne s G best (x .worth) + k) (levels-worths s G best xs)

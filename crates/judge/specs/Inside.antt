@@ -12,8 +12,8 @@ use Rattle.table.specs.Accepted.{Filled, Rooted}
 use Rattle.table.specs.Slices.{laid}
 use Rattle.worth.specs.declared.Scale.{Scale}
 use Rattle.worth.specs.Worth.{Share}
-use Rattle.worth.specs.Heights.{heightShares, firstHeight, Small}
-use Rattle.worth.specs.Inside.{Beside, Reach, Lays, OkScale, Ready}
+use Rattle.worth.specs.Heights.{heightShares, firstHeight, SmallWorths}
+use Rattle.worth.specs.Inside.{Beside, Reach, Lays, OkScale, ReadyRun}
 use Rattle.judge.specs.declared.Play.{Play}
 use Rattle.judge.specs.declared.Judged.{Judged}
 use Rattle.judge.specs.declared.Judged.the-variants.{NoDecision, Loss}
@@ -44,15 +44,19 @@ Played S n i r = (C : Chain S n) → r ≡ playOf (numbered i (C .nodes))
 
 -- ---- the worths of the root's children
 
+-- the worths without the weights
+abbrev pub heightsIn : List (Share ℕ) → List ℕ
+heightsIn xs = map (λ (x : Share ℕ). x .worth) xs
+
 -- the worths of nodes with one parent, first to last
 abbrev pub worthsOf : Scale → Forest ℕ → List ℕ
-worthsOf g f = map (λ (x : Share ℕ). x .worth) (heightShares (g .total) (g .grain) f)
+worthsOf g f = heightsIn (heightShares (g .total) (g .grain) f)
 
 -- the lines s from node i on are these nodes, and their worths fit
 pub record Here (S : Beside) (g : Scale) (n : ℕ) (s : List ℕ) (i : ℕ) (f : Forest ℕ) : Type 0 where
   pub lays : Lays S i n (drop (25 * i) s) f
   pub filled : Filled f
-  pub small : Small (g .total) (g .grain) (g .top) f
+  pub small : SmallWorths (g .total) (g .grain) (g .top) f
 
 -- how long the lines and the slices are
 pub record Room (S : Beside) (g : Scale) (n : ℕ) (s : List ℕ) : Type 0 where
@@ -117,16 +121,16 @@ forestJudge g f i =
     heightJudgeAt (rootOf f) (g .grain) (firstHeight (heightShares (g .total) (g .grain) f)) (heightShares (g .total) (g .grain) (children f)) i
 
 -- the lines of one root with all under it
-pub record Whole (S : Beside) (g : Scale) (n : ℕ) (s : List ℕ) : Type 0 where
-  pub ready : Ready S g MAX 0 n s
+pub record WholeLines (S : Beside) (g : Scale) (n : ℕ) (s : List ℕ) : Type 0 where
+  pub ready : ReadyRun S g MAX 0 n s
   pub rooted : Rooted (ready .nodes)
 
 abbrev pub WellJudged : Beside → Scale → ℕ → List ℕ → ℤ → Opinion → Type 0
-WellJudged S g n s i r = (W : Whole S g n s) → meant r ≡ forestJudge g (W .ready .nodes) i
+WellJudged S g n s i r = (W : WholeLines S g n s) → meant r ≡ forestJudge g (W .ready .nodes) i
 
 -- the same of an M or N root
 pub record Decided (S : Beside) (g : Scale) (n : ℕ) (s : List ℕ) (side : Side) : Type 0 where
-  pub whole : Whole S g n s
+  pub whole : WholeLines S g n s
   pub root : rootOf (whole .ready .nodes) ≡ decided side
 
 abbrev pub WellDecided : Beside → Scale → ℕ → List ℕ → Side → ℤ → Opinion → Type 0

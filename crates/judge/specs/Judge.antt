@@ -54,8 +54,8 @@ module _ {A : Type 0} where
   numbered (negsuc i) xs = none
 
 -- the root's children with their worths: "a play is worth the exact worth of the root child that it names"
-abbrev pub worths : Table → List (Share ℤ)
-worths t = shares (t .head .total) (grain t) (children (tree t))
+abbrev pub childWorths : Table → List (Share ℤ)
+childWorths t = shares (t .head .total) (grain t) (children (tree t))
 
 -- "The play is either a root child or none": the node number of the root child of number i
 abbrev pub childNode : Table → ℤ → Option ℕ
@@ -93,4 +93,4 @@ judgeAt (decided s) G exact xs i = judgeChild s G exact xs (numbered i xs)
 
 -- "Judging takes the number, from 1, of the root child played": the answer for number i
 abbrev pub judge : Table → ℤ → Verdict Judgement
-judge t i = judgeAt (rootOf (tree t)) (grain t) (worthOf t) (worths t) i
+judge t i = judgeAt (rootOf (tree t)) (grain t) (worthOf t) (childWorths t) i

@@ -4,9 +4,9 @@ ghost use Prim.Native.Nat.{_-_, _<_, _≤_};
 ghost use lib.ListN.{length, getD, take};
 ghost use Rattle.line.specs.Line.{toNat};
 ghost use Rattle.table.specs.Tree.{MAX};
-ghost use Rattle.worth.specs.Inside.{beside, Ready, Worthy};
+ghost use Rattle.worth.specs.Inside.{beside, ReadyRun, Worthy};
 ghost use Rattle.judge.specs.Heights.{heightLoss, Ahead};
-ghost use Rattle.judge.specs.Inside.{sideIf, Chain, Played, Under, Listed, better, bestIn, AllAhead, levelOne, levelsIn, Whole, WellJudged, Decided, WellDecided};
+ghost use Rattle.judge.specs.Inside.{sideIf, Chain, Played, Under, Listed, better, bestIn, AllAhead, levelOne, levelsIn, WholeLines, WellJudged, Decided, WellDecided};
 use line::Refusal;
 use worth::Scale;
 
@@ -86,7 +86,7 @@ fn child_worth(
     e: usize,
     g: Scale,
 ) -> u64
-    requires { ⌜ Ready (beside (now stop) (now weight) (now height)) g MAX i e (now run) ⌝ }
+    requires { ⌜ ReadyRun (beside (now stop) (now weight) (now height)) g MAX i e (now run) ⌝ }
     ensures { λ r. ⌜ Worthy (beside (now (stop .entry)) (now (weight .entry)) (now (height .entry))) g MAX i e (now (run .entry)) r ⌝ }
 {
     if i + 1 == e {
@@ -201,7 +201,7 @@ pub fn judge_table(
     g: Scale,
     number: i64,
 ) -> Opinion
-    requires { ⌜ Whole (beside (now stop) (now weight) (now height)) g n (now lines) ⌝ }
+    requires { ⌜ WholeLines (beside (now stop) (now weight) (now height)) g n (now lines) ⌝ }
     ensures { λ r. ⌜ WellJudged (beside (now (stop .entry)) (now (weight .entry)) (now (height .entry))) g n (now (lines .entry)) number r ⌝ }
 {
     let kind = line::letter_code(lines[5]);

@@ -15,7 +15,7 @@ use Rattle.table.specs.Slices.{Slices, Spans}
 use Rattle.table.specs.Accepted.{one, Filled, Balanced, Proper}
 use Rattle.table.proofs.Heights.{above, mapForest, map-end, map-filled}
 use Rattle.table.proofs.Spans.{spans-le}
-use Rattle.worth.specs.Heights.{Small}
+use Rattle.worth.specs.Heights.{SmallWorths}
 use Rattle.worth.proofs.Shift.{utility-shift, node-shift, shares-shift}
 use Rattle.judge.specs.Judge.{children, rootOf}
 use Rattle.search.specs.Search.{Frame}
@@ -86,7 +86,7 @@ module _ (T G K S : ℕ) (h : Head) (positive : 0 < T) where
   grains-shift d c u (inner n w k under rest) p =
       rw (grains-shift (suc d) (c + one k) (isChance k) under (p .3), grains-shift d c u rest (p .4)) refl
 
-  pub child-worth : (d c : ℕ) (u : Bool) (f : Forest ℤ) → Proper T K (Within h) d c u f → Filled f → Balanced T f → Small T G S (lowered f)
+  pub child-worth : (d c : ℕ) (u : Bool) (f : Forest ℤ) → Proper T K (Within h) d c u f → Filled f → Balanced T f → SmallWorths T G S (lowered f)
       → (b : ℕ) → Rising b (lowered f) → (m v : ℕ) → Child (plain S T) m v (grained G (lowered f)) → worthAt T G m f ≡ some (base +ℤ pos v)
   unfolding worthAt grained
   child-worth d c u (leaf n w x rest) p fl bl s b r m v here-leaf =
@@ -105,7 +105,7 @@ module _ (T G K S : ℕ) (h : Head) (positive : 0 < T) where
       cond-past (eqb n m) _ _ (ne-eqb n m (λ e. omega arith)) ∙ child-worth d c u rest (p .4) (fl .2) (bl .2) (s .3) (suc n) (r .1) m v i
 
   -- a root child of these nodes, which stand in slices
-  pub play-worth : (f : Forest ℤ) → Proper T K (Within h) 0 0 false f → Filled f → Balanced T f → Small T G S (lowered f)
+  pub play-worth : (f : Forest ℤ) → Proper T K (Within h) 0 0 false f → Filled f → Balanced T f → SmallWorths T G S (lowered f)
       → (s : Slices) (e : ℕ) → Spans s 0 e (lowered f) → (m v : ℕ) → Child (plain S T) m v (children (grained G (lowered f)))
       → worthAt T G m (children f) ≡ some (base +ℤ pos v)
   unfolding grained

@@ -17,7 +17,7 @@ use Rattle.table.specs.Accepted.{span, Filled, Balanced, Proper, Rooted}
 use Rattle.table.proofs.Heights.{above, mapForest, heights-map}
 use Rattle.table.proofs.Accepted.{accepted-ranged, accepted-proper, accepted-filled, accepted-balanced, accepted-spans, heights-rooted, heights-proper, heights-filled, heights-balanced}
 use Rattle.worth.specs.Worth.{worthOf}
-use Rattle.worth.specs.Heights.{heightWorth, Small}
+use Rattle.worth.specs.Heights.{heightWorth, SmallWorths}
 use Rattle.worth.proofs.Signs.{plus, minus, parts, is-unique, is-eq}
 use Rattle.worth.proofs.Shift.{lift}
 use Rattle.worth.proofs.Worth.{le-above, heights-small, shift as worth-shift, top}
@@ -158,7 +158,7 @@ module _ (s : List ℕ) (t : Table) (r : readText s ≡ fine t) (ε : ℕ) where
   played m e =
       plays (t .head .total) (greatest (t .lines)) (span (t .head)) ε (accepted-ranged s t r .some) (heightTree t) tree-fine m (sym play-is ∙ e)
 
-  lowered-small : Small (t .head .total) G top-height (mapForest (above (t .head .lowest)) (tree t))
+  lowered-small : SmallWorths (t .head .total) G top-height (mapForest (above (t .head .lowest)) (tree t))
   lowered-small = rw (heights-map t) at (heights-small s t r)
 
   lowered-spans : Spans (slicesOf t) 0 (length (t .lines)) (mapForest (above (t .head .lowest)) (tree t))

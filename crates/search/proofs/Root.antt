@@ -8,7 +8,7 @@ use native.Mathlib.Nat.{le-refl}
 use native.Mathlib.Omega.{arith}
 use Rattle.table.specs.Tree.{Kind, MAX, MIN, CHANCE, Forest, end, leaf, inner}
 use Rattle.table.specs.Accepted.{Filled, Balanced, Proper, Rooted}
-use Rattle.worth.specs.Heights.{heightValue, heightShares, firstHeight, Small}
+use Rattle.worth.specs.Heights.{heightValue, heightShares, firstHeight, SmallWorths}
 use Rattle.worth.proofs.Bounds.{small}
 use Rattle.judge.specs.Judge.{Root, undecided, decided, AtM, AtN, rootOf, children}
 use Rattle.search.specs.Search.{Play, noPlay, child, Seen, Rules, point, search, searchRoot, nodeOf}
@@ -78,7 +78,7 @@ module _ (T K S ε : ℕ) (some-total : 0 < T) where
     all-fit : Fit (plain top T) (T ^ 0) (grained G (inner n w k under rest))
     all-fit = fit T S K 0 0 false (inner n w k under rest) (t .0)
 
-    all-small : Small T G top under
+    all-small : SmallWorths T G top under
     all-small = small T G K S 0 0 false (inner n w k under rest) (t .0) (t .2) .2
 
     worth-is : worth (plain top T) (frameOf top T) k (grained G under) ≡ heightValue T k (heightShares T G under)

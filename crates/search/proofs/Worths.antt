@@ -4,7 +4,7 @@ use mathlib.Core.Path.{_≡_, refl, ap, _∙_}
 use mathlib.Core.Bool.{false}
 use Rattle.table.specs.Tree.{Kind, MAX, MIN, CHANCE, Forest, end, leaf, inner, isEnd}
 use Rattle.table.specs.Accepted.{Filled}
-use Rattle.worth.specs.Heights.{heightValue, heightShares, Small}
+use Rattle.worth.specs.Heights.{heightValue, heightShares, SmallWorths}
 use Rattle.worth.specs.Inside.{begin, taken, sealed, takeAll}
 use Rattle.worth.proofs.Run.{value-taken}
 use Rattle.search.specs.Search.{Frame}
@@ -22,14 +22,14 @@ module _ (S T G : ℕ) where
   start-begin MIN = refl
   start-begin CHANCE = refl
 
-  node-worth : (k : Kind) (f : Forest ℕ) → isEnd f ≡ false → Small T G S f
+  node-worth : (k : Kind) (f : Forest ℕ) → isEnd f ≡ false → SmallWorths T G S f
       → total (plain S T) k (grained G f) (start (frameOf S T) k) ≡ takeAll k (start (frameOf S T) k) (heightShares T G f)
       → worth (plain S T) (frameOf S T) k (grained G f) ≡ heightValue T k (heightShares T G f)
   unfolding worth
   node-worth k f some s e =
       ap (sealed T k) (e ∙ ap (λ (a : ℕ). takeAll k a (heightShares T G f)) (start-begin k)) ∙ value-taken T G S k f some s
 
-  total-taken : (k : Kind) (f : Forest ℕ) (a : ℕ) → Filled f → Small T G S f → total (plain S T) k (grained G f) a ≡ takeAll k a (heightShares T G f)
+  total-taken : (k : Kind) (f : Forest ℕ) (a : ℕ) → Filled f → SmallWorths T G S f → total (plain S T) k (grained G f) a ≡ takeAll k a (heightShares T G f)
   unfolding total grained heightShares takeAll worth
   total-taken k end a f s = refl
   total-taken k (leaf n w h rest) a f s = total-taken k rest (taken k a w (h * G)) f (s .1)
@@ -39,6 +39,6 @@ module _ (S T G : ℕ) where
       ∙ total-taken k rest (taken k a w (heightValue T c (heightShares T G under))) (f .2) (s .3)
 
   -- the worth of a node of the kind k with these children
-  pub worth-value : (k : Kind) (f : Forest ℕ) → isEnd f ≡ false → Filled f → Small T G S f
+  pub worth-value : (k : Kind) (f : Forest ℕ) → isEnd f ≡ false → Filled f → SmallWorths T G S f
       → worth (plain S T) (frameOf S T) k (grained G f) ≡ heightValue T k (heightShares T G f)
   worth-value k f some fl s = node-worth k f some s (total-taken k f (start (frameOf S T) k) fl s)

@@ -9,7 +9,7 @@ use native.Mathlib.Omega.{arith}
 use Rattle.table.specs.Tree.{Kind, MAX, MIN, CHANCE, Forest, end, leaf, inner, isChance, weigh}
 use Rattle.table.specs.Accepted.{one, Balanced, Proper}
 use Rattle.worth.specs.Worth.{Share}
-use Rattle.worth.specs.Heights.{tallest, shortest, summed, heightValue, heightShares, Small}
+use Rattle.worth.specs.Heights.{tallest, shortest, summed, heightValue, heightShares, SmallWorths}
 
 -- ---- lists of shares
 
@@ -65,17 +65,17 @@ module _ (T G : ℕ) where
   weights-shares (leaf n w h rest) = ap (λ (x : ℕ). w + x) (weights-shares rest)
   weights-shares (inner n w k under rest) = ap (λ (x : ℕ). w + x) (weights-shares rest)
 
-  pub small-each : (M : ℕ) (F : Forest ℕ) → Small T G M F → Each (λ (x : ℕ). x ≤ M) (heightShares T G F)
+  pub small-each : (M : ℕ) (F : Forest ℕ) → SmallWorths T G M F → Each (λ (x : ℕ). x ≤ M) (heightShares T G F)
   unfolding heightShares
   small-each M end s = tt
   small-each M (leaf n w h rest) s = (s .0, small-each M rest (s .1))
   small-each M (inner n w k under rest) s = (s .0, small-each M rest (s .3))
 
-  pub small : (K S d c : ℕ) (u : Bool) (F : Forest ℕ) → Proper T K (λ (x : ℕ). x ≤ S) d c u F → Balanced T F → Small T G (S * G) F
+  pub small : (K S d c : ℕ) (u : Bool) (F : Forest ℕ) → Proper T K (λ (x : ℕ). x ≤ S) d c u F → Balanced T F → SmallWorths T G (S * G) F
   small K S d c u end p b = tt
   small K S d c u (leaf n w h rest) p b = (mul-le-mul-right G (p .1), small K S d c u rest (p .4) b)
   small K S d c u (inner n w k under rest) p b =
-      let s : Small T G (S * G) under = small K S (suc d) (c + one k) (isChance k) under (p .3) (b .1) in
+      let s : SmallWorths T G (S * G) under = small K S (suc d) (c + one k) (isChance k) under (p .3) (b .1) in
       let e : Each (λ (x : ℕ). x ≤ S * G) (heightShares T G under) = small-each (S * G) under s in
       let v : isChance k ≡ true → weights (heightShares T G under) ≡ T = λ i. weights-shares under ∙ b .0 i in (
         value-le T (S * G) k (heightShares T G under) e v,

@@ -16,7 +16,7 @@ use Rattle.table.proofs.Complete.{stops-long}
 use Rattle.table.proofs.Copied.{fitted-long}
 use Rattle.worth.specs.declared.Scale.{Scale}
 use Rattle.worth.specs.Heights.{tallest, heightValue, heightShares, firstHeight, heightWorth}
-use Rattle.worth.specs.Inside.{Beside, beside, Reach, OkScale, Ready, Worthy}
+use Rattle.worth.specs.Inside.{Beside, beside, Reach, OkScale, ReadyRun, Worthy}
 use Rattle.worth.proofs.Worth.{rooted-some, heights-small, span-grains}
 use Rattle.worth.proofs.Text.{accepted-lays}
 
@@ -55,7 +55,7 @@ module _ (s : List ℕ) (t : Table) (h : readText s ≡ fine t) (st w g : List �
         heights = fitted-long (heightsOf t) g n (length-map (t .lines) (heightOf (t .head .lowest))) (room .heights);
       }
 
-  pub accepted-ready : Ready (lentOf t st w g) (scaleOf t) MAX 0 (length (t .lines)) (drop 25 s)
+  pub accepted-ready : ReadyRun (lentOf t st w g) (scaleOf t) MAX 0 (length (t .lines)) (drop 25 s)
   accepted-ready =
       let z = accepted-size s t h in
       record {

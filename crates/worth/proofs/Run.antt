@@ -11,8 +11,8 @@ use Rattle.table.specs.Tree.{Kind, MAX, MIN, CHANCE, Forest, end, leaf, inner, 
 use Rattle.table.specs.Accepted.{Filled}
 use Rattle.worth.specs.declared.Scale.{Scale}
 use Rattle.worth.specs.Worth.{Share}
-use Rattle.worth.specs.Heights.{tallest, shortest, summed, heightValue, heightShares, Small}
-use Rattle.worth.specs.Inside.{kindIn, Beside, Reach, Lays, begin, taken, sealed, takeAll, OkScale, Ready}
+use Rattle.worth.specs.Heights.{tallest, shortest, summed, heightValue, heightShares, SmallWorths}
+use Rattle.worth.specs.Inside.{kindIn, Beside, Reach, Lays, begin, taken, sealed, takeAll, OkScale, ReadyRun}
 use Rattle.worth.proofs.Bounds.{Each, shortest-one, small-each}
 use Rattle.worth.proofs.Codes.{kind-code, code-inner}
 
@@ -61,7 +61,7 @@ taken-value T M CHANCE x xs e =
     let z : takeAll CHANCE 0 (x ∷ xs) ≡ summed (x ∷ xs) = omega (arith, take-sum 0 (x ∷ xs)) in
     ap (λ (v : ℕ). v / T) z
 
-pub value-taken : (T G M : ℕ) (k : Kind) (f : Forest ℕ) → isEnd f ≡ false → Small T G M f
+pub value-taken : (T G M : ℕ) (k : Kind) (f : Forest ℕ) → isEnd f ≡ false → SmallWorths T G M f
     → sealed T k (takeAll k (begin M k) (heightShares T G f)) ≡ heightValue T k (heightShares T G f)
 unfolding heightShares
 value-taken T G M k end n s = absurd (let z : _≡_ {A = ℕ} 0 1 = cc in omega arith)
@@ -104,7 +104,7 @@ lays-none S T G c e s (inner n w k under rest) l h =
 
 -- the lines `part`, nodes c up to j, can be judged under the kind of the number k, and are then worth v
 pub record Child (S : Beside) (g : Scale) (k c j : ℕ) (part : List ℕ) (v : ℕ) : Type 0 where
-  pub ready : Ready S g (kindOf k) c j part
+  pub ready : ReadyRun S g (kindOf k) c j part
   pub worth : v ≡ heightValue (g .total) (kindOf k) (heightShares (g .total) (g .grain) (ready .nodes))
 
 -- the first node of the lines s of the nodes f, and the nodes after its run
@@ -117,7 +117,7 @@ pub record Front (S : Beside) (g : Scale) (c e : ℕ) (s : List ℕ) (f : Forest
   pub weighs : getD (S .weights) c 0 ≡ share .weight
   pub lays : Lays S (getD (S .stops) c 0) e (drop (25 * (getD (S .stops) c 0 - c)) s) rest
   pub filled : Filled rest
-  pub small : Small (g .total) (g .grain) (g .top) rest
+  pub small : SmallWorths (g .total) (g .grain) (g .top) rest
   pub leafy : kindIn (take 25 s) ≡ 0 → share .worth ≡ getD (S .heights) c 0 * g .grain
   pub child : (kindIn (take 25 s) ≡ 0 → ⊥)
       → Child S g (kindIn (take 25 s)) (c + 1) (getD (S .stops) c 0) (take (25 * (getD (S .stops) c 0 - (c + 1))) (drop 25 s)) (share .worth)
@@ -130,7 +130,7 @@ part-long : (c e j : ℕ) (s : List ℕ) → c < j → j ≤ e → length s ≡ 
 part-long c e j s h k l = length-take-le (25 * (j - (c + 1))) (drop 25 s) (omega (arith, length-drop 25 s, l))
 
 module _ (S : Beside) (g : Scale) (c e : ℕ) (s : List ℕ) where
-  pub front : (f : Forest ℕ) → Lays S c e s f → Filled f → Small (g .total) (g .grain) (g .top) f
+  pub front : (f : Forest ℕ) → Lays S c e s f → Filled f → SmallWorths (g .total) (g .grain) (g .top) f
       → c < e → length s ≡ 25 * (e - c) → Reach S e → e ≤ 1024 → OkScale g → Front S g c e s f
   unfolding Lays heightShares
   front end l F M h long room few ok = absurd (omega (arith, l))
@@ -191,13 +191,13 @@ pub record Going (S : Beside) (g : Scale) (k : Kind) (c e : ℕ) (s : List ℕ) 
   pub upto : i ≤ e
   pub lays : Lays S i e (drop (25 * (i - c)) s) rest
   pub filled : Filled rest
-  pub small : Small (g .total) (g .grain) (g .top) rest
+  pub small : SmallWorths (g .total) (g .grain) (g .top) rest
   pub same : takeAll k (begin (g .top) k) (heightShares (g .total) (g .grain) f) ≡ takeAll k a (heightShares (g .total) (g .grain) rest)
 
 module _ (S : Beside) (g : Scale) (k : Kind) (c e : ℕ) (s : List ℕ) where
   -- the invariant of the loop: for all that the contract speaks of
   abbrev pub GoingAll : ℕ → ℕ → Type 0
-  GoingAll a i = (R : Ready S g k c e s) → Going S g k c e s (R .nodes) a i
+  GoingAll a i = (R : ReadyRun S g k c e s) → Going S g k c e s (R .nodes) a i
 
   pub going-start : (a : ℕ) → a ≡ begin (g .top) k → GoingAll a c
   going-start a p R =
@@ -215,10 +215,10 @@ module _ (S : Beside) (g : Scale) (k : Kind) (c e : ℕ) (s : List ℕ) where
       drop-none c s = let z : 25 * (c - c) ≡ 0 = omega arith in rw z refl
 
   -- the first node that is left
-  abbrev pub Next : ℕ → ℕ → Ready S g k c e s → Type 0
+  abbrev pub Next : ℕ → ℕ → ReadyRun S g k c e s → Type 0
   Next a i R = (G : Going S g k c e s (R .nodes) a i) × Front S g i e (drop (25 * (i - c)) s) (G .rest)
 
-  pub next-of : (a i : ℕ) (R : Ready S g k c e s) → GoingAll a i → i < e → Next a i R
+  pub next-of : (a i : ℕ) (R : ReadyRun S g k c e s) → GoingAll a i → i < e → Next a i R
   next-of a i R all h =
       let G = all R in (
         G,
@@ -226,7 +226,7 @@ module _ (S : Beside) (g : Scale) (k : Kind) (c e : ℕ) (s : List ℕ) where
             (omega (arith, length-drop (25 * (i - c)) s, R .long, G .from)) (R .room) (R .few) (R .scale),
       )
 
-  pub going-turn : (a i : ℕ) (R : Ready S g k c e s) (N : Next a i R) (b j : ℕ)
+  pub going-turn : (a i : ℕ) (R : ReadyRun S g k c e s) (N : Next a i R) (b j : ℕ)
       → j ≡ getD (S .stops) i 0 → b ≡ taken k a (N .1 .share .weight) (N .1 .share .worth) → Going S g k c e s (R .nodes) b j
   unfolding takeAll
   going-turn a i R N b j stop step =
@@ -250,7 +250,7 @@ module _ (S : Beside) (g : Scale) (k : Kind) (c e : ℕ) (s : List ℕ) where
       })
 
   -- every child is taken
-  pub going-end : (a i : ℕ) (R : Ready S g k c e s) → GoingAll a i → e ≤ i
+  pub going-end : (a i : ℕ) (R : ReadyRun S g k c e s) → GoingAll a i → e ≤ i
       → sealed (g .total) k a ≡ heightValue (g .total) k (heightShares (g .total) (g .grain) (R .nodes))
   unfolding takeAll
   going-end a i R all h =
@@ -267,7 +267,7 @@ sum-so-far : (a total : ℕ) (x : Share ℕ) (xs ys : List (Share ℕ))
 unfolding summed
 sum-so-far a total x xs ys e h = omega (arith, take-sum 0 ys, take-sum a (x ∷ xs))
 
-pub sum-fits : (S : Beside) (g : Scale) (k : Kind) (c e : ℕ) (s : List ℕ) (a i : ℕ) (R : Ready S g k c e s) (N : Next S g k c e s a i R)
+pub sum-fits : (S : Beside) (g : Scale) (k : Kind) (c e : ℕ) (s : List ℕ) (a i : ℕ) (R : ReadyRun S g k c e s) (N : Next S g k c e s a i R)
     → k ≡ CHANCE → a + N .1 .share .weight * N .1 .share .worth < 9223372036854775808
 sum-fits S g MAX c e s a i R N k = absurd (let z : _≡_ {A = Bool} false true = ap isChance k in let y : _≡_ {A = ℕ} 0 1 = cc in omega arith)
 sum-fits S g MIN c e s a i R N k = absurd (let z : _≡_ {A = Bool} false true = ap isChance k in let y : _≡_ {A = ℕ} 0 1 = cc in omega arith)
@@ -297,7 +297,7 @@ pub record Turn (S : Beside) (c e i : ℕ) (s : List ℕ) : Type 0 where
   pub few : e ≤ 1024
   pub long : length s ≡ 25 * (e - c)
 
-module _ (S : Beside) (g : Scale) (k : Kind) (c e : ℕ) (s : List ℕ) (a i : ℕ) (R : Ready S g k c e s) (N : Next S g k c e s a i R) where
+module _ (S : Beside) (g : Scale) (k : Kind) (c e : ℕ) (s : List ℕ) (a i : ℕ) (R : ReadyRun S g k c e s) (N : Next S g k c e s a i R) where
   pub turn-of : Turn S c e i s
   turn-of = record { from = N .0 .from; here = N .1 .later; upto = N .1 .within; room = R .room; few = R .few; long = R .long }
 

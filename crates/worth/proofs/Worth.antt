@@ -16,7 +16,7 @@ use Rattle.table.specs.Accepted.{span, Rooted}
 use Rattle.table.proofs.Heights.{height-back, heights-map}
 use Rattle.table.proofs.Accepted.{accepted-ranged, accepted-grain, accepted-proper, accepted-filled, accepted-balanced, heights-rooted, heights-proper, heights-balanced}
 use Rattle.worth.specs.Worth.{Share, shares, worthOf, firstWorth, Exact}
-use Rattle.worth.specs.Heights.{heightShares, firstHeight, heightWorth, raised, ExactHeights, Small}
+use Rattle.worth.specs.Heights.{heightShares, firstHeight, heightWorth, raised, ExactHeights, SmallWorths}
 use Rattle.worth.proofs.Signs.{plus, minus, parts, is-le}
 use Rattle.worth.proofs.Bounds.{Each, small, small-each}
 use Rattle.worth.proofs.Even.{exact-heights}
@@ -48,7 +48,7 @@ module _ (s : List ℕ) (t : Table) (h : readText s ≡ fine t) where
       (heights-proper s t h)
 
   -- every node, and every sum under a C
-  pub heights-small : Small (t .head .total) (grain t) (span (t .head) * grain t) (heightTree t)
+  pub heights-small : SmallWorths (t .head .total) (grain t) (span (t .head) * grain t) (heightTree t)
   heights-small =
       small (t .head .total) (grain t) (greatest (t .lines)) (span (t .head)) 0 0 false (heightTree t) (heights-proper s t h) (heights-balanced s t h)
 

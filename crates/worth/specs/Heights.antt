@@ -59,11 +59,11 @@ ExactHeights T G (inner n w k under rest) =
     × ExactHeights T G rest
 
 -- every node is worth at most M grains above the lowest end, and every sum under a C is at most T × M
-abbrev pub Small : (T G M : ℕ) → Forest ℕ → Type 0
-Small T G M end = Unit {0}
-Small T G M (leaf n w h rest) = (h * G ≤ M) × Small T G M rest
-Small T G M (inner n w k under rest) =
+abbrev pub SmallWorths : (T G M : ℕ) → Forest ℕ → Type 0
+SmallWorths T G M end = Unit {0}
+SmallWorths T G M (leaf n w h rest) = (h * G ≤ M) × SmallWorths T G M rest
+SmallWorths T G M (inner n w k under rest) =
     (heightValue T k (heightShares T G under) ≤ M)
     × (isChance k ≡ true → summed (heightShares T G under) ≤ T * M)
-    × Small T G M under
-    × Small T G M rest
+    × SmallWorths T G M under
+    × SmallWorths T G M rest

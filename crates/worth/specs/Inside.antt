@@ -9,7 +9,7 @@ use Rattle.table.specs.Tree.{Kind, MAX, MIN, CHANCE, Forest, end, leaf, inner, 
 use Rattle.table.specs.Accepted.{Filled}
 use Rattle.worth.specs.declared.Scale.{Scale}
 use Rattle.worth.specs.Worth.{Share}
-use Rattle.worth.specs.Heights.{heightValue, heightShares, summed, Small}
+use Rattle.worth.specs.Heights.{heightValue, heightShares, summed, SmallWorths}
 
 -- the number of the kind that a node line says
 abbrev pub kindIn : List ℕ → ℕ
@@ -75,11 +75,11 @@ pub record OkScale (g : Scale) : Type 0 where
 -- nodes whose worths fit
 pub record Fits (g : Scale) (k : Kind) (f : Forest ℕ) : Type 0 where
   pub filled : Filled f
-  pub small : Small (g .total) (g .grain) (g .top) f
+  pub small : SmallWorths (g .total) (g .grain) (g .top) f
   pub sums : isChance k ≡ true → summed (heightShares (g .total) (g .grain) f) ≤ g .total * g .top
 
 -- a run of lines that can be judged: the children of a node of the kind k
-pub record Ready (S : Beside) (g : Scale) (k : Kind) (c e : ℕ) (s : List ℕ) : Type 0 where
+pub record ReadyRun (S : Beside) (g : Scale) (k : Kind) (c e : ℕ) (s : List ℕ) : Type 0 where
   pub nodes : Forest ℕ
   pub lays : Lays S c e s nodes
   pub fits : Fits g k nodes
@@ -91,4 +91,4 @@ pub record Ready (S : Beside) (g : Scale) (k : Kind) (c e : ℕ) (s : List ℕ) 
 
 -- what the nodes of a run that can be judged are worth to their parent
 abbrev pub Worthy : Beside → Scale → Kind → ℕ → ℕ → List ℕ → ℕ → Type 0
-Worthy S g k c e s r = (R : Ready S g k c e s) → r ≡ heightValue (g .total) k (heightShares (g .total) (g .grain) (R .nodes))
+Worthy S g k c e s r = (R : ReadyRun S g k c e s) → r ≡ heightValue (g .total) k (heightShares (g .total) (g .grain) (R .nodes))

@@ -3,7 +3,7 @@ ghost use mathlib.Core.Path.{_≡_};
 ghost use Prim.Native.Nat.{_+_, _*_, _<_, _≤_};
 ghost use lib.ListN.{length, getD, take, drop};
 ghost use Rattle.table.specs.Tree.{MAX, CHANCE, kindOf};
-ghost use Rattle.worth.specs.Inside.{kindIn, beside, begin, taken, sealed, Ready, Worthy};
+ghost use Rattle.worth.specs.Inside.{kindIn, beside, begin, taken, sealed, ReadyRun, Worthy};
 
 // A table's total and grain count, and the highest end's grains above the lowest.
 pub struct Scale {
@@ -81,7 +81,7 @@ fn worth_under(
     e: usize,
     g: Scale,
 ) -> u64
-    requires { ⌜ Ready (beside (now stop) (now weight) (now height)) g (kindOf k) c e (now run) ⌝ }
+    requires { ⌜ ReadyRun (beside (now stop) (now weight) (now height)) g (kindOf k) c e (now run) ⌝ }
     ensures { λ r. ⌜ Worthy (beside (now (stop .entry)) (now (weight .entry)) (now (height .entry))) g (kindOf k) c e (now (run .entry)) r ⌝ }
 {
     let mut a = before_any(k, g.top);
@@ -121,7 +121,7 @@ pub fn worth_of(
     e: usize,
     g: Scale,
 ) -> u64
-    requires { ⌜ Ready (beside (now stop) (now weight) (now height)) g MAX c e (now run) ⌝ }
+    requires { ⌜ ReadyRun (beside (now stop) (now weight) (now height)) g MAX c e (now run) ⌝ }
     ensures { λ r. ⌜ Worthy (beside (now (stop .entry)) (now (weight .entry)) (now (height .entry))) g MAX c e (now (run .entry)) r ⌝ }
 {
     worth_under(1, run, stop, weight, height, c, e, g)

@@ -7,14 +7,14 @@ use mir.Syntax.{w64}
 use mir.ValLaws.{toZ-ofZ}
 use Rattle.worth.specs.Inside.{beside}
 use Rattle.judge.specs.Judge.{AtM, AtN}
-use Rattle.judge.specs.Inside.{forestJudge, Whole, Decided}
+use Rattle.judge.specs.Inside.{forestJudge, WholeLines, Decided}
 use Rattle.judge.proofs.Root.{root-line, root-m, root-n, root-else, whole-undecided}
 use Rattle.judge.proofs.judge_table.Statement.{statement}
 use Rattle.judge.proofs.judge_table.Tie as tie
 
 -- a root as the contract has it
 abbrev At : tie.Start → Type 0
-At s = Whole (beside (now (s .args .stop)) (now (s .args .weight)) (now (s .args .height))) (s .args .g) (s .args .n) (now (s .args .lines))
+At s = WholeLines (beside (now (s .args .stop)) (now (s .args .weight)) (now (s .args .height))) (s .args .g) (s .args .n) (now (s .args .lines))
 
 shared-slice-read-letter-code : tie.Need-shared-slice-read-letter-code
 shared-slice-read-letter-code c =

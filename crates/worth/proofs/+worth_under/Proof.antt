@@ -5,7 +5,7 @@ use mathlib.Core.Logic.{⊎-elim}
 use native.Mathlib.Omega.{arith}
 use lib.ListN.{take, drop}
 use Rattle.table.specs.Tree.{kindOf}
-use Rattle.worth.specs.Inside.{beside, Ready}
+use Rattle.worth.specs.Inside.{beside, ReadyRun}
 use Rattle.worth.proofs.Run.{Child, GoingAll, going-start, going-end, Next, next-of, Turn, turn-of, child-of, leaf-of, turn-fits, turn-on}
 use borrow.Fn.Kinds.{In}
 use borrow.Fn.PlainCycle.{Measures, is, falls, and}
@@ -54,7 +54,7 @@ worth-under-loop-holds t c =
 -- at a line: what is left from its node on
 worth-under-next : (t : ℕ) (c : worth-under-lts.In-loop (worth-under-claims t) (worth-under-at t) worth-under.Post worth-under-Inv-loop worth-under-μ-loop)
     → let a = c .before .before .before .before .before .before .before .args in
-    (R : Ready (beside (a .stop .now) (a .weight .now) (a .height .now)) (a .g) (kindOf (a .k)) (a .c) (a .e) (a .run .now))
+    (R : ReadyRun (beside (a .stop .now) (a .weight .now) (a .height .now)) (a .g) (kindOf (a .k)) (a .c) (a .e) (a .run .now))
     → Next (beside (a .stop .now) (a .weight .now) (a .height .now)) (a .g) (kindOf (a .k)) (a .c) (a .e) (a .run .now) (c .before .loop .a) (c .before .loop .i) R
 worth-under-next t c R =
     let a = c .before .before .before .before .before .before .before .args in
@@ -137,7 +137,7 @@ worth-under-child : (t : ℕ) (c : worth-under-lts.After-index-at (worth-under-c
     let i = c .before .before .before .loop .i in
     let s = c .index-at .result in
     let at = 25 * (i - a .c) in
-    (R : Ready (beside (a .stop .now) (a .weight .now) (a .height .now)) (a .g) (kindOf (a .k)) (a .c) (a .e) (a .run .now)) → (c .before .kind-at .result ≡ 0 → ⊥)
+    (R : ReadyRun (beside (a .stop .now) (a .weight .now) (a .height .now)) (a .g) (kindOf (a .k)) (a .c) (a .e) (a .run .now)) → (c .before .kind-at .result ≡ 0 → ⊥)
     → Child (beside (a .stop .now) (a .weight .now) (a .height .now)) (a .g) (c .before .kind-at .result) (i + 1) s (take (25 * (s - a .c) - (at + 25)) (drop (at + 25) (a .run .now))) (worth-under-next t (c .before .before) R .1 .share .worth)
 worth-under-child t c R inside =
     let a = c .before .before .before .before .before .before .before .before .before .args in
@@ -156,7 +156,7 @@ worth-under-worth-under-requires t c κs =
 -- where the two ways meet: what the child is worth
 worth-under-joined : (t : ℕ) (c : worth-under-lts.Joined1 (worth-under-claims t) (worth-under-at t) worth-under.Post worth-under-Inv-loop worth-under-μ-loop)
     → let a = c .before .before .before .before .before .before .before .before .before .before .args in
-    (R : Ready (beside (a .stop .now) (a .weight .now) (a .height .now)) (a .g) (kindOf (a .k)) (a .c) (a .e) (a .run .now)) → c .if1 .h ≡ worth-under-next t (c .before .before .before) R .1 .share .worth
+    (R : ReadyRun (beside (a .stop .now) (a .weight .now) (a .height .now)) (a .g) (kindOf (a .k)) (a .c) (a .e) (a .run .now)) → c .if1 .h ≡ worth-under-next t (c .before .before .before) R .1 .share .worth
 worth-under-joined t c R =
     let a = c .before .before .before .before .before .before .before .before .before .before .args in
     let l = c .before .before .before .before .loop in
