@@ -21,7 +21,6 @@ pub mod Turn
 pub mod Turned
 pub mod Worked
 pub mod Rules
-pub mod Chain
 pub mod Bridge
 pub mod Call
 pub mod Ready

@@ -19,20 +19,6 @@ abbrev pub NodeTold : Slices → Rule → (c used α β : ℕ) → Found → Lis
 NodeTold t g c used α β r came now =
     (F : Forest ℕ) (e : ℕ) → Spans t c e F → c < e → Gives r (first g F α β) used came now
 
--- what its parent looks at: all but the play
-pub record Bounded (r : Found) (a : Answer) (from : ℕ) (came now : List ℕ) : Type 0 where
-  pub low : r .low ≡ a .low
-  pub high : r .high ≡ a .high
-  pub used : r .used ≡ from + length (a .read)
-  pub leaves : now ≡ put came from (a .read)
-
-pub unplayed : {r : Found} {a : Answer} {from : ℕ} {came now : List ℕ} → Gives r a from came now → Bounded r a from came now
-unplayed G = record { low = G .low; high = G .high; used = G .used; leaves = G .leaves }
-
-abbrev pub NodeBounds : Slices → Rule → (c used α β : ℕ) → Found → List ℕ → List ℕ → Type 0
-NodeBounds t g c used α β r came now =
-    (F : Forest ℕ) (e : ℕ) → Spans t c e F → c < e → Bounded r (first g F α β) used came now
-
 -- the node at entry c, with its later siblings, can be searched in the window α, β; its run goes up to x
 pub record ReadyNode (t : Slices) (g : Rule) (c x used room α β : ℕ) : Type 0 where
   pub nodes : Forest ℕ
@@ -55,7 +41,7 @@ module _ (t : Slices) (g : Rule) (k : Kind) (s : State) (c e used room : ℕ) wh
   heft = getD (t .weights) c 0
 
   abbrev pub ChildTold : Found → List ℕ → List ℕ → Type 0
-  ChildTold r came now = NodeBounds t g c used (alphaFor k g heft s) (betaFor k g heft s) r came now
+  ChildTold r came now = NodeTold t g c used (alphaFor k g heft s) (betaFor k g heft s) r came now
 
   pub ready-node : Ready t g k s c e used room → (x α β : ℕ) → x ≡ stopOf t c → α ≤ g .top → β ≤ g .top → ReadyNode t g c x used room α β
   ready-node R x α β q p p′ =
@@ -275,13 +261,13 @@ module _ {t : Slices} {g : Rule} {c used α β : ℕ} {came : List ℕ} where
       → Told t g j (c + 1) x used α β r came now → length now ≡ length came → NodeSearched t g c used α β came r now
   searched-inner {x} j {r} {now} z q more kept = record { tells = inner-tells t g c used α β came x j r now z q more; kept = kept }
 
--- ---- the child i of a C, or a node j below it: the weight that was read is the one in the slice
+-- ---- a C's child: the weight that was read is the one in the slice
 
-pub searched-window : {t : Slices} {g : Rule} (s : State) (i : ℕ) {j used : ℕ} {came : List ℕ} {w α β : ℕ} {r : Found} {now : List ℕ} → w ≡ getD (t .weights) i 0
-    → α ≡ alphaFor CHANCE g w s → β ≡ betaFor CHANCE g w s → NodeSearched t g j used α β came r now
-    → NodeSearched t g j used (alphaFor CHANCE g (getD (t .weights) i 0) s) (betaFor CHANCE g (getD (t .weights) i 0) s) came r now
-searched-window {t} {g} s i {j} {used} {came} {r = r} {now = now} e p q h =
-    subst₂ (λ (α β : ℕ). NodeSearched t g j used α β came r now) (p ∙ ap (λ (y : ℕ). alphaFor CHANCE g y s) e) (q ∙ ap (λ (y : ℕ). betaFor CHANCE g y s) e) h
+pub searched-window : {t : Slices} {g : Rule} (s : State) {c used : ℕ} {came : List ℕ} {w α β : ℕ} {r : Found} {now : List ℕ} → w ≡ getD (t .weights) c 0
+    → α ≡ alphaFor CHANCE g w s → β ≡ betaFor CHANCE g w s → NodeSearched t g c used α β came r now
+    → NodeSearched t g c used (alphaFor CHANCE g (getD (t .weights) c 0) s) (betaFor CHANCE g (getD (t .weights) c 0) s) came r now
+searched-window {t} {g} s {c} {used} {came} {r = r} {now = now} e p q h =
+    subst₂ (λ (α β : ℕ). NodeSearched t g c used α β came r now) (p ∙ ap (λ (y : ℕ). alphaFor CHANCE g y s) e) (q ∙ ap (λ (y : ℕ). betaFor CHANCE g y s) e) h
 
 pub chance-state : (g : Rule) (c : ℕ) (r : Found) (s s′ : State) {w w′ : ℕ} → s′ ≡ afterChance g w s (r .low) (r .high) → w ≡ w′ → s′ ≡ after CHANCE g c w′ s (r .low) (r .high)
 chance-state g c r s s′ p e = p ∙ ap (λ (y : ℕ). afterChance g y s (r .low) (r .high)) e
@@ -319,13 +305,6 @@ child-of {t} {g} {k} {s₀} {s} {c₀} {e} {used₀} {c} {used} {came₀} {came}
     }
 
 module _ {t : Slices} {g : Rule} {c₀ e c x used room α β : ℕ} (C : Child t g c₀ e c x used room α β) where
-  -- what a call of `chain_end` asks
-  pub child-chain : (c < x) × (x ≤ 1024) × (x ≤ length (t .stops))
-  child-chain = (C .inside, C .node .holds .few, C .node .holds .stops)
-
-  pub child-kind : c < length (t .kinds)
-  child-kind = omega (arith, C .inside, C .node .holds .kinds)
-
   -- what a call of the search of kind j asks
   pub child-asks : (m : ℕ) → e - c₀ ≡ m → (j : Kind) → getD (t .kinds) c 0 ≡ codeOf j → (x - (c + 1) < m) × Ready t g j (start j g α β) (c + 1) x used room
   child-asks m q j is = (omega (arith, C .less), ready-inner (C .node) j is)

@@ -6,7 +6,7 @@ use mathlib.Core.Bool.{Bool, true, false, _||_, cond}
 use mathlib.Core.List.{List, [], _∷_, _++_}
 use mathlib.Core.Option.{Option, none, some}
 use lib.Dec.{eqb, leb, ltb}
-use lib.ListN.{length, getD, set}
+use lib.ListN.{length, set}
 use Rattle.table.specs.Tree.{Kind, MAX, MIN, CHANCE, Forest, end, leaf, inner, isChance, isEnd, weigh, leaves}
 use Rattle.table.specs.Slices.{Slices, Spans, laid}
 use Rattle.table.specs.Accepted.{Sums, Rooted}
@@ -145,10 +145,6 @@ pub record LeafAt (r : Found) (v from c : ℕ) (came now : List ℕ) : Type 0 wh
   pub play : r .play ≡ 0
   pub used : r .used ≡ from + 1
   pub leaves : now ≡ set came from c
-
--- each node from i up to j has one child: the child's run ends at e, as the node's does; S has one past the run of each node
-abbrev pub Chain : List ℕ → (e i j : ℕ) → Type 0
-Chain S e i j = (m : ℕ) → i ≤ m → m < j → getD S (m + 1) 0 ≡ e
 
 abbrev pub WeighsIn : Kind → Rule → ℕ → Type 0
 WeighsIn k g w = isChance k ≡ true → (0 < w) × (w ≤ g .total)
