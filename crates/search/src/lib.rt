@@ -183,11 +183,12 @@ fn leaf_at(height: &[u32], leaves: &mut [u16], used: usize, c: usize, grain: u64
 {
     leaves[used] = c as u16;
     let h = wide32(height[c]) * grain;
+    let n = used + 1;
     Found {
         low: h,
         high: h,
         play: 0,
-        used: used + 1,
+        used: n,
     }
 }
 
