@@ -1,3 +1,4 @@
+pub mod Steps
 pub mod Heights
 pub mod Contain
 pub mod Exact

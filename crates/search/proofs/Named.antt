@@ -15,9 +15,10 @@ use Rattle.line.proofs.Signs.{true-ne-false}
 use Rattle.table.specs.Tree.{Kind, MAX, MIN, CHANCE, Forest, end, leaf, inner, isEnd}
 use Rattle.table.specs.Accepted.{Filled}
 use Rattle.judge.specs.Judge.{Side, AtM, AtN, Root, undecided, decided, sideOf, rootOf, children}
-use Rattle.search.specs.Search.{Frame, Play, noPlay, child, Seen, State, Arith, Rules, begin, finish, cut, point, beats, better, prefer, take, stop, scan, enter, after, search, searchRoot, nodeOf}
+use Rattle.search.specs.Search.{Frame, Play, noPlay, child, Seen, State, Arith, Rules, begin, finish, cut, point, beats, better, prefer, update, stop, scan, search, searchRoot, nodeOf}
 use Rattle.search.specs.Entered.{Entered, asEntered, entered, enteredRoot, worse, FirstBest}
 use Rattle.search.specs.Whole.{inGrains}
+use Rattle.search.proofs.Steps.{seenUnder, seenAfter}
 
 -- what is asked of `less`: where a is below c, b is above a or below c
 pub record Strict {A : Type 0} (less : A → A → Bool) : Type 0 where
@@ -118,12 +119,12 @@ module _ {A : Type 0} (O : Arith A) (strict : Strict (O .less)) where
         subst (λ (l : List (Entered A)). FirstBest O side (l ++ (asEntered n r ∷ [])) (asEntered n r)) (sym h) (best-alone (asEntered n r))
     better-held k n xs (child m l b) r is F = better-best k n xs (record { node = m; low = l; high = b }) r (is (record { node = m; low = l; high = b })) F
 
-  take-held : (e : Frame A) (k : Kind) (n w : ℕ) (s : State A) (r : Seen A) (xs : List (Entered A)) → Held O (sideOf k) xs (s .play)
-      → Held O (sideOf k) (xs ++ (asEntered n r ∷ [])) (take O e k n w s r .play)
-  unfolding take prefer beats
-  take-held e MAX n w s r xs h = better-held AtM MAX n xs (s .play) r (λ b. refl) h
-  take-held e MIN n w s r xs h = better-held AtN MIN n xs (s .play) r (λ b. refl) h
-  take-held e CHANCE n w s r xs h = refl
+  update-held : (e : Frame A) (k : Kind) (n w : ℕ) (s : State A) (r : Seen A) (xs : List (Entered A)) → Held O (sideOf k) xs (s .play)
+      → Held O (sideOf k) (xs ++ (asEntered n r ∷ [])) (update O e k n w s r .play)
+  unfolding update prefer beats
+  update-held e MAX n w s r xs h = better-held AtM MAX n xs (s .play) r (λ b. refl) h
+  update-held e MIN n w s r xs h = better-held AtN MIN n xs (s .play) r (λ b. refl) h
+  update-held e CHANCE n w s r xs h = refl
 
   cut-play : (e : Frame A) (k : Kind) (s : State A) → cut e k s .play ≡ s .play
   unfolding cut
@@ -135,7 +136,7 @@ module _ {A : Type 0} (O : Arith A) (strict : Strict (O .less)) where
     after-held : (e : Frame A) (k : Kind) (rest : Forest A) (t : State A) (xs : List (Entered A)) (x : Entered A)
         → Held O (sideOf k) (xs ++ (x ∷ [])) (t .play)
         → Held O (sideOf k) (xs ++ (x ∷ []) ++ entered O R e k rest t) (scan O R e k rest t .play)
-        → Held O (sideOf k) (xs ++ (x ∷ cond (stop O (R .margin) rest t) [] (entered O R e k rest t))) (after O R e k rest t .play)
+        → Held O (sideOf k) (xs ++ (x ∷ cond (stop O (R .margin) rest t) [] (entered O R e k rest t))) (seenAfter O R e k rest t .play)
     after-held e k rest t xs x h i =
         both (λ (l : List (Entered A)) (r : Seen A). Held O (sideOf k) (xs ++ (x ∷ l)) (r .play)) (stop O (R .margin) rest t) (rw (cut-play e k t) h)
         (subst (λ (l : List (Entered A)). Held O (sideOf k) l (scan O R e k rest t .play)) (append-assoc xs (x ∷ []) (entered O R e k rest t)) i)
@@ -146,13 +147,13 @@ module _ {A : Type 0} (O : Arith A) (strict : Strict (O .less)) where
     scan-held e k end s xs h = subst (λ (l : List (Entered A)). Held O (sideOf k) l (s .play)) (sym (append-nil xs)) h
     scan-held e k (leaf n w v rest) s xs h =
         let r : Seen A = point n v (s .read) in
-        let t : State A = take O e k n w s r in
-        let j = take-held e k n w s r xs h in
+        let t : State A = update O e k n w s r in
+        let j = update-held e k n w s r xs h in
         after-held e k rest t xs (asEntered n r) j (scan-held e k rest t (xs ++ (asEntered n r ∷ [])) j)
     scan-held e k (inner n w c under rest) s xs h =
-        let r : Seen A = enter O R e k n w c under s in
-        let t : State A = take O e k n w s r in
-        let j = take-held e k n w s r xs h in
+        let r : Seen A = seenUnder O R e k n w c under s in
+        let t : State A = update O e k n w s r in
+        let j = update-held e k n w s r xs h in
         after-held e k rest t xs (asEntered n r) j (scan-held e k rest t (xs ++ (asEntered n r ∷ [])) j)
 
     begin-held : (e : Frame A) (k : Kind) (a b : A) (l : List ℕ) → Held O (sideOf k) [] (begin e k a b l .play)

@@ -7,7 +7,7 @@ use lib.IntN.{ℤ}
 use Rattle.table.specs.Tree.{Kind, Forest, end, leaf, inner}
 use Rattle.table.specs.Table.{Table, tree, grain}
 use Rattle.judge.specs.Judge.{Side, AtM, AtN}
-use Rattle.search.specs.Search.{Frame, Seen, State, Arith, Rules, begin, point, take, stop, enter}
+use Rattle.search.specs.Search.{Frame, Seen, State, Arith, Rules, begin, point, update, stop, enter, scan}
 use Rattle.search.specs.Whole.{whole, inGrains, rules}
 
 -- a child entered, with the bounds that its search gave
@@ -23,15 +23,16 @@ module _ {A : Type 0} where
   module _ (O : Arith A) where
     module _ (R : Rules A) where
       -- the children entered from the state s on, first to last: the walk of `scan`, up to the child after which it stops
-      unfoldable pub entered : (e : Frame A) (k : Kind) → Forest A → (s : State A) → List (Entered A)
+      unfoldable pub entered : (e : Frame A) (k : Kind) (f : Forest A) (s : State A) → List (Entered A)
       entered e k end s = []
       entered e k (leaf n w v rest) s =
           let r : Seen A = point n v (s .read) in
-          let t : State A = take O e k n w s r in
+          let t : State A = update O e k n w s r in
           asEntered n r ∷ cond (stop O (R .margin) rest t) [] (entered e k rest t)
       entered e k (inner n w c under rest) s =
-          let r : Seen A = enter O R e k n w c under s in
-          let t : State A = take O e k n w s r in
+          let d : Frame A = R .frame n under in
+          let r : Seen A = scan O R d c under (enter O e k w d c s) in
+          let t : State A = update O e k n w s r in
           asEntered n r ∷ cond (stop O (R .margin) rest t) [] (entered e k rest t)
 
       -- the children of the root that are entered: none of a lone leaf
