@@ -1,21 +1,15 @@
 -- What the search returns contains the worth. Assumes nothing.
 use Prim.Native.Nat.{ℕ, _+_, _*_, _-_, min, max, _≤_}
-use mathlib.Core.Bool.{Bool, true, false, not, cond}
 use mathlib.Core.List.{List}
 use native.Mathlib.Nat.{le-div-iff-mul-le, div-le-of-le-mul, mul-le-mul-left, mul-div-le, mul-sub, le-trans}
 use native.Mathlib.Omega.{arith}
-use lib.Dec.{T as Holds}
+use Rattle.field.proofs.Small.{choose}
 use Rattle.table.specs.Tree.{Kind, MAX, MIN, CHANCE, Forest, end, leaf, inner, weigh}
 use Rattle.worth.specs.Inside.{taken, sealed}
 use Rattle.search.specs.Search.{Frame, Seen, State, Rules, begin, lower, upper, update, finish, cut, stop, point, scan}
 use Rattle.search.specs.Heights.{natural}
 use Rattle.search.proofs.Steps.{seenUnder, seenAfter}
 use Rattle.search.proofs.Heights.{Paid, Sound, Within, start, total, worth}
-
--- a property of either answer of a test is a property of the answer taken
-pub choose : {A : Type 0} {x y : A} (P : A → Type 0) (b : Bool) → (Holds b → P x) → (Holds (not b) → P y) → P (cond b x y)
-choose P true f g = f tt
-choose P false f g = g tt
 
 -- where the total of the children ends, from a
 abbrev Bound : Frame ℕ → Kind → ℕ → ℕ → ℕ → Type 0

@@ -5,12 +5,12 @@ use mathlib.Core.List.{List}
 use native.Mathlib.Nat.{dvd-trans, dvd-mul-right, dvd-mul-left, dvd-mul-left-of-dvd, dvd-of-mul-dvd-mul-left, mul-div-cancel', dvd-add, dvd-sub, max-eq-left, max-eq-right, min-eq-left, min-eq-right}
 use native.Mathlib.Decide.{decLe}
 use native.Mathlib.Omega.{arith}
+use Rattle.field.proofs.Small.{choose}
 use Rattle.table.specs.Tree.{Kind, MAX, MIN, CHANCE, Forest, end, leaf, inner}
 use Rattle.search.specs.Search.{Frame, Seen, State, Rules, begin, lower, upper, update, finish, cut, stop, point, scan}
 use Rattle.search.specs.Heights.{natural}
 use Rattle.search.proofs.Steps.{seenAfter}
 use Rattle.search.proofs.Heights.{Paid, Within, grade, Even, Fit, total}
-use Rattle.search.proofs.Contain.{choose}
 
 pub dvd-max : (g : ℕ) {a b : ℕ} → g ∣ a → g ∣ b → g ∣ max a b
 dvd-max g {a} {b} p q = elim (decLe a b) [ yes h ↦ rw (max-eq-right h) q | no h ↦ let l : b ≤ a = omega arith in rw (max-eq-left l) p ]

@@ -6,13 +6,14 @@ use mathlib.Core.List.{List, []}
 use native.Mathlib.Nat.{le-trans}
 use native.Mathlib.Omega.{arith}
 use lib.Dec.{T as Holds, ltb→lt, nltb→le}
+use Rattle.field.proofs.Small.{choose}
 use Rattle.table.specs.Tree.{Kind, MAX, MIN, CHANCE, Forest, end, leaf, inner}
 use Rattle.worth.specs.Inside.{sealed}
 use Rattle.search.specs.Search.{Frame, Play, noPlay, child, Seen, State, Rules, begin, lower, upper, beats, prefer, update, finish, cut, stop, point, scan, search}
 use Rattle.search.specs.Heights.{natural}
 use Rattle.search.proofs.Steps.{seenUnder, seenAfter}
 use Rattle.search.proofs.Heights.{Within, Child, here-leaf, here-inner, next-leaf, next-inner, start, total, worth}
-use Rattle.search.proofs.Contain.{choose, Holding, hold-point, hold-under, contained}
+use Rattle.search.proofs.Contain.{Holding, hold-point, hold-under, contained}
 
 -- what a rule for the play must have
 pub record Fair (beats : Kind → ℕ → ℕ → ℕ → ℕ → Bool) : Type 0 where

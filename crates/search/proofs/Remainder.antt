@@ -12,13 +12,13 @@ use Rattle.worth.proofs.Signs.{Is, is-unique, is-eq, is-minus, is-mul, is-floor
 use Rattle.search.specs.Search.{Frame, Seen, State, Rules, begin, point, lower, upper, update, stop}
 use Rattle.search.specs.Whole.{whole}
 use Rattle.search.specs.Heights.{natural}
-use Rattle.search.specs.Exact.{AtChance, EachTaken, EachTakenRoot, Whole}
+use Rattle.search.specs.Exact.{AtChance, EachTaken, EachTakenRoot, WholeQuotients}
 use Rattle.search.proofs.Steps.{seenUnder}
 use Rattle.search.proofs.Heights.{Paid, Within, grade, Even, Fit, Positive, shift}
 use Rattle.search.proofs.Contain.{Holding, hold-point, hold-under, contained}
 use Rattle.search.proofs.Exact.{share, even, EvenR, even-begin, below}
 use Rattle.search.proofs.Safe.{Safe, safe-begin, safe-lower, safe-upper, safe-update}
-use Rattle.search.proofs.Shift.{Rel, RelFrame, RelState, RelSeen, Ready, rel-begin, rel-lower, rel-upper, rel-update, rel-point, rel-stop, ready-begin, ready-update, shifted}
+use Rattle.search.proofs.Shift.{Rel, RelFrame, RelState, RelSeen, Open, rel-begin, rel-lower, rel-upper, rel-update, rel-point, rel-stop, open-begin, open-update, shifted}
 
 -- ---- over heights
 
@@ -78,7 +78,7 @@ module _ (p q : ℕ) where
 
     at-shift : (e : Frame ℕ) (ez : Frame ℤ) (k : Kind) (w W v : ℕ) (s : State ℕ) (r : Seen ℕ) (x : Seen ℤ) → RelFrame p q e ez → Holding e v r
         → Safe S e k W s
-        → RelSeen p q r x → AtChance natural R WholeHeights e k w r → AtChance whole Z Whole ez k w x
+        → RelSeen p q r x → AtChance natural R WholeHeights e k w r → AtChance whole Z WholeQuotients ez k w x
     at-shift e ez MAX w W v s r x f h j o a = tt
     at-shift e ez MIN w W v s r x f h j o a = tt
     at-shift e ez CHANCE w W v s r x f h j o a = rw (f .total) (
@@ -90,22 +90,22 @@ module _ (p q : ℕ) where
     rest-shift : (e : Frame ℕ) (ez : Frame ℤ) (k : Kind) (n w : ℕ) (rest : Forest ℕ) (s : State ℕ) (z : State ℤ) (r : Seen ℕ) (x : Seen ℤ) (v : ℕ)
         → RelFrame p q e ez → e .top ≤ S → Holding e v r → Safe S e k (w + weigh rest) s → RelState p q s z → RelSeen p q r x
         → (stop natural (R .margin) rest (update natural e k n w s r) ≡ false → EachTaken natural R WholeHeights e k rest (update natural e k n w s r))
-        → ((t : State ℕ) (y : State ℤ) → Safe S e k (weigh rest) t → Ready k (isEnd rest) t → RelState p q t y → EachTaken natural R WholeHeights e k rest t
-        → EachTaken whole Z Whole ez k (shift Lo rest) y)
+        → ((t : State ℕ) (y : State ℤ) → Safe S e k (weigh rest) t → Open k (isEnd rest) t → RelState p q t y → EachTaken natural R WholeHeights e k rest t
+        → EachTaken whole Z WholeQuotients ez k (shift Lo rest) y)
         → stop whole (R .margin) (shift Lo rest) (update whole ez k n w z x) ≡ false
-        → EachTaken whole Z Whole ez k (shift Lo rest) (update whole ez k n w z x)
+        → EachTaken whole Z WholeQuotients ez k (shift Lo rest) (update whole ez k n w z x)
     rest-shift e ez k n w rest s z r x v f t h j i o a ih c =
         let lh = le-trans (h .1) (h .2) in
         let j2 = safe-update S e k n w (weigh rest) s r t (h .0) lh (h .3) j in
         let i2 = rel-update p q S e ez k n w (weigh rest) s z r x f (h .0) lh (h .3) j i o in
         let d : stop natural (R .margin) rest (update natural e k n w s r) ≡ false =
         sym (rel-stop p q Lo isLo S R frameZ frames flat rest (update natural e k n w s r) (update whole ez k n w z x) i2) ∙ c in
-        ih (update natural e k n w s r) (update whole ez k n w z x) j2 (ready-update (R .margin) e k n w s r rest (rw d tt)) i2 (a d)
+        ih (update natural e k n w s r) (update whole ez k n w z x) j2 (open-update (R .margin) e k n w s r rest (rw d tt)) i2 (a d)
 
     taken-shift : (e : Frame ℕ) (ez : Frame ℤ) (k : Kind) (f : Forest ℕ) (s : State ℕ) (z : State ℤ) → RelFrame p q e ez → e .bottom ≤ e .top
         → e .top ≤ S
-        → Within (R .frame) e f → Positive k f → Safe S e k (weigh f) s → Ready k (isEnd f) s → RelState p q s z
-        → EachTaken natural R WholeHeights e k f s → EachTaken whole Z Whole ez k (shift Lo f) z
+        → Within (R .frame) e f → Positive k f → Safe S e k (weigh f) s → Open k (isEnd f) s → RelState p q s z
+        → EachTaken natural R WholeHeights e k f s → EachTaken whole Z WholeQuotients ez k (shift Lo f) z
     unfolding shift weigh
     taken-shift e ez k end s z f b t i o j r g a = tt
     taken-shift e ez k (leaf n w h rest) s z f b t i o j r g a =
@@ -127,7 +127,7 @@ module _ (p q : ℕ) where
         let s2 : State ℕ = begin d c la ub (s .read) in
         let z2 : State ℤ = begin dz c (lower whole ez k w z) (upper whole ez k w z) (z .read) in
         let j2 = safe-begin S d c under la ub (s .read) (i .2) (le-trans (i .1) t) la-fits ub-fits in
-        let r2 = ready-begin d c (isEnd under) la ub (s .read) (let q = flat n under in (rw (q .0) (omega arith), rw (q .1) la-fits)) in
+        let r2 = open-begin d c (isEnd under) la ub (s .read) (let q = flat n under in (rw (q .0) (omega arith), rw (q .1) la-fits)) in
         let g2 = rel-begin p q d dz c la ub (lower whole ez k w z) (upper whole ez k w z) (s .read) (z .read) (frames n under)
         (rel-lower p q e ez k w s z (o .0) b f r g) (rel-upper p q e ez k w s z (o .0) b f r g) (g .read) in
         let u = shifted p q Lo isLo S R frameZ frames flat d dz c under s2 z2 (frames n under) (i .2 .ends) (le-trans (i .1) t) (i .3)
@@ -140,7 +140,7 @@ module _ (p q : ℕ) where
 
     -- in the search of a root that is not below a C
     pub whole-root : (e : Frame ℕ) (g : ℕ) (f : Forest ℕ) → e .top ≤ S → Within (R .frame) e f → Positive MAX f → Fit (R .frame) g f
-        → EachTakenRoot whole Z Whole (shift Lo f)
+        → EachTakenRoot whole Z WholeQuotients (shift Lo f)
     unfolding shift
     whole-root e g end t i o x = tt
     whole-root e g (leaf n w h rest) t i o x = tt
@@ -151,6 +151,6 @@ module _ (p q : ℕ) where
         let u : d .top ≤ S = le-trans (i .1) t in
         taken-shift d dz k under (begin d k (d .bottom) (d .top) []) (begin dz k (dz .bottom) (dz .top) []) y (i .2 .ends) u (i .3) (o .1)
         (safe-begin S d k under (d .bottom) (d .top) [] (i .2) u (le-trans (i .2 .ends) u) u)
-        (ready-begin d k (isEnd under) (d .bottom) (d .top) [] (i .2 .ends, i .2 .ends))
+        (open-begin d k (isEnd under) (d .bottom) (d .top) [] (i .2 .ends, i .2 .ends))
         (rel-begin p q d dz k (d .bottom) (d .top) (dz .bottom) (dz .top) [] [] y (y .bottom) (y .top) refl)
         (whole-heights R d k under (begin d k (d .bottom) (d .top) []) g (i .2 .paid) (i .3) (x .0) (x .1))

@@ -3,11 +3,11 @@ use Prim.Native.Nat.{ℕ}
 use mathlib.Core.Path.{_≡_, refl, ap, _∙_}
 use mathlib.Core.Bool.{Bool, true, false, cond}
 use mathlib.Core.List.{List, [], _∷_, _++_, List·Memᴰ, List·Memᴰ·head, List·Memᴰ·tail}
+use Rattle.field.proofs.Small.{choose}
 use Rattle.table.specs.Tree.{Kind, MAX, MIN, CHANCE, Forest, end, leaf, inner}
 use Rattle.search.specs.Search.{Frame, Seen, State, Arith, Rules, begin, finish, cut, point, lower, upper, update, stop, scan, search, searchRoot}
 use Rattle.search.specs.Unread.{ReadBy, Alike, alike-end, alike-leaf, alike-inner}
 use Rattle.search.proofs.Steps.{seenUnder, seenAfter}
-use Rattle.search.proofs.Contain.{choose}
 
 -- P of each number
 data Each (P : ℕ → Type 0) : List ℕ → Type 0 where

@@ -6,12 +6,13 @@ use native.Mathlib.Nat.{lt-mul-div-succ, mul-le-mul-left, mul-le-mul-right, mul-
 use native.Mathlib.Decide.{decLe}
 use native.Mathlib.Omega.{arith}
 use lib.Dec.{T as Holds, leb→le}
+use Rattle.field.proofs.Small.{choose}
 use Rattle.table.specs.Tree.{Kind, MAX, MIN, CHANCE, Forest, end, leaf, inner, weigh}
 use Rattle.search.specs.Search.{Frame, Seen, State, Rules, begin, lower, upper, update, finish, cut, stop, point, scan, search}
 use Rattle.search.specs.Heights.{natural, ceil}
 use Rattle.search.proofs.Steps.{seenUnder, seenAfter}
 use Rattle.search.proofs.Heights.{Paid, Sound, Within, grade, Even, Fit, total}
-use Rattle.search.proofs.Contain.{choose, contained}
+use Rattle.search.proofs.Contain.{contained}
 use Rattle.search.proofs.Exact.{share, even, EvenR, even-begin, below}
 
 pub ceil-le : (x w : ℕ) → 0 < w → x ≤ w * ceil x w

@@ -37,11 +37,11 @@ module _ {A : Type 0} (O : Arith A) (R : Rules A) (Q : Frame A → ℕ → Seen 
       EachTaken (R .frame n under) k under (begin (R .frame n under) k (R .frame n under .bottom) (R .frame n under .top) [])
 
 -- T times the quotient is what was divided, in `gainZ` and in `lossZ`
-abbrev pub Whole : Frame ℤ → ℕ → Seen ℤ → Type 0
-Whole e w r =
+abbrev pub WholeQuotients : Frame ℤ → ℕ → Seen ℤ → Type 0
+WholeQuotients e w r =
     (pos (e .total) *ℤ floorZ (pos w *ℤ (r .low -ℤ e .bottom)) (e .total) ≡ pos w *ℤ (r .low -ℤ e .bottom))
     × (pos (e .total) *ℤ floorZ (pos w *ℤ (e .top -ℤ r .high)) (e .total) ≡ pos w *ℤ (e .top -ℤ r .high))
 
 -- "Every worth, bound, margin and loss is a whole number of grains": nothing is rounded in lines 20 and 21 of the search of a table
 abbrev pub NoRemainder : Table → ℕ → Type 0
-NoRemainder t ε = EachTakenRoot whole (rules t ε) Whole (inGrains (grain t) (tree t))
+NoRemainder t ε = EachTakenRoot whole (rules t ε) WholeQuotients (inGrains (grain t) (tree t))

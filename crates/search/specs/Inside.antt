@@ -126,9 +126,9 @@ first g (inner i w j under rest) α β = over j g under (start j g α β)
 -- ---- what the contracts say
 
 -- l with the numbers xs written from index k on
-unfoldable pub put : List ℕ → ℕ → List ℕ → List ℕ
-put l k [] = l
-put l k (x ∷ xs) = put (set l k x) (suc k) xs
+unfoldable pub putFrom : List ℕ → ℕ → List ℕ → List ℕ
+putFrom l k [] = l
+putFrom l k (x ∷ xs) = putFrom (set l k x) (suc k) xs
 
 -- the result r, with the list as it came and as it is now, is the answer a
 pub record Gives (r : Found) (a : Answer) (from : ℕ) (came now : List ℕ) : Type 0 where
@@ -136,7 +136,7 @@ pub record Gives (r : Found) (a : Answer) (from : ℕ) (came now : List ℕ) : T
   pub high : r .high ≡ a .high
   pub play : r .play ≡ a .play
   pub used : r .used ≡ from + length (a .read)
-  pub leaves : now ≡ put came from (a .read)
+  pub leaves : now ≡ putFrom came from (a .read)
 
 -- a leaf of v grains at entry c was read
 pub record LeafAt (r : Found) (v from c : ℕ) (came now : List ℕ) : Type 0 where
@@ -190,7 +190,7 @@ pub record Holds (t : Slices) (e : ℕ) : Type 0 where
   pub few : e ≤ 1024
 
 -- the children in the entries from c up to e can be searched
-pub record Ready (t : Slices) (g : Rule) (k : Kind) (s : State) (c e used room : ℕ) : Type 0 where
+pub record ReadyChildren (t : Slices) (g : Rule) (k : Kind) (s : State) (c e used room : ℕ) : Type 0 where
   pub nodes : Forest ℕ
   pub spans : Spans t c e nodes
   pub fit : Fit k g nodes

@@ -3,7 +3,7 @@ ghost use mathlib.Core.Path.{_≡_};
 ghost use Prim.Native.Nat.{_+_, _-_, _*_, _<_, _≤_, min, max};
 ghost use lib.ListN.{length, getD};
 ghost use Rattle.table.specs.Tree.{MAX, MIN, CHANCE};
-ghost use Rattle.search.specs.Inside.{slices, start, alphaFor, betaFor, preferred, afterMax, afterMin, afterChance, stops, LeafAt, OkRule, OkBounds, Ready, Told, ReadyRoot, Searched};
+ghost use Rattle.search.specs.Inside.{slices, start, alphaFor, betaFor, preferred, afterMax, afterMin, afterChance, stops, LeafAt, OkRule, OkBounds, ReadyChildren, Told, ReadyRoot, Searched};
 
 // The margin, the grains between the ends, the total of the weights, and the grains in a point.
 pub struct Rule {
@@ -206,7 +206,7 @@ fn max_over(
     alpha: u64,
     beta: u64,
 ) -> Found
-    requires { ⌜ Ready (slices (now kind) (now stop) (now weight) (now height)) g MAX (start MAX g alpha beta) c end used (length (now leaves)) ⌝ }
+    requires { ⌜ ReadyChildren (slices (now kind) (now stop) (now weight) (now height)) g MAX (start MAX g alpha beta) c end used (length (now leaves)) ⌝ }
     ensures { λ r. ⌜ Told (slices (now (kind .entry)) (now (stop .entry)) (now (weight .entry)) (now (height .entry))) g MAX c end used alpha beta r (now (leaves .entry)) (now (leaves .exit)) ⌝ }
 {
     let mut t = State {
@@ -274,7 +274,7 @@ fn min_over(
     alpha: u64,
     beta: u64,
 ) -> Found
-    requires { ⌜ Ready (slices (now kind) (now stop) (now weight) (now height)) g MIN (start MIN g alpha beta) c end used (length (now leaves)) ⌝ }
+    requires { ⌜ ReadyChildren (slices (now kind) (now stop) (now weight) (now height)) g MIN (start MIN g alpha beta) c end used (length (now leaves)) ⌝ }
     ensures { λ r. ⌜ Told (slices (now (kind .entry)) (now (stop .entry)) (now (weight .entry)) (now (height .entry))) g MIN c end used alpha beta r (now (leaves .entry)) (now (leaves .exit)) ⌝ }
 {
     let mut t = State {
@@ -342,7 +342,7 @@ fn chance_over(
     alpha: u64,
     beta: u64,
 ) -> Found
-    requires { ⌜ Ready (slices (now kind) (now stop) (now weight) (now height)) g CHANCE (start CHANCE g alpha beta) c end used (length (now leaves)) ⌝ }
+    requires { ⌜ ReadyChildren (slices (now kind) (now stop) (now weight) (now height)) g CHANCE (start CHANCE g alpha beta) c end used (length (now leaves)) ⌝ }
     ensures { λ r. ⌜ Told (slices (now (kind .entry)) (now (stop .entry)) (now (weight .entry)) (now (height .entry))) g CHANCE c end used alpha beta r (now (leaves .entry)) (now (leaves .exit)) ⌝ }
 {
     let mut t = State {
