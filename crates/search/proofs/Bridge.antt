@@ -12,10 +12,11 @@ use Rattle.table.specs.Slices.{Slices, Spans}
 use Rattle.search.specs.declared.Rule.{Rule}
 use Rattle.search.specs.declared.State.{State}
 use Rattle.search.specs.Search as alg
-use Rattle.search.specs.Search.{Play, noPlay, child, Seen, scan, take, prefer, beats, begin, cut, finish, point, lower, upper, stop, nodeOf}
+use Rattle.search.specs.Search.{Play, noPlay, child, Seen, scan, update, prefer, beats, begin, cut, finish, point, lower, upper, stop, nodeOf}
 use Rattle.search.specs.Heights.{natural, grained, frameOf, heightRules}
 use Rattle.search.specs.Inside.{Answer, start, alphaFor, betaFor, preferred, after, stops, cutLow, cutHigh, join, over, Fit, OkRule, OkBounds, OkKind, playAt}
 use Rattle.table.proofs.Spans.{spans-le}
+use Rattle.search.proofs.Steps.{seenUnder, seenAfter}
 use Rattle.search.proofs.Forest.{stopOf, Within, alpha-ok, beta-ok, start-ok, start-kind, after-ok, after-kind, over-within}
 
 -- the code's state and answer, with the play p and the leaves l read before, as those of Algorithm 1
@@ -111,12 +112,12 @@ upper-is CHANCE g w s p l = omega arith
 lift-eq : (x y : alg.State ℕ) → x .alpha ≡ y .alpha → x .beta ≡ y .beta → x .lo ≡ y .lo → x .hi ≡ y .hi → x .play ≡ y .play → x .read ≡ y .read → x ≡ y
 lift-eq x y a b c d e f = λ i. record { alpha = a i; beta = b i; lo = c i; hi = d i; play = e i; read = f i }
 
-take-lift : (k : Kind) (g : Rule) (i w : ℕ) (s : State) (p : Play ℕ) (l : List ℕ) (A : Seen ℕ) → OkBounds g s
-    → take natural (frameOf (g .top) (g .total)) k i w (lift s p l) A ≡ lift (after k g i w s (A .low) (A .high)) (prefer natural k i p A) (A .read)
-unfolding take
-take-lift MAX g i w s p l A b = lift-eq _ _ refl (omega arith) refl refl refl refl
-take-lift MIN g i w s p l A b = lift-eq _ _ (omega arith) refl refl refl refl refl
-take-lift CHANCE g i w s p l A b =
+update-lift : (k : Kind) (g : Rule) (i w : ℕ) (s : State) (p : Play ℕ) (l : List ℕ) (A : Seen ℕ) → OkBounds g s
+    → update natural (frameOf (g .top) (g .total)) k i w (lift s p l) A ≡ lift (after k g i w s (A .low) (A .high)) (prefer natural k i p A) (A .read)
+unfolding update
+update-lift MAX g i w s p l A b = lift-eq _ _ refl (omega arith) refl refl refl refl
+update-lift MIN g i w s p l A b = lift-eq _ _ (omega arith) refl refl refl refl refl
+update-lift CHANCE g i w s p l A b =
     let x : A .low - 0 ≡ A .low = omega arith in
     let y = ap (λ (y : ℕ). s .low + w * y / g .total) x in
     lift-eq _ _ (ap (max (s .alpha)) y) refl y refl refl refl
@@ -151,7 +152,7 @@ module _ (k : Kind) (g : Rule) (t : State) (p : Play ℕ) (l read : List ℕ) (p
   ended = refl
 
   joined : (F : Forest ℕ) → (stops g t ≡ false → Agrees (scan natural rules frame k (grained (g .grain) F) (lift t p (l ++ read))) (over k g F t) (l ++ read))
-      → Agrees (alg.after natural rules frame k (grained (g .grain) F) (lift t p (l ++ read))) (join k g t read (isEnd F) (over k g F t)) l
+      → Agrees (seenAfter natural rules frame k (grained (g .grain) F) (lift t p (l ++ read))) (join k g t read (isEnd F) (over k g F t)) l
   unfolding grained stop
   joined end h = (p, ended, plays-number k g t p plays)
   joined (leaf i w h rest) again =
@@ -163,8 +164,8 @@ module _ (k : Kind) (g : Rule) (t : State) (p : Play ℕ) (l read : List ℕ) (p
 abbrev Next : Kind → Rule → (i w : ℕ) → Forest ℕ → State → Play ℕ → List ℕ → Seen ℕ → Answer → Type 0
 Next k g i w rest s p l A a =
     let t : State = after k g i w s (a .low) (a .high) in
-    Agrees (alg.after natural (heightRules (g .top) (g .total) (g .margin)) (frameOf (g .top) (g .total)) k (grained (g .grain) rest)
-    (take natural (frameOf (g .top) (g .total)) k i w (lift s p l) A))
+    Agrees (seenAfter natural (heightRules (g .top) (g .total) (g .margin)) (frameOf (g .top) (g .total)) k (grained (g .grain) rest)
+    (update natural (frameOf (g .top) (g .total)) k i w (lift s p l) A))
     (join k g t (a .read) (isEnd rest) (over k g rest t)) l
 
 -- what the induction gives for the children `rest`
@@ -180,7 +181,7 @@ next k g i w rest s p q l a z o b h plays inside again =
     let p′ : Play ℕ = prefer natural k i p A in
     let b′ = after-ok k g i w (weigh rest) s (a .low) (a .high) o b h (inside .low) (inside .high) in
     let plays′ = plays-after k g i w s p A z (inside .high) plays in
-    rw (take-lift k g i w s p l A b)
+    rw (update-lift k g i w s p l A b)
     (joined k g t p′ l (a .read) plays′ rest (λ go. again t p′ (l ++ a .read) b′ (after-kind k g i w (weigh rest) s (a .low) (a .high) h (inside .low) go) plays′))
 
 pub bridge : (t : Slices) (c e : ℕ) (k : Kind) (g : Rule) (F : Forest ℕ) → 0 < c → Spans t c e F → OkRule g → Fit k g F → Bridged k g F
@@ -205,7 +206,7 @@ bridge t c e k g (inner i w j under rest) z sp o f s p l b h plays =
     let (q, same, n) = bridge t (c + 1) (stopOf t c) j g under (omega arith) (sp .3) o (f .3) s₀ noPlay l b₀ h₀ (plays-start j g α β) in
     let began : begin frame j (lower natural frame k w (lift s p l)) (upper natural frame k w (lift s p l)) l ≡ lift s₀ noPlay l
     = ap₂ (λ (x y : ℕ). begin frame j x y l) (lower-is k g w s p l) (upper-is k g w s p l) ∙ begin-lift j g α β l in
-    let A = alg.enter natural (heightRules (g .top) (g .total) (g .margin)) frame k i w j (grained (g .grain) under) (lift s p l) in
+    let A = seenUnder natural (heightRules (g .top) (g .total) (g .margin)) frame k i w j (grained (g .grain) under) (lift s p l) in
     let same′ : A ≡ seen a q l = ap (λ (x : alg.State ℕ). scan natural (heightRules (g .top) (g .total) (g .margin)) frame j (grained (g .grain) under) x) began ∙ same in
     subst (λ (A : Seen ℕ). Next k g i w rest s p l A a) (sym same′)
     (next k g i w rest s p q l a (omega (arith, sp .0)) o b h plays (over-within j g under s₀ o (f .3) b₀ h₀)

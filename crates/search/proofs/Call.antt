@@ -11,7 +11,7 @@ use Rattle.search.specs.declared.Rule.{Rule}
 use Rattle.search.specs.declared.Found.{Found}
 use Rattle.search.specs.Search.{Seen, noPlay, searchRoot, search, point}
 use Rattle.search.specs.Heights.{natural, grained, heightRules}
-use Rattle.search.specs.Inside.{Answer, start, first, put, Gives, Fit, OkRule, ReadyRoot, Shows, Searched, playAt}
+use Rattle.search.specs.Inside.{Answer, start, first, putFrom, Gives, Fit, OkRule, ReadyRoot, Shows, Searched, playAt}
 use Rattle.table.proofs.Spans.{spans-le}
 use Rattle.search.proofs.Forest.{stopOf, leaves-split, start-ok, start-kind, first-few}
 use Rattle.search.proofs.Rules.{ReadyNode, NodeSearched}
@@ -19,13 +19,13 @@ use Rattle.search.proofs.Bridge.{Agrees, begin-lift, plays-start, bridg
 
 -- ---- a list written from its front
 
-put-later : (y : ℕ) (l : List ℕ) (k : ℕ) (xs : List ℕ) → put (y ∷ l) (suc k) xs ≡ y ∷ put l k xs
-unfolding put
+put-later : (y : ℕ) (l : List ℕ) (k : ℕ) (xs : List ℕ) → putFrom (y ∷ l) (suc k) xs ≡ y ∷ putFrom l k xs
+unfolding putFrom
 put-later y l k [] = refl
 put-later y l k (x ∷ xs) = put-later y (set l k x) (suc k) xs
 
-put-laid : (l xs : List ℕ) → length xs ≤ length l → put l 0 xs ≡ laid xs l
-unfolding put
+put-laid : (l xs : List ℕ) → length xs ≤ length l → putFrom l 0 xs ≡ laid xs l
+unfolding putFrom
 put-laid l [] h = refl
 put-laid [] (x ∷ xs) h = absurd (omega arith)
 put-laid (y ∷ l) (x ∷ xs) h = put-later x l 0 xs ∙ ap (λ (z : List ℕ). x ∷ z) (put-laid l xs (omega arith))

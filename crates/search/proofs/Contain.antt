@@ -1,20 +1,15 @@
 -- What the search returns contains the worth. Assumes nothing.
 use Prim.Native.Nat.{ℕ, _+_, _*_, _-_, min, max, _≤_}
-use mathlib.Core.Bool.{Bool, true, false, not, cond}
 use mathlib.Core.List.{List}
 use native.Mathlib.Nat.{le-div-iff-mul-le, div-le-of-le-mul, mul-le-mul-left, mul-div-le, mul-sub, le-trans}
 use native.Mathlib.Omega.{arith}
-use lib.Dec.{T as Holds}
+use Rattle.field.proofs.Small.{choose}
 use Rattle.table.specs.Tree.{Kind, MAX, MIN, CHANCE, Forest, end, leaf, inner, weigh}
 use Rattle.worth.specs.Inside.{taken, sealed}
-use Rattle.search.specs.Search.{Frame, Seen, State, Rules, begin, lower, upper, take, finish, cut, stop, point, enter, after, scan}
+use Rattle.search.specs.Search.{Frame, Seen, State, Rules, begin, lower, upper, update, finish, cut, stop, point, scan}
 use Rattle.search.specs.Heights.{natural}
+use Rattle.search.proofs.Steps.{seenUnder, seenAfter}
 use Rattle.search.proofs.Heights.{Paid, Sound, Within, start, total, worth}
-
--- a property of either answer of a test is a property of the answer taken
-pub choose : {A : Type 0} {x y : A} (P : A → Type 0) (b : Bool) → (Holds b → P x) → (Holds (not b) → P y) → P (cond b x y)
-choose P true f g = f tt
-choose P false f g = g tt
 
 -- where the total of the children ends, from a
 abbrev Bound : Frame ℕ → Kind → ℕ → ℕ → ℕ → Type 0
@@ -88,12 +83,12 @@ pub hold-under : (e d : Frame ℕ) (v : ℕ) (r : Seen ℕ) → e .bottom ≤ d 
 hold-under e d v r p q h = (le-trans p (h .0), h .1, h .2, le-trans (h .3) q)
 
 module _ (R : Rules ℕ) where
-  pub kept-take : (e : Frame ℕ) (k : Kind) (n w W : ℕ) (s : State ℕ) (a : ℕ) (r : Seen ℕ) (v : ℕ) → Kept e k (w + W) s a → Holding e v r
-      → Kept e k W (take natural e k n w s r) (taken k a w v)
-  unfolding take
-  kept-take e MAX n w W s a r v i h = omega arith
-  kept-take e MIN n w W s a r v i h = omega arith
-  kept-take e CHANCE n w W s a r v i h = (
+  pub kept-update : (e : Frame ℕ) (k : Kind) (n w W : ℕ) (s : State ℕ) (a : ℕ) (r : Seen ℕ) (v : ℕ) → Kept e k (w + W) s a → Holding e v r
+      → Kept e k W (update natural e k n w s r) (taken k a w v)
+  unfolding update
+  kept-update e MAX n w W s a r v i h = omega arith
+  kept-update e MIN n w W s a r v i h = omega arith
+  kept-update e CHANCE n w W s a r v i h = (
     omega arith,
     omega
         (arith, mul-div-le (w * (r .low - e .bottom)) (e .total), mul-sub w (r .low) (e .bottom), mul-le-mul-left w (h .0), mul-le-mul-left w (h .1)),
@@ -104,7 +99,7 @@ module _ (R : Rules ℕ) where
 
   kept-after : (e : Frame ℕ) (k : Kind) (rest : Forest ℕ) (t : State ℕ) (a : ℕ) → Paid e k → Within (R .frame) e rest → Kept e k (weigh rest) t a
       → Holding e (sealed (e .total) k (total (R .frame) k rest a)) (scan natural R e k rest t)
-      → Holding e (sealed (e .total) k (total (R .frame) k rest a)) (after natural R e k rest t)
+      → Holding e (sealed (e .total) k (total (R .frame) k rest a)) (seenAfter natural R e k rest t)
   kept-after e k rest t a q i j h =
       choose (Holding e (sealed (e .total) k (total (R .frame) k rest a))) (stop natural (R .margin) rest t)
       (λ _. kept-cut e k (weigh rest) t a _ q j (bound (R .frame) e k rest a i)) (λ _. h)
@@ -115,14 +110,14 @@ module _ (R : Rules ℕ) where
   contain e k end s a q i j = kept-finish e k s a q j
   contain e k (leaf n w h rest) s a q i j =
       let r : Seen ℕ = point n h (s .read) in
-      let j2 = kept-take e k n w (weigh rest) s a r h j (hold-point e n h _ (i .0, i .1)) in
+      let j2 = kept-update e k n w (weigh rest) s a r h j (hold-point e n h _ (i .0, i .1)) in
       kept-after e k rest _ _ q (i .2) j2 (contain e k rest _ _ q (i .2) j2)
   contain e k (inner n w c under rest) s a q i j =
       let d : Frame ℕ = R .frame n under in
-      let r : Seen ℕ = enter natural R e k n w c under s in
+      let r : Seen ℕ = seenUnder natural R e k n w c under s in
       let u = hold-under e d _ r (i .0) (i .1)
       (contain d c under _ _ (i .2 .paid) (i .3) (kept-begin d c under (lower natural e k w s) (upper natural e k w s) (s .read) (i .2))) in
-      let j2 = kept-take e k n w (weigh rest) s a r _ j u in
+      let j2 = kept-update e k n w (weigh rest) s a r _ j u in
       kept-after e k rest _ _ q (i .4) j2 (contain e k rest _ _ q (i .4) j2)
 
   -- low ≤ worth ≤ high inside the frame, whatever the window

@@ -2,7 +2,7 @@
 use Prim.Native.Nat.{ℕ, _+_, _*_, _^_, _≤_, _<_}
 use mathlib.Core.Path.{_≡_, refl, sym, ap, ap₂, subst, _∙_}
 use mathlib.Core.Bool.{true, false}
-use mathlib.Core.List.{List}
+use mathlib.Core.List.{List, []}
 use mathlib.Core.Option.{none, some, Option·some-injective}
 use native.Mathlib.Nat.{le-refl, le-trans}
 use native.Mathlib.Omega.{arith}
@@ -10,7 +10,7 @@ use lib.ListN.{length}
 use lib.IntN.{ℤ, pos, _+ℤ_, _*ℤ_, +ℤ-assoc}
 use lib.Signed.{leZ}
 use Rattle.line.specs.Refusal.{fine}
-use Rattle.table.specs.Tree.{MAX, Forest, leaves}
+use Rattle.table.specs.Tree.{MAX, Forest, isEnd, leaves}
 use Rattle.table.specs.Table.{Table, tree, readText, greatest, grain}
 use Rattle.table.specs.Slices.{Spans, heightTree, slicesOf}
 use Rattle.table.specs.Accepted.{span, Filled, Balanced, Proper, Rooted}
@@ -25,10 +25,11 @@ use Rattle.judge.specs.Judge.{Side, AtM, AtN, Root, undecided, decided, childre
 use Rattle.search.specs.Search.{Play, noPlay, child, Seen, nodeOf}
 use Rattle.search.specs.Heights.{grained, frameOf, heightRules, heightSearched}
 use Rattle.search.specs.Whole.{whole, inGrains, ends, rules, searched, playWorth}
+use Rattle.search.specs.Entered.{Entered, FirstBest, enteredOf}
 use Rattle.search.specs.Exact.{NoRemainder}
 use Rattle.search.proofs.Heights.{Child, Within, Positive, Fit, shift}
 use Rattle.search.proofs.Shift.{Rel, RelFrame, RelPlay, RelSeen, shifted-root}
-use Rattle.search.proofs.Named.{Chosen, root-named, grains-filled, grains-root}
+use Rattle.search.proofs.Named.{Chosen, root-named, root-entered, strict-whole, grains-filled, grains-root, grains-children}
 use Rattle.search.proofs.Worths.{plain}
 use Rattle.search.proofs.Grains.{within, positive, fit}
 use Rattle.search.proofs.Root.{OnSide, Played, holds, narrow, plays}
@@ -140,18 +141,23 @@ module _ (s : List ℕ) (t : Table) (r : readText s ≡ fine t) (ε : ℕ) where
 
   -- ---- the play
 
-  chosen : Chosen (rootOf (tree t)) (searched t ε .play)
+  chosen : Chosen whole (rootOf (tree t)) (enteredOf t ε) (searched t ε .play)
   chosen =
-      subst (λ (q : Root). Chosen q (searched t ε .play)) (grains-root G (tree t))
-      (root-named whole (rules t ε) (inGrains G (tree t)) (grains-filled G (tree t) (accepted-filled s t r)))
+      subst (λ (q : Root). Chosen whole q (enteredOf t ε) (searched t ε .play)) (grains-root G (tree t))
+      (root-named whole strict-whole (rules t ε) (inGrains G (tree t)) (grains-filled G (tree t) (accepted-filled s t r)))
 
-  -- at an M or N root there is a play
-  pub play-named : (side : Side) → rootOf (tree t) ≡ decided side → (m : ℕ) × (nodeOf (searched t ε .play) ≡ some m)
-  play-named side e = subst (λ (q : Root). Chosen q (searched t ε .play)) e chosen
+  -- at an M or N root there is a play: the first child entered of those with the highest low, or the lowest high
+  pub play-named : (side : Side) → rootOf (tree t) ≡ decided side
+      → (x : Entered ℤ) × (nodeOf (searched t ε .play) ≡ some (x .node)) × FirstBest whole side (enteredOf t ε) x
+  play-named side e = subst (λ (q : Root). Chosen whole q (enteredOf t ε) (searched t ε .play)) e chosen
 
   -- "at C and L there is none"
   pub play-none : rootOf (tree t) ≡ undecided → nodeOf (searched t ε .play) ≡ none
-  play-none e = subst (λ (q : Root). Chosen q (searched t ε .play)) e chosen
+  play-none e = subst (λ (q : Root). Chosen whole q (enteredOf t ε) (searched t ε .play)) e chosen
+
+  -- where the root has a child, one is entered
+  pub child-entered : isEnd (children (tree t)) ≡ false → enteredOf t ε ≡ [] → ⊥
+  child-entered x = root-entered whole strict-whole (rules t ε) (inGrains G (tree t)) (grains-children G (tree t) ∙ x)
 
   played : (m : ℕ) → nodeOf (searched t ε .play) ≡ some m
       → Played top-height (t .head .total) ε (grained G (heightTree t)) (heights .low) (heights .high) (heightWorth t) m

@@ -5,11 +5,12 @@ use mathlib.Core.List.{List}
 use native.Mathlib.Nat.{dvd-trans, dvd-mul-right, dvd-mul-left, dvd-mul-left-of-dvd, dvd-of-mul-dvd-mul-left, mul-div-cancel', dvd-add, dvd-sub, max-eq-left, max-eq-right, min-eq-left, min-eq-right}
 use native.Mathlib.Decide.{decLe}
 use native.Mathlib.Omega.{arith}
+use Rattle.field.proofs.Small.{choose}
 use Rattle.table.specs.Tree.{Kind, MAX, MIN, CHANCE, Forest, end, leaf, inner}
-use Rattle.search.specs.Search.{Frame, Seen, State, Rules, begin, lower, upper, take, finish, cut, stop, point, after, scan}
+use Rattle.search.specs.Search.{Frame, Seen, State, Rules, begin, lower, upper, update, finish, cut, stop, point, scan}
 use Rattle.search.specs.Heights.{natural}
+use Rattle.search.proofs.Steps.{seenAfter}
 use Rattle.search.proofs.Heights.{Paid, Within, grade, Even, Fit, total}
-use Rattle.search.proofs.Contain.{choose}
 
 pub dvd-max : (g : ℕ) {a b : ℕ} → g ∣ a → g ∣ b → g ∣ max a b
 dvd-max g {a} {b} p q = elim (decLe a b) [ yes h ↦ rw (max-eq-right h) q | no h ↦ let l : b ≤ a = omega arith in rw (max-eq-left l) p ]
@@ -48,16 +49,16 @@ even-cut e MIN g s h i = (h .0, i .1)
 even-cut e CHANCE g s h i = i
 
 module _ (R : Rules ℕ) where
-  even-take : (e : Frame ℕ) (k : Kind) (g n w : ℕ) (s : State ℕ) (r : Seen ℕ) → Paid e k → Even (grade e k g) e → EvenR (grade e k g) r → EvenS g s
-      → EvenS g (take natural e k n w s r)
-  unfolding take
-  even-take e MAX g n w s r q h x i = (dvd-max g (i .0) (x .0), dvd-max g (i .1) (x .1))
-  even-take e MIN g n w s r q h x i = (dvd-min g (i .0) (x .0), dvd-min g (i .1) (x .1))
-  even-take e CHANCE g n w s r q h x i =
+  even-update : (e : Frame ℕ) (k : Kind) (g n w : ℕ) (s : State ℕ) (r : Seen ℕ) → Paid e k → Even (grade e k g) e → EvenR (grade e k g) r → EvenS g s
+      → EvenS g (update natural e k n w s r)
+  unfolding update
+  even-update e MAX g n w s r q h x i = (dvd-max g (i .0) (x .0), dvd-max g (i .1) (x .1))
+  even-update e MIN g n w s r q h x i = (dvd-min g (i .0) (x .0), dvd-min g (i .1) (x .1))
+  even-update e CHANCE g n w s r q h x i =
       (dvd-add g (i .0) (share-grade (e .total) g w q (dvd-sub (e .total * g) (x .0) (h .0))), dvd-sub g (i .1) (share-grade (e .total) g w q (dvd-sub (e .total * g) (h .1) (x .1))))
 
   even-after : (e : Frame ℕ) (k : Kind) (rest : Forest ℕ) (t : State ℕ) (g : ℕ) → Even (grade e k g) e → EvenS g t
-      → EvenR g (scan natural R e k rest t) → EvenR g (after natural R e k rest t)
+      → EvenR g (scan natural R e k rest t) → EvenR g (seenAfter natural R e k rest t)
   even-after e k rest t g h i x = choose (EvenR g) (stop natural (R .margin) rest t) (λ _. even-cut e k g t h i) (λ _. x)
 
   pub even : (e : Frame ℕ) (k : Kind) (f : Forest ℕ) (s : State ℕ) (g : ℕ) → Paid e k → Within (R .frame) e f → Even (grade e k g) e
@@ -65,12 +66,12 @@ module _ (R : Rules ℕ) where
   unfolding scan finish point
   even e k end s g q y h i j = j
   even e k (leaf n w x rest) s g q y h i j =
-      let j2 = even-take e k g n w s _ q h (i .0, i .0) j in
+      let j2 = even-update e k g n w s _ q h (i .0, i .0) j in
       even-after e k rest _ g h j2 (even e k rest _ g q (y .2) h (i .1) j2)
   even e k (inner n w c under rest) s g q y h i j =
       let d : Frame ℕ = R .frame n under in
       let lo : Even (grade e k g) d = (below d c (grade e k g) (i .0 .0), below d c (grade e k g) (i .0 .1)) in
       let u = even d c under _ (grade e k g) (y .2 .paid) (y .3) (i .0) (i .1)
       (even-begin d c (grade e k g) (lower natural e k w s) (upper natural e k w s) (s .read) lo) in
-      let j2 = even-take e k g n w s _ q h u j in
+      let j2 = even-update e k g n w s _ q h u j in
       even-after e k rest _ g h j2 (even e k rest _ g q (y .4) h (i .2) j2)

@@ -4,12 +4,13 @@ use mathlib.Core.Path.{_≡_, refl}
 use mathlib.Core.List.{[], _∷_}
 use native.Mathlib.Omega.{arith}
 use lib.ListN.{length, getD, length-append}
+use Rattle.field.proofs.Small.{choose}
 use Rattle.table.specs.Tree.{Kind, Forest, end, leaf, inner, leaves}
 use Rattle.table.specs.Slices.{Slices, Spans}
 use Rattle.judge.specs.Judge.{children}
-use Rattle.search.specs.Search.{Frame, Seen, State, Arith, Rules, begin, finish, cut, point, lower, upper, take, stop, scan, enter, after, search, searchRoot}
+use Rattle.search.specs.Search.{Frame, Seen, State, Arith, Rules, begin, finish, cut, point, lower, upper, update, stop, scan, search, searchRoot}
 use Rattle.search.specs.Heights.{grained}
-use Rattle.search.proofs.Contain.{choose}
+use Rattle.search.proofs.Steps.{seenUnder, seenAfter}
 use Rattle.search.proofs.Heights.{Child, here-leaf, here-inner, next-leaf, next-inner}
 use Rattle.table.proofs.Spans.{spans-le}
 
@@ -17,20 +18,20 @@ use Rattle.table.proofs.Spans.{spans-le}
 
 module _ {A : Type 0} (O : Arith A) (R : Rules A) where
   few-after : (e : Frame A) (k : Kind) (rest : Forest A) (t : State A) (n : ℕ) → length (t .read) + leaves rest ≤ n
-      → length (scan O R e k rest t .read) ≤ n → length (after O R e k rest t .read) ≤ n
+      → length (scan O R e k rest t .read) ≤ n → length (seenAfter O R e k rest t .read) ≤ n
   unfolding cut
   few-after e k rest t n h more = choose (λ (r : Seen A). length (r .read) ≤ n) (stop O (R .margin) rest t) (λ _. omega arith) (λ _. more)
 
   few-scan : (e : Frame A) (k : Kind) (f : Forest A) (s : State A) → length (scan O R e k f s .read) ≤ length (s .read) + leaves f
-  unfolding scan finish leaves point take begin
+  unfolding scan finish leaves point update begin
   few-scan e k end s = omega arith
   few-scan e k (leaf n w v rest) s =
-      let t : State A = take O e k n w s (point n v (s .read)) in
+      let t : State A = update O e k n w s (point n v (s .read)) in
       let one : length (t .read) ≡ length (s .read) + 1 = length-append (s .read) (n ∷ []) in
       few-after e k rest t _ (omega arith) (omega (arith, few-scan e k rest t))
   few-scan e k (inner n w c under rest) s =
-      let r : Seen A = enter O R e k n w c under s in
-      let t : State A = take O e k n w s r in
+      let r : Seen A = seenUnder O R e k n w c under s in
+      let t : State A = update O e k n w s r in
       let d : Frame A = R .frame n under in
       let some = few-scan d c under (begin d c (lower O e k w s) (upper O e k w s) (s .read)) in
       let same : length (t .read) ≡ length (r .read) = refl in

@@ -14,15 +14,15 @@ use Rattle.table.specs.Accepted.{Sums}
 use Rattle.table.proofs.Spans.{spans-le}
 use Rattle.search.specs.declared.Rule.{Rule}
 use Rattle.search.specs.declared.State.{State}
-use Rattle.search.specs.Inside.{Answer, start, alphaFor, betaFor, after, stops, cutLow, cutHigh, join, over, first, put, WeighsIn, Fit, OkRule, OkBounds, OkChance, OkKind}
+use Rattle.search.specs.Inside.{Answer, start, alphaFor, betaFor, after, stops, cutLow, cutHigh, join, over, first, putFrom, WeighsIn, Fit, OkRule, OkBounds, OkChance, OkKind}
 
 -- ---- the list
 
-pub put-put : (l : List ℕ) (k : ℕ) (xs ys : List ℕ) → put (put l k xs) (k + length xs) ys ≡ put l k (xs ++ ys)
-unfolding put
-put-put l k [] ys = ap (λ (n : ℕ). put l n ys) (add-zero k)
+pub put-put : (l : List ℕ) (k : ℕ) (xs ys : List ℕ) → putFrom (putFrom l k xs) (k + length xs) ys ≡ putFrom l k (xs ++ ys)
+unfolding putFrom
+put-put l k [] ys = ap (λ (n : ℕ). putFrom l n ys) (add-zero k)
 put-put l k (x ∷ xs) ys =
-    ap (λ (n : ℕ). put (put (set l k x) (suc k) xs) n ys) (add-suc k (length xs) ∙ sym (suc-add k (length xs)))
+    ap (λ (n : ℕ). putFrom (putFrom (set l k x) (suc k) xs) n ys) (add-suc k (length xs) ∙ sym (suc-add k (length xs)))
     ∙ put-put (set l k x) (suc k) xs ys
 
 -- ---- the first node

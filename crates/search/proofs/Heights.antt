@@ -1,4 +1,4 @@
--- Trees of heights that the search can take, and their worth child by child. Assumes nothing: these are definitions.
+-- Trees of heights that the search can take, and their worth child by child. Assumes nothing.
 use Prim.Native.Nat.{ℕ, _*_, _≤_, _<_, _∣_}
 use mathlib.Core.Path.{_≡_}
 use lib.IntN.{ℤ, pos, _+ℤ_}

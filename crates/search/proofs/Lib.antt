@@ -1,3 +1,4 @@
+pub mod Steps
 pub mod Heights
 pub mod Contain
 pub mod Exact
@@ -21,7 +22,6 @@ pub mod Turn
 pub mod Turned
 pub mod Worked
 pub mod Rules
-pub mod Chain
 pub mod Bridge
 pub mod Call
 pub mod Ready

@@ -6,12 +6,14 @@ use mathlib.Core.List.{List, []}
 use native.Mathlib.Nat.{le-trans}
 use native.Mathlib.Omega.{arith}
 use lib.Dec.{T as Holds, ltb→lt, nltb→le}
+use Rattle.field.proofs.Small.{choose}
 use Rattle.table.specs.Tree.{Kind, MAX, MIN, CHANCE, Forest, end, leaf, inner}
 use Rattle.worth.specs.Inside.{sealed}
-use Rattle.search.specs.Search.{Frame, Play, noPlay, child, Seen, State, Rules, begin, lower, upper, beats, prefer, take, finish, cut, stop, point, enter, after, scan, search}
+use Rattle.search.specs.Search.{Frame, Play, noPlay, child, Seen, State, Rules, begin, lower, upper, beats, prefer, update, finish, cut, stop, point, scan, search}
 use Rattle.search.specs.Heights.{natural}
+use Rattle.search.proofs.Steps.{seenUnder, seenAfter}
 use Rattle.search.proofs.Heights.{Within, Child, here-leaf, here-inner, next-leaf, next-inner, start, total, worth}
-use Rattle.search.proofs.Contain.{choose, Holding, hold-point, hold-under, contained}
+use Rattle.search.proofs.Contain.{Holding, hold-point, hold-under, contained}
 
 -- what a rule for the play must have
 pub record Fair (beats : Kind → ℕ → ℕ → ℕ → ℕ → Bool) : Type 0 where
@@ -64,12 +66,12 @@ module _ (R : Rules ℕ) (g : Forest ℕ) where
       (λ p. (v, c, omega (arith, fair .fall _ _ _ _ p, j .2), h .2))
       (λ p. (j .0, j .1, omega (arith, fair .rest _ _ _ _ p, j .2), j .3))
 
-  mark-take : (e : Frame ℕ) (k : Kind) (n w : ℕ) (s : State ℕ) (r : Seen ℕ) (v : ℕ) → Child (R .frame) n v g → Holding e v r → MarkedS e k s
-      → MarkedS e k (take natural e k n w s r)
-  unfolding take
-  mark-take e MAX n w s r v c h j = mark-max e n (s .lo) (s .hi) (s .play) r v c h j
-  mark-take e MIN n w s r v c h j = mark-min e n (s .lo) (s .hi) (s .play) r v c h j
-  mark-take e CHANCE n w s r v c h j = tt
+  mark-update : (e : Frame ℕ) (k : Kind) (n w : ℕ) (s : State ℕ) (r : Seen ℕ) (v : ℕ) → Child (R .frame) n v g → Holding e v r → MarkedS e k s
+      → MarkedS e k (update natural e k n w s r)
+  unfolding update
+  mark-update e MAX n w s r v c h j = mark-max e n (s .lo) (s .hi) (s .play) r v c h j
+  mark-update e MIN n w s r v c h j = mark-min e n (s .lo) (s .hi) (s .play) r v c h j
+  mark-update e CHANCE n w s r v c h j = tt
 
   mark-cut : (e : Frame ℕ) (k : Kind) (s : State ℕ) → MarkedS e k s → MarkedR e k (cut e k s)
   unfolding cut
@@ -96,7 +98,7 @@ module _ (R : Rules ℕ) (g : Forest ℕ) where
   mark-begin e CHANCE a b l = tt
 
   mark-after : (e : Frame ℕ) (k : Kind) (rest : Forest ℕ) (t : State ℕ) → MarkedS e k t → MarkedR e k (scan natural R e k rest t)
-      → MarkedR e k (after natural R e k rest t)
+      → MarkedR e k (seenAfter natural R e k rest t)
   mark-after e k rest t j h = choose (MarkedR e k) (stop natural (R .margin) rest t) (λ _. mark-cut e k t j) (λ _. h)
 
   mark : (e : Frame ℕ) (k : Kind) (f : Forest ℕ) (s : State ℕ) → Within (R .frame) e f → ((m v : ℕ) → Child (R .frame) m v f → Child (R .frame) m v g)
@@ -105,13 +107,13 @@ module _ (R : Rules ℕ) (g : Forest ℕ) where
   mark e k end s i up j = j
   mark e k (leaf n w h rest) s i up j =
       let r : Seen ℕ = point n h (s .read) in
-      let j2 = mark-take e k n w s r h (up n h here-leaf) (hold-point e n h _ (i .0, i .1)) j in
+      let j2 = mark-update e k n w s r h (up n h here-leaf) (hold-point e n h _ (i .0, i .1)) j in
       mark-after e k rest _ j2 (mark e k rest _ (i .2) (λ m v c. up m v (next-leaf c)) j2)
   mark e k (inner n w c under rest) s i up j =
       let d : Frame ℕ = R .frame n under in
-      let r : Seen ℕ = enter natural R e k n w c under s in
+      let r : Seen ℕ = seenUnder natural R e k n w c under s in
       let u = hold-under e d _ r (i .0) (i .1) (contained R d c under (lower natural e k w s) (upper natural e k w s) (s .read) (i .2) (i .3)) in
-      let j2 = mark-take e k n w s r _ (up n _ (here-inner refl)) u j in
+      let j2 = mark-update e k n w s r _ (up n _ (here-inner refl)) u j in
       mark-after e k rest _ j2 (mark e k rest _ (i .4) (λ m v c. up m v (next-inner c)) j2)
 
 module _ (frame : ℕ → Forest ℕ → Frame ℕ) where

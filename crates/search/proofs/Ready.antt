@@ -5,8 +5,7 @@ use mathlib.Core.Bool.{Bool}
 use mathlib.Core.List.{List}
 use native.Mathlib.Nat.{mul-le-mul-right}
 use native.Mathlib.Omega.{arith}
-use lib.ListN.{length, drop, length-append, length-map}
-use lib.Seq.{take-all}
+use lib.ListN.{length, length-map}
 use Rattle.line.specs.declared.Line.{Line}
 use Rattle.line.specs.Line.{Weighs}
 use Rattle.line.specs.Refusal.{fine}
@@ -17,6 +16,7 @@ use Rattle.table.specs.Accepted.{span, Filled, Balanced, Proper}
 use Rattle.table.proofs.Accepted.{accepted-ranged, accepted-size, accepted-grain, accepted-lent, heights-rooted, heights-proper, heights-filled, heights-balanced, heights-leaves}
 use Rattle.worth.proofs.Worth.{span-grains}
 use Rattle.table.proofs.Complete.{stops-long}
+use Rattle.table.proofs.Copied.{fitted-long}
 use Rattle.search.specs.declared.Rule.{Rule}
 use Rattle.search.specs.declared.Found.{Found}
 use Rattle.search.specs.Heights.{heightSearched}
@@ -29,11 +29,6 @@ ruleOf t ε = record { margin = ε; top = span (t .head) * grain t; total = t .h
 -- the slices that were lent, as `table::read` leaves them
 abbrev pub lent : Table → (k st w h : List ℕ) → Slices
 lent t k st w h = slices (fitted (kindsOf t) k) (fitted (stopsOf t) st) (fitted (weightsOf t) w) (fitted (heightsOf t) h)
-
--- a lent slice with room for n numbers stays that long
-fitted-long : (xs a : List ℕ) (n : ℕ) → length xs ≡ n → n ≤ length a → n ≤ length (fitted xs a)
-fitted-long xs a n e h =
-    rw (take-all (length a) xs (omega arith)) (omega (arith, length-append xs (drop (length xs) a)))
 
 weighs-in : (k : Kind) (g : Rule) (w : ℕ) → Weighs (isChance k) (g .total) w → WeighsIn k g w
 weighs-in k g w h e = subst (λ (u : Bool). Weighs u (g .total) w) e h

@@ -9,15 +9,16 @@ use lib.IntN.{ℤ, pos, _+ℤ_, _-ℤ_, _*ℤ_}
 use Rattle.table.specs.Tree.{Kind, MAX, MIN, CHANCE, Forest, end, leaf, inner, isEnd, weigh}
 use Rattle.worth.specs.Worth.{floorZ}
 use Rattle.worth.proofs.Signs.{Is, is-unique, is-eq, is-minus, is-mul, is-floor}
-use Rattle.search.specs.Search.{Frame, Seen, State, Rules, begin, point, lower, upper, take, stop, enter}
+use Rattle.search.specs.Search.{Frame, Seen, State, Rules, begin, point, lower, upper, update, stop}
 use Rattle.search.specs.Whole.{whole}
 use Rattle.search.specs.Heights.{natural}
-use Rattle.search.specs.Exact.{AtChance, EachTaken, EachTakenRoot, Whole}
+use Rattle.search.specs.Exact.{AtChance, EachTaken, EachTakenRoot, WholeQuotients}
+use Rattle.search.proofs.Steps.{seenUnder}
 use Rattle.search.proofs.Heights.{Paid, Within, grade, Even, Fit, Positive, shift}
 use Rattle.search.proofs.Contain.{Holding, hold-point, hold-under, contained}
 use Rattle.search.proofs.Exact.{share, even, EvenR, even-begin, below}
-use Rattle.search.proofs.Safe.{Safe, safe-begin, safe-lower, safe-upper, safe-take}
-use Rattle.search.proofs.Shift.{Rel, RelFrame, RelState, RelSeen, Ready, rel-begin, rel-lower, rel-upper, rel-take, rel-point, rel-stop, ready-begin, ready-take, shifted}
+use Rattle.search.proofs.Safe.{Safe, safe-begin, safe-lower, safe-upper, safe-update}
+use Rattle.search.proofs.Shift.{Rel, RelFrame, RelState, RelSeen, Open, rel-begin, rel-lower, rel-upper, rel-update, rel-point, rel-stop, open-begin, open-update, shifted}
 
 -- ---- over heights
 
@@ -44,10 +45,10 @@ module _ (R : Rules ℕ) where
       let j : ℕ = grade e k g in
       let la : ℕ = lower natural e k w s in
       let ub : ℕ = upper natural e k w s in
-      let u : EvenR j (enter natural R e k n w c under s) =
+      let u : EvenR j (seenUnder natural R e k n w c under s) =
       even R d c under (begin d c la ub (s .read)) j (y .2 .paid) (y .3) (i .0) (i .1)
       (even-begin d c j la ub (s .read) (below d c j (i .0 .0), below d c j (i .0 .1))) in (
-        whole-at e k g w (enter natural R e k n w c under s) h u,
+        whole-at e k g w (seenUnder natural R e k n w c under s) h u,
         whole-heights d c under (begin d c la ub (s .read)) j (y .2 .paid) (y .3) (i .0) (i .1),
         λ _. whole-heights e k rest _ g q (y .4) h (i .2),
       )
@@ -77,7 +78,7 @@ module _ (p q : ℕ) where
 
     at-shift : (e : Frame ℕ) (ez : Frame ℤ) (k : Kind) (w W v : ℕ) (s : State ℕ) (r : Seen ℕ) (x : Seen ℤ) → RelFrame p q e ez → Holding e v r
         → Safe S e k W s
-        → RelSeen p q r x → AtChance natural R WholeHeights e k w r → AtChance whole Z Whole ez k w x
+        → RelSeen p q r x → AtChance natural R WholeHeights e k w r → AtChance whole Z WholeQuotients ez k w x
     at-shift e ez MAX w W v s r x f h j o a = tt
     at-shift e ez MIN w W v s r x f h j o a = tt
     at-shift e ez CHANCE w W v s r x f h j o a = rw (f .total) (
@@ -88,23 +89,23 @@ module _ (p q : ℕ) where
     -- what is left to do once a child has given r, over the integers x
     rest-shift : (e : Frame ℕ) (ez : Frame ℤ) (k : Kind) (n w : ℕ) (rest : Forest ℕ) (s : State ℕ) (z : State ℤ) (r : Seen ℕ) (x : Seen ℤ) (v : ℕ)
         → RelFrame p q e ez → e .top ≤ S → Holding e v r → Safe S e k (w + weigh rest) s → RelState p q s z → RelSeen p q r x
-        → (stop natural (R .margin) rest (take natural e k n w s r) ≡ false → EachTaken natural R WholeHeights e k rest (take natural e k n w s r))
-        → ((t : State ℕ) (y : State ℤ) → Safe S e k (weigh rest) t → Ready k (isEnd rest) t → RelState p q t y → EachTaken natural R WholeHeights e k rest t
-        → EachTaken whole Z Whole ez k (shift Lo rest) y)
-        → stop whole (R .margin) (shift Lo rest) (take whole ez k n w z x) ≡ false
-        → EachTaken whole Z Whole ez k (shift Lo rest) (take whole ez k n w z x)
+        → (stop natural (R .margin) rest (update natural e k n w s r) ≡ false → EachTaken natural R WholeHeights e k rest (update natural e k n w s r))
+        → ((t : State ℕ) (y : State ℤ) → Safe S e k (weigh rest) t → Open k (isEnd rest) t → RelState p q t y → EachTaken natural R WholeHeights e k rest t
+        → EachTaken whole Z WholeQuotients ez k (shift Lo rest) y)
+        → stop whole (R .margin) (shift Lo rest) (update whole ez k n w z x) ≡ false
+        → EachTaken whole Z WholeQuotients ez k (shift Lo rest) (update whole ez k n w z x)
     rest-shift e ez k n w rest s z r x v f t h j i o a ih c =
         let lh = le-trans (h .1) (h .2) in
-        let j2 = safe-take S e k n w (weigh rest) s r t (h .0) lh (h .3) j in
-        let i2 = rel-take p q S e ez k n w (weigh rest) s z r x f (h .0) lh (h .3) j i o in
-        let d : stop natural (R .margin) rest (take natural e k n w s r) ≡ false =
-        sym (rel-stop p q Lo isLo S R frameZ frames flat rest (take natural e k n w s r) (take whole ez k n w z x) i2) ∙ c in
-        ih (take natural e k n w s r) (take whole ez k n w z x) j2 (ready-take (R .margin) e k n w s r rest (rw d tt)) i2 (a d)
+        let j2 = safe-update S e k n w (weigh rest) s r t (h .0) lh (h .3) j in
+        let i2 = rel-update p q S e ez k n w (weigh rest) s z r x f (h .0) lh (h .3) j i o in
+        let d : stop natural (R .margin) rest (update natural e k n w s r) ≡ false =
+        sym (rel-stop p q Lo isLo S R frameZ frames flat rest (update natural e k n w s r) (update whole ez k n w z x) i2) ∙ c in
+        ih (update natural e k n w s r) (update whole ez k n w z x) j2 (open-update (R .margin) e k n w s r rest (rw d tt)) i2 (a d)
 
     taken-shift : (e : Frame ℕ) (ez : Frame ℤ) (k : Kind) (f : Forest ℕ) (s : State ℕ) (z : State ℤ) → RelFrame p q e ez → e .bottom ≤ e .top
         → e .top ≤ S
-        → Within (R .frame) e f → Positive k f → Safe S e k (weigh f) s → Ready k (isEnd f) s → RelState p q s z
-        → EachTaken natural R WholeHeights e k f s → EachTaken whole Z Whole ez k (shift Lo f) z
+        → Within (R .frame) e f → Positive k f → Safe S e k (weigh f) s → Open k (isEnd f) s → RelState p q s z
+        → EachTaken natural R WholeHeights e k f s → EachTaken whole Z WholeQuotients ez k (shift Lo f) z
     unfolding shift weigh
     taken-shift e ez k end s z f b t i o j r g a = tt
     taken-shift e ez k (leaf n w h rest) s z f b t i o j r g a =
@@ -119,27 +120,27 @@ module _ (p q : ℕ) where
         let dz : Frame ℤ = frameZ n (shift Lo under) in
         let la : ℕ = lower natural e k w s in
         let ub : ℕ = upper natural e k w s in
-        let y : Seen ℕ = enter natural R e k n w c under s in
+        let y : Seen ℕ = seenUnder natural R e k n w c under s in
         let v = hold-under e d _ y (i .0) (i .1) (contained R d c under la ub (s .read) (i .2) (i .3)) in
         let la-fits : la ≤ S = safe-lower S e k w _ s (le-trans b t) t j in
         let ub-fits : ub ≤ S = safe-upper S e k w _ s t j in
         let s2 : State ℕ = begin d c la ub (s .read) in
         let z2 : State ℤ = begin dz c (lower whole ez k w z) (upper whole ez k w z) (z .read) in
         let j2 = safe-begin S d c under la ub (s .read) (i .2) (le-trans (i .1) t) la-fits ub-fits in
-        let r2 = ready-begin d c (isEnd under) la ub (s .read) (let q = flat n under in (rw (q .0) (omega arith), rw (q .1) la-fits)) in
+        let r2 = open-begin d c (isEnd under) la ub (s .read) (let q = flat n under in (rw (q .0) (omega arith), rw (q .1) la-fits)) in
         let g2 = rel-begin p q d dz c la ub (lower whole ez k w z) (upper whole ez k w z) (s .read) (z .read) (frames n under)
         (rel-lower p q e ez k w s z (o .0) b f r g) (rel-upper p q e ez k w s z (o .0) b f r g) (g .read) in
         let u = shifted p q Lo isLo S R frameZ frames flat d dz c under s2 z2 (frames n under) (i .2 .ends) (le-trans (i .1) t) (i .3)
         (o .1) j2 r2 g2 in (
-          at-shift e ez k w _ _ s y (enter whole Z ez k n w c (shift Lo under) z) f v j u (a .0),
+          at-shift e ez k w _ _ s y (seenUnder whole Z ez k n w c (shift Lo under) z) f v j u (a .0),
           taken-shift d dz c under s2 z2 (frames n under) (i .2 .ends) (le-trans (i .1) t) (i .3) (o .1) j2 r2 g2 (a .1),
-          rest-shift e ez k n w rest s z y (enter whole Z ez k n w c (shift Lo under) z) _ f t v j g u (a .2)
+          rest-shift e ez k n w rest s z y (seenUnder whole Z ez k n w c (shift Lo under) z) _ f t v j g u (a .2)
               (λ x y j2 r2 g2 a2. taken-shift e ez k rest x y f b t (i .4) (o .2) j2 r2 g2 a2),
         )
 
     -- in the search of a root that is not below a C
     pub whole-root : (e : Frame ℕ) (g : ℕ) (f : Forest ℕ) → e .top ≤ S → Within (R .frame) e f → Positive MAX f → Fit (R .frame) g f
-        → EachTakenRoot whole Z Whole (shift Lo f)
+        → EachTakenRoot whole Z WholeQuotients (shift Lo f)
     unfolding shift
     whole-root e g end t i o x = tt
     whole-root e g (leaf n w h rest) t i o x = tt
@@ -150,6 +151,6 @@ module _ (p q : ℕ) where
         let u : d .top ≤ S = le-trans (i .1) t in
         taken-shift d dz k under (begin d k (d .bottom) (d .top) []) (begin dz k (dz .bottom) (dz .top) []) y (i .2 .ends) u (i .3) (o .1)
         (safe-begin S d k under (d .bottom) (d .top) [] (i .2) u (le-trans (i .2 .ends) u) u)
-        (ready-begin d k (isEnd under) (d .bottom) (d .top) [] (i .2 .ends, i .2 .ends))
+        (open-begin d k (isEnd under) (d .bottom) (d .top) [] (i .2 .ends, i .2 .ends))
         (rel-begin p q d dz k (d .bottom) (d .top) (dz .bottom) (dz .top) [] [] y (y .bottom) (y .top) refl)
         (whole-heights R d k under (begin d k (d .bottom) (d .top) []) g (i .2 .paid) (i .3) (x .0) (x .1))

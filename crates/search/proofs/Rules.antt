@@ -11,27 +11,13 @@ use Rattle.table.specs.Accepted.{Sums}
 use Rattle.search.specs.declared.Rule.{Rule}
 use Rattle.search.specs.declared.State.{State}
 use Rattle.search.specs.declared.Found.{Found}
-use Rattle.search.specs.Inside.{Answer, start, alphaFor, betaFor, afterChance, after, stops, cutLow, cutHigh, join, over, first, put, Gives, LeafAt, Fit, OkRule, OkBounds, OkKind, Holds, Ready, Told}
+use Rattle.search.specs.Inside.{Answer, start, alphaFor, betaFor, afterChance, after, stops, cutLow, cutHigh, join, over, first, putFrom, Gives, LeafAt, Fit, OkRule, OkBounds, OkKind, Holds, ReadyChildren, Told}
 use Rattle.search.proofs.Forest.{put-put, stopOf, restOf, leaves-split, weigh-split, fit-rest, spans-lt, spans-last, spans-more, step, over-step, alpha-ok, beta-ok, start-ok, start-kind, after-ok, after-kind, first-within, first-few}
 
 -- what is told of the node at entry c, searched in the window α, β: its result r, and the list as it came and as it is now
 abbrev pub NodeTold : Slices → Rule → (c used α β : ℕ) → Found → List ℕ → List ℕ → Type 0
 NodeTold t g c used α β r came now =
     (F : Forest ℕ) (e : ℕ) → Spans t c e F → c < e → Gives r (first g F α β) used came now
-
--- what its parent looks at: all but the play
-pub record Bounded (r : Found) (a : Answer) (from : ℕ) (came now : List ℕ) : Type 0 where
-  pub low : r .low ≡ a .low
-  pub high : r .high ≡ a .high
-  pub used : r .used ≡ from + length (a .read)
-  pub leaves : now ≡ put came from (a .read)
-
-pub unplayed : {r : Found} {a : Answer} {from : ℕ} {came now : List ℕ} → Gives r a from came now → Bounded r a from came now
-unplayed G = record { low = G .low; high = G .high; used = G .used; leaves = G .leaves }
-
-abbrev pub NodeBounds : Slices → Rule → (c used α β : ℕ) → Found → List ℕ → List ℕ → Type 0
-NodeBounds t g c used α β r came now =
-    (F : Forest ℕ) (e : ℕ) → Spans t c e F → c < e → Bounded r (first g F α β) used came now
 
 -- the node at entry c, with its later siblings, can be searched in the window α, β; its run goes up to x
 pub record ReadyNode (t : Slices) (g : Rule) (c x used room α β : ℕ) : Type 0 where
@@ -55,9 +41,9 @@ module _ (t : Slices) (g : Rule) (k : Kind) (s : State) (c e used room : ℕ) wh
   heft = getD (t .weights) c 0
 
   abbrev pub ChildTold : Found → List ℕ → List ℕ → Type 0
-  ChildTold r came now = NodeBounds t g c used (alphaFor k g heft s) (betaFor k g heft s) r came now
+  ChildTold r came now = NodeTold t g c used (alphaFor k g heft s) (betaFor k g heft s) r came now
 
-  pub ready-node : Ready t g k s c e used room → (x α β : ℕ) → x ≡ stopOf t c → α ≤ g .top → β ≤ g .top → ReadyNode t g c x used room α β
+  pub ready-node : ReadyChildren t g k s c e used room → (x α β : ℕ) → x ≡ stopOf t c → α ≤ g .top → β ≤ g .top → ReadyNode t g c x used room α β
   ready-node R x α β q p p′ =
       let st = step t c e (R .nodes) (R .spans) (R .some) in
       let H = R .holds in
@@ -76,25 +62,25 @@ module _ (t : Slices) (g : Rule) (k : Kind) (s : State) (c e used room : ℕ) wh
         space = R .space;
       }
 
-  pub within : Ready t g k s c e used room → (r : Found) (came now : List ℕ) → ChildTold r came now → (r .low ≤ g .top) × (r .high ≤ g .top)
+  pub within : ReadyChildren t g k s c e used room → (r : Found) (came now : List ℕ) → ChildTold r came now → (r .low ≤ g .top) × (r .high ≤ g .top)
   within R r came now told =
       let G = told (R .nodes) e (R .spans) (R .some) in
       let W = first-within k g (R .nodes) (alphaFor k g heft s) (betaFor k g heft s) (R .rule) (R .fit) (alpha-ok k g heft s (R .bounds)) (beta-ok k g heft s (R .bounds)) in
       omega arith
 
-  split : (R : Ready t g k s c e used room) → OkKind k g (heft + weigh (restOf (R .nodes))) s
+  split : (R : ReadyChildren t g k s c e used room) → OkKind k g (heft + weigh (restOf (R .nodes))) s
   split R =
       let st = step t c e (R .nodes) (R .spans) (R .some) in
       subst (λ (n : ℕ). OkKind k g n s) (weigh-split (R .nodes) ∙ ap (λ (w : ℕ). w + weigh (restOf (R .nodes))) (sym (st .weight))) (R .chance)
 
-  pub bounds : Ready t g k s c e used room → (r : Found) (s′ : State) (came now : List ℕ) → ChildTold r came now
+  pub bounds : ReadyChildren t g k s c e used room → (r : Found) (s′ : State) (came now : List ℕ) → ChildTold r came now
       → s′ ≡ after k g c heft s (r .low) (r .high) → OkBounds g s′
   bounds R r s′ came now told es =
       let w = within R r came now told in
       subst (λ (z : State). OkBounds g z) (sym es) (after-ok k g c heft (weigh (restOf (R .nodes))) s (r .low) (r .high) (R .rule) (R .bounds) (split R) (w .0) (w .1))
 
-  pub ready-next : Ready t g k s c e used room → (x : ℕ) (r : Found) (s′ : State) (came now : List ℕ) → x ≡ stopOf t c → ChildTold r came now
-      → s′ ≡ after k g c heft s (r .low) (r .high) → ((x ≡ e) → ⊥) → stops g s′ ≡ false → Ready t g k s′ x e (r .used) room
+  pub ready-next : ReadyChildren t g k s c e used room → (x : ℕ) (r : Found) (s′ : State) (came now : List ℕ) → x ≡ stopOf t c → ChildTold r came now
+      → s′ ≡ after k g c heft s (r .low) (r .high) → ((x ≡ e) → ⊥) → stops g s′ ≡ false → ReadyChildren t g k s′ x e (r .used) room
   ready-next R x r s′ came now q told es ne go =
       let F = R .nodes in
       let st = step t c e F (R .spans) (R .some) in
@@ -164,7 +150,7 @@ module _ (t : Slices) (g : Rule) (k : Kind) (s : State) (c e used room : ℕ) wh
           high = M .high;
           play = M .play;
           used = omega (arith, length-append (got .read) (b .read));
-          leaves = M .leaves ∙ ap₂ (λ (l : List ℕ) (n : ℕ). put l n (b .read)) (G .leaves) (G .used) ∙ put-put came used (got .read) (b .read);
+          leaves = M .leaves ∙ ap₂ (λ (l : List ℕ) (n : ℕ). putFrom l n (b .read)) (G .leaves) (G .used) ∙ put-put came used (got .read) (b .read);
         }))
 
 -- ---- one node
@@ -207,7 +193,7 @@ spans-leaf t g k c e (inner i w j under rest) h lt f z = absurd (omega (arith, c
 
 module _ (t : Slices) (g : Rule) (c x used room α β : ℕ) where
   ready-under : (k j : Kind) (e : ℕ) (F : Forest ℕ) → Spans t c e F → Fit k g F → c < e → getD (t .kinds) c 0 ≡ codeOf j → stopOf t c ≡ x
-      → OkRule g → α ≤ g .top → β ≤ g .top → Holds t x → used + leaves F ≤ room → Ready t g j (start j g α β) (c + 1) x used room
+      → OkRule g → α ≤ g .top → β ≤ g .top → Holds t x → used + leaves F ≤ room → ReadyChildren t g j (start j g α β) (c + 1) x used room
   unfolding Spans Fit leaves
   ready-under k j e end h f lt z q o p p′ tb sp = absurd (omega arith)
   ready-under k j e (leaf i w y rest) h f lt z q o p p′ tb sp = absurd (omega (arith, code-pos j, h .1))
@@ -227,7 +213,7 @@ module _ (t : Slices) (g : Rule) (c x used room α β : ℕ) where
       }
 
 module _ {t : Slices} {g : Rule} {c x used room α β : ℕ} (N : ReadyNode t g c x used room α β) where
-  pub ready-inner : (j : Kind) → getD (t .kinds) c 0 ≡ codeOf j → Ready t g j (start j g α β) (c + 1) x used room
+  pub ready-inner : (j : Kind) → getD (t .kinds) c 0 ≡ codeOf j → ReadyChildren t g j (start j g α β) (c + 1) x used room
   ready-inner j z =
       ready-under t g c x used room α β (N .parent) j (N .upto) (N .nodes) (N .spans) (N .fit) (N .some) z (N .stop) (N .rule) (N .alpha) (N .beta) (N .holds) (N .space)
 
@@ -243,7 +229,7 @@ module _ {t : Slices} {g : Rule} {c x used room α β : ℕ} (N : ReadyNode t g 
 -- what is told of a leaf, and of an inner node from what is told of its children
 module _ (t : Slices) (g : Rule) (c used α β : ℕ) (came : List ℕ) where
   leaf-tells : (r : Found) (now : List ℕ) → getD (t .kinds) c 0 ≡ 0 → LeafAt r (getD (t .heights) c 0 * g .grain) used c came now → NodeTold t g c used α β r came now
-  unfolding Spans first put
+  unfolding Spans first putFrom
   leaf-tells r now z L end e is lt = absurd (omega arith)
   leaf-tells r now z L (leaf i w y rest) e is lt =
       let v = ap (λ (h : ℕ). h * g .grain) (is .4) in
@@ -275,13 +261,13 @@ module _ {t : Slices} {g : Rule} {c used α β : ℕ} {came : List ℕ} where
       → Told t g j (c + 1) x used α β r came now → length now ≡ length came → NodeSearched t g c used α β came r now
   searched-inner {x} j {r} {now} z q more kept = record { tells = inner-tells t g c used α β came x j r now z q more; kept = kept }
 
--- ---- the child i of a C, or a node j below it: the weight that was read is the one in the slice
+-- ---- a C's child: the weight that was read is the one in the slice
 
-pub searched-window : {t : Slices} {g : Rule} (s : State) (i : ℕ) {j used : ℕ} {came : List ℕ} {w α β : ℕ} {r : Found} {now : List ℕ} → w ≡ getD (t .weights) i 0
-    → α ≡ alphaFor CHANCE g w s → β ≡ betaFor CHANCE g w s → NodeSearched t g j used α β came r now
-    → NodeSearched t g j used (alphaFor CHANCE g (getD (t .weights) i 0) s) (betaFor CHANCE g (getD (t .weights) i 0) s) came r now
-searched-window {t} {g} s i {j} {used} {came} {r = r} {now = now} e p q h =
-    subst₂ (λ (α β : ℕ). NodeSearched t g j used α β came r now) (p ∙ ap (λ (y : ℕ). alphaFor CHANCE g y s) e) (q ∙ ap (λ (y : ℕ). betaFor CHANCE g y s) e) h
+pub searched-window : {t : Slices} {g : Rule} (s : State) {c used : ℕ} {came : List ℕ} {w α β : ℕ} {r : Found} {now : List ℕ} → w ≡ getD (t .weights) c 0
+    → α ≡ alphaFor CHANCE g w s → β ≡ betaFor CHANCE g w s → NodeSearched t g c used α β came r now
+    → NodeSearched t g c used (alphaFor CHANCE g (getD (t .weights) c 0) s) (betaFor CHANCE g (getD (t .weights) c 0) s) came r now
+searched-window {t} {g} s {c} {used} {came} {r = r} {now = now} e p q h =
+    subst₂ (λ (α β : ℕ). NodeSearched t g c used α β came r now) (p ∙ ap (λ (y : ℕ). alphaFor CHANCE g y s) e) (q ∙ ap (λ (y : ℕ). betaFor CHANCE g y s) e) h
 
 pub chance-state : (g : Rule) (c : ℕ) (r : Found) (s s′ : State) {w w′ : ℕ} → s′ ≡ afterChance g w s (r .low) (r .high) → w ≡ w′ → s′ ≡ after CHANCE g c w′ s (r .low) (r .high)
 chance-state g c r s s′ p e = p ∙ ap (λ (y : ℕ). afterChance g y s (r .low) (r .high)) e
@@ -290,13 +276,13 @@ chance-state g c r s s′ p e = p ∙ ap (λ (y : ℕ). afterChance g y s (r .lo
 
 -- From c₀ with the state s₀ the search has come to c with the state s. Whatever is answered from c on is answered from c₀ on.
 pub record Going (t : Slices) (g : Rule) (k : Kind) (s₀ : State) (c₀ e used₀ : ℕ) (came : List ℕ) (s : State) (c used : ℕ) (now : List ℕ) : Type 0 where
-  pub ready : Ready t g k s c e used (length now)
+  pub ready : ReadyChildren t g k s c e used (length now)
   pub same : length now ≡ length came
   pub past : c₀ ≤ c
   pub so-far : (F : Forest ℕ) → Spans t c₀ e F → (out : Found) (last : List ℕ)
       → ((H : Forest ℕ) → Spans t c e H → Gives out (over k g H s) used now last) → Gives out (over k g F s₀) used₀ came last
 
-pub going-start : (t : Slices) (g : Rule) (k : Kind) (s : State) (c e used : ℕ) (came : List ℕ) → Ready t g k s c e used (length came) → Going t g k s c e used came s c used came
+pub going-start : (t : Slices) (g : Rule) (k : Kind) (s : State) (c e used : ℕ) (came : List ℕ) → ReadyChildren t g k s c e used (length came) → Going t g k s c e used came s c used came
 going-start t g k s c e used came R = record { ready = R; same = refl; past = omega arith; so-far = λ F is out last more. more F is }
 
 -- before a child is searched: entry c, its run up to x, in the window α, β; the children began at c₀ and go on to e
@@ -319,15 +305,8 @@ child-of {t} {g} {k} {s₀} {s} {c₀} {e} {used₀} {c} {used} {came₀} {came}
     }
 
 module _ {t : Slices} {g : Rule} {c₀ e c x used room α β : ℕ} (C : Child t g c₀ e c x used room α β) where
-  -- what a call of `chain_end` asks
-  pub child-chain : (c < x) × (x ≤ 1024) × (x ≤ length (t .stops))
-  child-chain = (C .inside, C .node .holds .few, C .node .holds .stops)
-
-  pub child-kind : c < length (t .kinds)
-  child-kind = omega (arith, C .inside, C .node .holds .kinds)
-
   -- what a call of the search of kind j asks
-  pub child-asks : (m : ℕ) → e - c₀ ≡ m → (j : Kind) → getD (t .kinds) c 0 ≡ codeOf j → (x - (c + 1) < m) × Ready t g j (start j g α β) (c + 1) x used room
+  pub child-asks : (m : ℕ) → e - c₀ ≡ m → (j : Kind) → getD (t .kinds) c 0 ≡ codeOf j → (x - (c + 1) < m) × ReadyChildren t g j (start j g α β) (c + 1) x used room
   child-asks m q j is = (omega (arith, C .less), ready-inner (C .node) j is)
 
   pub child-three : (y : ℕ) → y ≡ getD (t .kinds) c 0 → (y ≡ 0 → ⊥) → (y ≡ 1 → ⊥) → (y ≡ 2 → ⊥) → getD (t .kinds) c 0 ≡ 3
@@ -384,7 +363,7 @@ module _ {t : Slices} {g : Rule} {k : Kind} {s₀ : State} {c₀ e used₀ : ℕ
       let go = sym p ∙ q in
       let st = step t c e (I .ready .nodes) (I .ready .spans) (I .ready .some) in
       record {
-        ready = subst (λ (l : ℕ). Ready t g k s′ x e (r .used) l) (sym (U .kept)) (ready-next t g k (U .s) c e (U .used) (length (U .came)) (I .ready) x r s′ (U .came) now (U .stop) (U .told) (U .state) ne go);
+        ready = subst (λ (l : ℕ). ReadyChildren t g k s′ x e (r .used) l) (sym (U .kept)) (ready-next t g k (U .s) c e (U .used) (length (U .came)) (I .ready) x r s′ (U .came) now (U .stop) (U .told) (U .state) ne go);
         same = U .kept ∙ I .same;
         past = omega (arith, U .stop, I .past, st .below);
         so-far = λ F is out last more.

@@ -5,7 +5,7 @@ use mathlib.Core.List.{List}
 use native.Mathlib.Nat.{mul-le-mul-left, mul-sub, mul-div-le, le-of-mul-le-mul-left, le-trans, sub-le, min-le-left}
 use native.Mathlib.Omega.{arith}
 use Rattle.table.specs.Tree.{Kind, MAX, MIN, CHANCE, Forest, weigh}
-use Rattle.search.specs.Search.{Frame, Play, noPlay, child, Seen, State, begin, lower, upper, beats, better, take}
+use Rattle.search.specs.Search.{Frame, Play, noPlay, child, Seen, State, begin, lower, upper, beats, better, update}
 use Rattle.search.specs.Heights.{natural}
 use Rattle.search.proofs.Heights.{Sound, total}
 use Rattle.search.proofs.Width.{drop, drop-top}
@@ -62,16 +62,16 @@ module _ (S : ℕ) where
       pick true = (p, q)
       pick false = i
 
-  pub safe-take : (e : Frame ℕ) (k : Kind) (n w W : ℕ) (s : State ℕ) (r : Seen ℕ) → e .top ≤ S → e .bottom ≤ r .low → r .low ≤ r .high
-      → r .high ≤ e .top → Safe e k (w + W) s → Safe e k W (take natural e k n w s r)
-  unfolding take
-  safe-take e MAX n w W s r t bl lh rS i =
+  pub safe-update : (e : Frame ℕ) (k : Kind) (n w W : ℕ) (s : State ℕ) (r : Seen ℕ) → e .top ≤ S → e .bottom ≤ r .low → r .low ≤ r .high
+      → r .high ≤ e .top → Safe e k (w + W) s → Safe e k W (update natural e k n w s r)
+  unfolding update
+  safe-update e MAX n w W s r t bl lh rS i =
       let l : r .low ≤ S = omega arith in let h : r .high ≤ S = omega arith in
       (omega (arith, i .0, i .2), le-trans (min-le-left _ _) (i .1), omega (arith, i .2), omega (arith, i .3), low-better MAX n (s .play) r l h (i .4))
-  safe-take e MIN n w W s r t bl lh rS i =
+  safe-update e MIN n w W s r t bl lh rS i =
       let l : r .low ≤ S = omega arith in let h : r .high ≤ S = omega arith in
       (omega (arith, i .0), omega (arith, i .1), omega (arith, i .2), omega (arith, i .3), low-better MIN n (s .play) r l h (i .4))
-  safe-take e CHANCE n w W s r t bl lh rS i =
+  safe-update e CHANCE n w W s r t bl lh rS i =
       let B : ℕ = e .bottom in
       let T : ℕ = e .total in
       let x : ℕ = w * (r .low - B) / T in

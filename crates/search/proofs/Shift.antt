@@ -9,14 +9,15 @@ use lib.Dec.{T as Holds, leb, ltb, leb→le, le→leb, nleb→lt, lt→ltb, ltb�
 use lib.IntN.{ℤ, pos, negsuc, negℤ, _+ℤ_, _-ℤ_, _*ℤ_}
 use lib.Signed.{ltZ, leZ}
 use Rattle.table.specs.Tree.{Kind, MAX, MIN, CHANCE, Forest, end, leaf, inner, isEnd, weigh}
-use Rattle.search.specs.Search.{Frame, Play, noPlay, child, Seen, State, Rules, begin, lower, upper, beats, better, take, finish, cut, stop, point, enter, after, scan, search, searchRoot}
+use Rattle.search.specs.Search.{Frame, Play, noPlay, child, Seen, State, Rules, begin, lower, upper, beats, better, update, finish, cut, stop, point, scan, search, searchRoot}
 use Rattle.worth.specs.Worth.{maxZ, minZ, floorZ}
 use Rattle.search.specs.Whole.{whole, ceilZ, downZ, upZ, gainZ, lossZ}
 use Rattle.search.specs.Heights.{natural, ceil}
+use Rattle.search.proofs.Steps.{seenUnder, seenAfter}
 use Rattle.search.proofs.Heights.{Sound, Within, Pays, Positive, shift, total}
 use Rattle.search.proofs.Contain.{contained, Holding, hold-point, hold-under}
 use Rattle.search.proofs.Width.{ceil-le, drop-top}
-use Rattle.search.proofs.Safe.{share-fits, Safe, safe-begin, safe-lower, safe-upper, safe-take}
+use Rattle.search.proofs.Safe.{share-fits, Safe, safe-begin, safe-lower, safe-upper, safe-update}
 use Rattle.worth.proofs.Signs.{same-test, Is, is-eq, is-add, is-neg, is-minus, is-mul, is-le, is-max, is-min, is-floor}
 
 -- m - n is the quotient of a - b by w, rounded up
@@ -59,23 +60,23 @@ open-fits : (al be l h ε : ℕ) → max al l + ε < min be h → (l ≤ min be 
 open-fits al be l h ε o = omega arith
 
 -- where there is no clamp, a chance node's child to come has a window that is not below or above what is possible
-abbrev pub Ready : Kind → Bool → State ℕ → Type 0
-Ready MAX e s = Unit {0}
-Ready MIN e s = Unit {0}
-Ready CHANCE e s = Holds (not e) → (s .lo ≤ s .beta) × (s .alpha ≤ s .hi)
+abbrev pub Open : Kind → Bool → State ℕ → Type 0
+Open MAX e s = Unit {0}
+Open MIN e s = Unit {0}
+Open CHANCE e s = Holds (not e) → (s .lo ≤ s .beta) × (s .alpha ≤ s .hi)
 
-pub ready-begin : (d : Frame ℕ) (k : Kind) (x : Bool) (a b : ℕ) (l : List ℕ) → (d .bottom ≤ b) × (a ≤ d .top) → Ready k x (begin d k a b l)
+pub open-begin : (d : Frame ℕ) (k : Kind) (x : Bool) (a b : ℕ) (l : List ℕ) → (d .bottom ≤ b) × (a ≤ d .top) → Open k x (begin d k a b l)
 unfolding begin
-ready-begin d MAX x a b l h = tt
-ready-begin d MIN x a b l h = tt
-ready-begin d CHANCE x a b l h = λ _. h
+open-begin d MAX x a b l h = tt
+open-begin d MIN x a b l h = tt
+open-begin d CHANCE x a b l h = λ _. h
 
-pub ready-take : (ε : ℕ) (e : Frame ℕ) (k : Kind) (n w : ℕ) (s : State ℕ) (r : Seen ℕ) (rest : Forest ℕ)
-    → Holds (not (stop natural ε rest (take natural e k n w s r))) → Ready k (isEnd rest) (take natural e k n w s r)
-unfolding take stop
-ready-take ε e MAX n w s r rest h = tt
-ready-take ε e MIN n w s r rest h = tt
-ready-take ε e CHANCE n w s r rest h = λ x. open-fits _ _ _ _ ε (nleb→lt _ _ (still-open (isEnd rest) _ h x))
+pub open-update : (ε : ℕ) (e : Frame ℕ) (k : Kind) (n w : ℕ) (s : State ℕ) (r : Seen ℕ) (rest : Forest ℕ)
+    → Holds (not (stop natural ε rest (update natural e k n w s r))) → Open k (isEnd rest) (update natural e k n w s r)
+unfolding update stop
+open-update ε e MAX n w s r rest h = tt
+open-update ε e MIN n w s r rest h = tt
+open-update ε e CHANCE n w s r rest h = λ x. open-fits _ _ _ _ ε (nleb→lt _ _ (still-open (isEnd rest) _ h x))
 
 -- both stand p above and q below
 module _ (p q : ℕ) where
@@ -178,7 +179,7 @@ module _ (p q : ℕ) where
   rel-cut e ez CHANCE s z f i = record { low = i .lo; high = i .hi; play = i .play; read = i .read }
 
   pub rel-lower : (e : Frame ℕ) (ez : Frame ℤ) (k : Kind) (w : ℕ) (s : State ℕ) (z : State ℤ) → Pays k w → e .bottom ≤ e .top → RelFrame e ez
-      → Ready k false s → RelState s z → Rel (lower natural e k w s) (lower whole ez k w z)
+      → Open k false s → RelState s z → Rel (lower natural e k w s) (lower whole ez k w z)
   unfolding lower downZ
   rel-lower e ez MAX w s z wp o f r i = i .alpha
   rel-lower e ez MIN w s z wp o f r i = i .alpha
@@ -186,7 +187,7 @@ module _ (p q : ℕ) where
       rw (f .total) (lower-fit (e .total) w _ _ (ez .bottom) (ez .top) wp o (f .bottom) (f .top) _ _ (z .alpha) (z .hi) (r tt .1) (i .alpha) (i .hi))
 
   pub rel-upper : (e : Frame ℕ) (ez : Frame ℤ) (k : Kind) (w : ℕ) (s : State ℕ) (z : State ℤ) → Pays k w → e .bottom ≤ e .top → RelFrame e ez
-      → Ready k false s → RelState s z → Rel (upper natural e k w s) (upper whole ez k w z)
+      → Open k false s → RelState s z → Rel (upper natural e k w s) (upper whole ez k w z)
   unfolding upper upZ
   rel-upper e ez MAX w s z wp o f r i = i .beta
   rel-upper e ez MIN w s z wp o f r i = i .beta
@@ -219,19 +220,19 @@ module _ (p q : ℕ) where
       pick-rel RelPlay _ _ _ _ (beats natural k (r .low) (r .high) l h) (beats whole k (x .low) (x .high) l2 h2)
       (same k _ _ _ _ (x .low) (x .high) l2 h2 (o .low) (o .high) (i .1) (i .2)) (refl, o .low, o .high) (λ _. i)
 
-  pub rel-take : (S : ℕ) (e : Frame ℕ) (ez : Frame ℤ) (k : Kind) (n w W : ℕ) (s : State ℕ) (z : State ℤ) (r : Seen ℕ) (x : Seen ℤ) → RelFrame e ez
+  pub rel-update : (S : ℕ) (e : Frame ℕ) (ez : Frame ℤ) (k : Kind) (n w W : ℕ) (s : State ℕ) (z : State ℤ) (r : Seen ℕ) (x : Seen ℤ) → RelFrame e ez
       → e .bottom ≤ r .low → r .low ≤ r .high → r .high ≤ e .top → Safe S e k (w + W) s
-      → RelState s z → RelSeen r x → RelState (take natural e k n w s r) (take whole ez k n w z x)
-  unfolding take gainZ lossZ
-  rel-take S e ez MAX n w W s z r x f bl lh rS j i o =
+      → RelState s z → RelSeen r x → RelState (update natural e k n w s r) (update whole ez k n w z x)
+  unfolding update gainZ lossZ
+  rel-update S e ez MAX n w W s z r x f bl lh rS j i o =
       let l = rel-max _ _ (z .lo) (x .low) (i .lo) (o .low) in
       let h = rel-max _ _ (z .hi) (x .high) (i .hi) (o .high) in
       record { alpha = rel-max _ _ (z .alpha) _ (i .alpha) l; beta = rel-min _ _ (z .beta) _ (i .beta) (f .top); lo = l; hi = h; play = rel-better MAX n (s .play) (z .play) r x (i .play) o; read = o .read }
-  rel-take S e ez MIN n w W s z r x f bl lh rS j i o =
+  rel-update S e ez MIN n w W s z r x f bl lh rS j i o =
       let l = rel-min _ _ (z .lo) (x .low) (i .lo) (o .low) in
       let h = rel-min _ _ (z .hi) (x .high) (i .hi) (o .high) in
       record { alpha = rel-max _ _ (z .alpha) _ (i .alpha) (f .bottom); beta = rel-min _ _ (z .beta) _ (i .beta) h; lo = l; hi = h; play = rel-better MIN n (s .play) (z .play) r x (i .play) o; read = o .read }
-  rel-take S e ez CHANCE n w W s z r x f bl lh rS j i o =
+  rel-update S e ez CHANCE n w W s z r x f bl lh rS j i o =
       let T : ℕ = e .total in
       let B : ℕ = e .bottom in
       let ey : T * (w * (e .top - r .high) / T) ≤ w * (e .top - B - (r .high - B)) = rw (drop-top B (e .top) (r .high) (le-trans bl lh))
@@ -262,7 +263,7 @@ module _ (p q : ℕ) where
 
     rel-after : (e : Frame ℕ) (ez : Frame ℤ) (k : Kind) (rest : Forest ℕ) (s : State ℕ) (z : State ℤ) → RelFrame e ez → RelState s z
         → (Holds (not (stop natural (R .margin) rest s)) → RelSeen (scan natural R e k rest s) (scan whole Z ez k (shift Lo rest) z))
-        → RelSeen (after natural R e k rest s) (after whole Z ez k (shift Lo rest) z)
+        → RelSeen (seenAfter natural R e k rest s) (seenAfter whole Z ez k (shift Lo rest) z)
     rel-after e ez k rest s z f i g =
         pick-rel RelSeen _ _ _ _ (stop natural (R .margin) rest s) (stop whole (R .margin) (shift Lo rest) z) (rel-stop rest s z i)
         (rel-cut e ez k s z f i) g
@@ -270,16 +271,16 @@ module _ (p q : ℕ) where
     -- a child has given r, over the integers x
     rel-step : (e : Frame ℕ) (ez : Frame ℤ) (k : Kind) (n w : ℕ) (rest : Forest ℕ) (s : State ℕ) (z : State ℤ) (r : Seen ℕ) (x : Seen ℤ) (v : ℕ)
         → RelFrame e ez → e .top ≤ S → Holding e v r → Safe S e k (w + weigh rest) s → RelState s z → RelSeen r x
-        → ((t : State ℕ) (y : State ℤ) → Safe S e k (weigh rest) t → Ready k (isEnd rest) t → RelState t y → RelSeen (scan natural R e k rest t) (scan whole Z ez k (shift Lo rest) y))
-        → RelSeen (after natural R e k rest (take natural e k n w s r)) (after whole Z ez k (shift Lo rest) (take whole ez k n w z x))
+        → ((t : State ℕ) (y : State ℤ) → Safe S e k (weigh rest) t → Open k (isEnd rest) t → RelState t y → RelSeen (scan natural R e k rest t) (scan whole Z ez k (shift Lo rest) y))
+        → RelSeen (seenAfter natural R e k rest (update natural e k n w s r)) (seenAfter whole Z ez k (shift Lo rest) (update whole ez k n w z x))
     rel-step e ez k n w rest s z r x v f t h j i o ih =
         let lh = le-trans (h .1) (h .2) in
-        let j2 = safe-take S e k n w (weigh rest) s r t (h .0) lh (h .3) j in
-        let e2 = rel-take S e ez k n w (weigh rest) s z r x f (h .0) lh (h .3) j i o in
-        rel-after e ez k rest _ _ f e2 (λ more. ih _ _ j2 (ready-take (R .margin) e k n w s r rest more) e2)
+        let j2 = safe-update S e k n w (weigh rest) s r t (h .0) lh (h .3) j in
+        let e2 = rel-update S e ez k n w (weigh rest) s z r x f (h .0) lh (h .3) j i o in
+        rel-after e ez k rest _ _ f e2 (λ more. ih _ _ j2 (open-update (R .margin) e k n w s r rest more) e2)
 
     pub shifted : (e : Frame ℕ) (ez : Frame ℤ) (k : Kind) (f : Forest ℕ) (s : State ℕ) (z : State ℤ) → RelFrame e ez → e .bottom ≤ e .top → e .top ≤ S
-        → Within (R .frame) e f → Positive k f → Safe S e k (weigh f) s → Ready k (isEnd f) s → RelState s z
+        → Within (R .frame) e f → Positive k f → Safe S e k (weigh f) s → Open k (isEnd f) s → RelState s z
         → RelSeen (scan natural R e k f s) (scan whole Z ez k (shift Lo f) z)
     unfolding scan shift weigh finish
     shifted e ez k end s z f b t i o j r g = record { low = g .lo; high = g .hi; play = g .play; read = g .read }
@@ -292,16 +293,16 @@ module _ (p q : ℕ) where
         let dz : Frame ℤ = frameZ n (shift Lo under) in
         let la : ℕ = lower natural e k w s in
         let ub : ℕ = upper natural e k w s in
-        let y : Seen ℕ = enter natural R e k n w c under s in
+        let y : Seen ℕ = seenUnder natural R e k n w c under s in
         let v = hold-under e d _ y (i .0) (i .1) (contained R d c under la ub (s .read) (i .2) (i .3)) in
         let la-fits : la ≤ S = safe-lower S e k w _ s (le-trans b t) t j in
         let ub-fits : ub ≤ S = safe-upper S e k w _ s t j in
         let u = shifted d dz c under (begin d c la ub (s .read)) (begin dz c (lower whole ez k w z) (upper whole ez k w z) (z .read)) (frames n under)
         (i .2 .ends) (le-trans (i .1) t) (i .3) (o .1)
         (safe-begin S d c under la ub (s .read) (i .2) (le-trans (i .1) t) la-fits ub-fits)
-        (ready-begin d c (isEnd under) la ub (s .read) (let q = flat n under in (rw (q .0) (omega arith), rw (q .1) la-fits)))
+        (open-begin d c (isEnd under) la ub (s .read) (let q = flat n under in (rw (q .0) (omega arith), rw (q .1) la-fits)))
         (rel-begin d dz c la ub (lower whole ez k w z) (upper whole ez k w z) (s .read) (z .read) (frames n under) (rel-lower e ez k w s z (o .0) b f r g) (rel-upper e ez k w s z (o .0) b f r g) (g .read)) in
-        rel-step e ez k n w rest s z y (enter whole Z ez k n w c (shift Lo under) z) _ f t v j g u
+        rel-step e ez k n w rest s z y (seenUnder whole Z ez k n w c (shift Lo under) z) _ f t v j g u
         (λ u y j2 r2 g2. shifted e ez k rest u y f b t (i .4) (o .2) j2 r2 g2)
 
     pub shifted-search : (n : ℕ) (k : Kind) (f : Forest ℕ) → Sound (R .frame n f) k f → R .frame n f .top ≤ S → Within (R .frame) (R .frame n f) f
@@ -313,7 +314,7 @@ module _ (p q : ℕ) where
         let g : RelFrame e ez = frames n f in
         shifted e ez k f (begin e k (e .bottom) (e .top) []) (begin ez k (ez .bottom) (ez .top) []) g (x .ends) t i o
         (safe-begin S e k f (e .bottom) (e .top) [] x t (le-trans (x .ends) t) t)
-        (ready-begin e k (isEnd f) (e .bottom) (e .top) [] (x .ends, x .ends))
+        (open-begin e k (isEnd f) (e .bottom) (e .top) [] (x .ends, x .ends))
         (rel-begin e ez k (e .bottom) (e .top) (ez .bottom) (ez .top) [] [] g (g .bottom) (g .top) refl)
 
     -- the search of a root

@@ -15,5 +15,6 @@ product′ b a q p = mul-le-mul {n₂ = 64} {m₂ = 35184372088832} q p
 pub share : (w x t : ℕ) → w ≤ t → w * x / t ≤ x
 share w x t p = div-le-of-le-mul t (mul-le-mul-right x p)
 
-pub state-eq : (x y : State) → x .alpha ≡ y .alpha → x .beta ≡ y .beta → x .low ≡ y .low → x .high ≡ y .high → x .play ≡ y .play → x ≡ y
-state-eq x y p q r s t = λ i. record { alpha = p i; beta = q i; low = r i; high = s i; play = t i }
+-- in the order in which the code computes the parts
+pub state-eq : (x y : State) → x .low ≡ y .low → x .high ≡ y .high → x .alpha ≡ y .alpha → x .beta ≡ y .beta → x .play ≡ y .play → x ≡ y
+state-eq x y l h a b p = λ i. record { alpha = a i; beta = b i; low = l i; high = h i; play = p i }

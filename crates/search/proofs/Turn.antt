@@ -8,13 +8,14 @@ use native.Mathlib.Omega.{arith}
 use lib.Dec.{leb, ltb, leb→le, le→leb, ltb→lt, lt→ltb}
 use Rattle.table.specs.Tree.{Kind, MAX, MIN, CHANCE, Forest, end, leaf, inner, isEnd, weigh}
 use Rattle.worth.proofs.Signs.{same-test}
-use Rattle.search.specs.Search.{Frame, Play, noPlay, child, Seen, State, Rules, begin, lower, upper, beats, better, take, finish, cut, stop, point, enter, after, scan, search, searchRoot}
+use Rattle.search.specs.Search.{Frame, Play, noPlay, child, Seen, State, Rules, begin, lower, upper, beats, better, update, finish, cut, stop, point, scan, search, searchRoot}
 use Rattle.turn.specs.Turn.{turnKind}
 use Rattle.search.specs.Heights.{natural}
+use Rattle.search.proofs.Steps.{seenUnder, seenAfter}
 use Rattle.search.proofs.Heights.{Sound, Within, total}
 use Rattle.search.proofs.Contain.{contained, Holding, hold-point, hold-under}
 use Rattle.search.proofs.Width.{drop-top}
-use Rattle.search.proofs.Safe.{share-fits, Low, Safe, safe-window, safe-begin, safe-lower, safe-upper, safe-take}
+use Rattle.search.proofs.Safe.{share-fits, Low, Safe, safe-window, safe-begin, safe-lower, safe-upper, safe-update}
 
 -- the same tree from the other side, its ends S apart
 unfoldable pub turn : ℕ → Forest ℕ → Forest ℕ
@@ -104,17 +105,17 @@ module _ (S : ℕ) where
     better-turn k n (child m l h) r p q i =
         rw (fairly S k (r .low) (r .high) l h p q (i .0) (i .1)) (cond-map (turnPlay S) _ _ (beats natural k (r .low) (r .high) l h))
 
-    take-turn : (e : Frame ℕ) (k : Kind) (n w W : ℕ) (s : State ℕ) (r : Seen ℕ) → e .top ≤ S → e .bottom ≤ r .low → r .low ≤ r .high
+    update-turn : (e : Frame ℕ) (k : Kind) (n w W : ℕ) (s : State ℕ) (r : Seen ℕ) → e .top ≤ S → e .bottom ≤ r .low → r .low ≤ r .high
         → r .high ≤ e .top → Safe S e k (w + W) s
-        → take natural (turnFrame S e) (turnKind k) n w (turnState s) (turnSeen S r) ≡ turnState (take natural e k n w s r)
-    unfolding take turnState
-    take-turn e MAX n w W s r t bl lh rS i =
+        → update natural (turnFrame S e) (turnKind k) n w (turnState s) (turnSeen S r) ≡ turnState (update natural e k n w s r)
+    unfolding update turnState
+    update-turn e MAX n w W s r t bl lh rS i =
         same-state (sub-min S _ _) (simp sub-max) (sub-max S _ _) (sub-max S _ _)
         (better-turn MAX n (s .play) r (le-trans lh (le-trans rS t)) (le-trans rS t) (i .4)) refl
-    take-turn e MIN n w W s r t bl lh rS i =
+    update-turn e MIN n w W s r t bl lh rS i =
         same-state (simp sub-min) (sub-max S _ _) (sub-min S _ _) (sub-min S _ _)
         (better-turn MIN n (s .play) r (le-trans lh (le-trans rS t)) (le-trans rS t) (i .4)) refl
-    take-turn e CHANCE n w W s r t bl lh rS i =
+    update-turn e CHANCE n w W s r t bl lh rS i =
         let B : ℕ = e .bottom in
         let T : ℕ = e .total in
         let ey : T * (w * (e .top - r .high) / T) ≤ w * (e .top - B - (r .high - B)) = rw (drop-top B (e .top) (r .high) (le-trans bl lh))
@@ -162,7 +163,7 @@ module _ (S : ℕ) where
 
     after-turn : (e : Frame ℕ) (k : Kind) (rest : Forest ℕ) (t : State ℕ) → t .alpha ≤ S → t .beta ≤ S
         → scan natural R2 (turnFrame S e) (turnKind k) (turn S rest) (turnState t) ≡ turnSeen S (scan natural R e k rest t)
-        → after natural R2 (turnFrame S e) (turnKind k) (turn S rest) (turnState t) ≡ turnSeen S (after natural R e k rest t)
+        → seenAfter natural R2 (turnFrame S e) (turnKind k) (turn S rest) (turnState t) ≡ turnSeen S (seenAfter natural R e k rest t)
     after-turn e k rest t p q x =
         rw (stop-turn R2 rest t p q, cut-turn e k t, x)
         (cond-map (turnSeen S) (cut e k t) (scan natural R e k rest t) (stop natural (R .margin) rest t))
@@ -170,13 +171,13 @@ module _ (S : ℕ) where
     step-turn : (e : Frame ℕ) (k : Kind) (n w : ℕ) (rest : Forest ℕ) (s : State ℕ) (r r2 : Seen ℕ) (v : ℕ) → e .top ≤ S → Holding e v r
         → Safe S e k (w + weigh rest) s → r2 ≡ turnSeen S r
         → ((t : State ℕ) → Safe S e k (weigh rest) t → scan natural R2 (turnFrame S e) (turnKind k) (turn S rest) (turnState t) ≡ turnSeen S (scan natural R e k rest t))
-        → after natural R2 (turnFrame S e) (turnKind k) (turn S rest) (take natural (turnFrame S e) (turnKind k) n w (turnState s) (r2)) ≡ turnSeen S (after natural R e k rest (take natural e k n w s r))
+        → seenAfter natural R2 (turnFrame S e) (turnKind k) (turn S rest) (update natural (turnFrame S e) (turnKind k) n w (turnState s) (r2)) ≡ turnSeen S (seenAfter natural R e k rest (update natural e k n w s r))
     step-turn e k n w rest s r r2 v t h j x ih =
-        let j2 = safe-take S e k n w (weigh rest) s r t (h .0) (le-trans (h .1) (h .2)) (h .3) j in
+        let j2 = safe-update S e k n w (weigh rest) s r t (h .0) (le-trans (h .1) (h .2)) (h .3) j in
         let q = safe-window S e k (weigh rest) _ j2 in
-        ap (λ y. after natural R2 (turnFrame S e) (turnKind k) (turn S rest) (take natural (turnFrame S e) (turnKind k) n w (turnState s) y)) x
+        ap (λ y. seenAfter natural R2 (turnFrame S e) (turnKind k) (turn S rest) (update natural (turnFrame S e) (turnKind k) n w (turnState s) y)) x
         ∙
-        (ap (after natural R2 (turnFrame S e) (turnKind k) (turn S rest)) (take-turn R2 e k n w (weigh rest) s r t (h .0) (le-trans (h .1) (h .2)) (h .3) j)
+        (ap (seenAfter natural R2 (turnFrame S e) (turnKind k) (turn S rest)) (update-turn R2 e k n w (weigh rest) s r t (h .0) (le-trans (h .1) (h .2)) (h .3) j)
         ∙ after-turn e k rest _ (q .0) (q .1) (ih _ j2))
 
     pub turned : (e : Frame ℕ) (k : Kind) (f : Forest ℕ) (s : State ℕ) → e .bottom ≤ e .top → e .top ≤ S → Within (R .frame) e f
@@ -190,10 +191,10 @@ module _ (S : ℕ) where
         let d : Frame ℕ = R .frame n under in
         let la : ℕ = lower natural e k w s in
         let ub : ℕ = upper natural e k w s in
-        let r : Seen ℕ = enter natural R e k n w c under s in
+        let r : Seen ℕ = seenUnder natural R e k n w c under s in
         let u = hold-under e d _ r (i .0) (i .1) (contained R d c under la ub (s .read) (i .2) (i .3)) in
         let b : e .bottom ≤ S = le-trans o t in
-        let x : enter natural R2 (turnFrame S e) (turnKind k) n w (turnKind c) (turn S under) (turnState s) ≡ turnSeen S r
+        let x : seenUnder natural R2 (turnFrame S e) (turnKind k) n w (turnKind c) (turn S under) (turnState s) ≡ turnSeen S r
         = ap
         (λ m. scan natural R2 m (turnKind c) (turn S under) (begin m (turnKind c) (lower natural (turnFrame S e) (turnKind k) w (turnState s)) (upper natural (turnFrame S e) (turnKind k) w (turnState s)) (s .read)))
         (frames n under)

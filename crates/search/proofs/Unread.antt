@@ -3,10 +3,11 @@ use Prim.Native.Nat.{ℕ}
 use mathlib.Core.Path.{_≡_, refl, ap, _∙_}
 use mathlib.Core.Bool.{Bool, true, false, cond}
 use mathlib.Core.List.{List, [], _∷_, _++_, List·Memᴰ, List·Memᴰ·head, List·Memᴰ·tail}
+use Rattle.field.proofs.Small.{choose}
 use Rattle.table.specs.Tree.{Kind, MAX, MIN, CHANCE, Forest, end, leaf, inner}
-use Rattle.search.specs.Search.{Frame, Seen, State, Arith, Rules, begin, finish, cut, point, lower, upper, take, stop, scan, enter, after, search, searchRoot}
+use Rattle.search.specs.Search.{Frame, Seen, State, Arith, Rules, begin, finish, cut, point, lower, upper, update, stop, scan, search, searchRoot}
 use Rattle.search.specs.Unread.{ReadBy, Alike, alike-end, alike-leaf, alike-inner}
-use Rattle.search.proofs.Contain.{choose}
+use Rattle.search.proofs.Steps.{seenUnder, seenAfter}
 
 -- P of each number
 data Each (P : ℕ → Type 0) : List ℕ → Type 0 where
@@ -26,11 +27,11 @@ same-cond x Q true f q = refl
 same-cond x Q false f q = f q
 
 module _ {A : Type 0} (O : Arith A) (R : Rules A) (P : ℕ → Type 0) where
-  take-read : (e : Frame A) (k : Kind) (n w : ℕ) (s : State A) (r : Seen A) → (take O e k n w s r) .read ≡ r .read
-  unfolding take
-  take-read e MAX n w s r = refl
-  take-read e MIN n w s r = refl
-  take-read e CHANCE n w s r = refl
+  update-read : (e : Frame A) (k : Kind) (n w : ℕ) (s : State A) (r : Seen A) → (update O e k n w s r) .read ≡ r .read
+  unfolding update
+  update-read e MAX n w s r = refl
+  update-read e MIN n w s r = refl
+  update-read e CHANCE n w s r = refl
 
   cut-read : (e : Frame A) (k : Kind) (s : State A) → (cut e k s) .read ≡ s .read
   unfolding cut
@@ -57,7 +58,7 @@ module _ {A : Type 0} (O : Arith A) (R : Rules A) (P : ℕ → Type 0) where
   unfolding point
   back-point n h l x = let y = each-split P l (n ∷ []) x in (y .0, each-one (y .1))
 
-  back-after : (e : Frame A) (k : Kind) (f : Forest A) (t : State A) → (All (scan O R e k f t) → Each P (t .read)) → All (after O R e k f t)
+  back-after : (e : Frame A) (k : Kind) (f : Forest A) (t : State A) → (All (scan O R e k f t) → Each P (t .read)) → All (seenAfter O R e k f t)
       → Each P (t .read)
   back-after e k f t ih = choose (λ (r : Seen A). All r → Each P (t .read)) (stop O (R .margin) f t) (λ _ x. rw cut-read at x) (λ _. ih)
 
@@ -66,14 +67,14 @@ module _ {A : Type 0} (O : Arith A) (R : Rules A) (P : ℕ → Type 0) where
   unfolding scan finish
   back e k end s x = x
   back e k (leaf n w h rest) s x =
-      back-point n h (s .read) (rw take-read at (back-after e k rest _ (back e k rest _) x)) .0
+      back-point n h (s .read) (rw update-read at (back-after e k rest _ (back e k rest _) x)) .0
   back e k (inner n w c under rest) s x =
       let d : Frame A = R .frame n under in
       rw begin-read at
-      (back d c under (begin d c (lower O e k w s) (upper O e k w s) (s .read)) (rw take-read at (back-after e k rest _ (back e k rest _) x)))
+      (back d c under (begin d c (lower O e k w s) (upper O e k w s) (s .read)) (rw update-read at (back-after e k rest _ (back e k rest _) x)))
 
   same-after : (e : Frame A) (k : Kind) {f g : Forest A} (t : State A) → Alike P f g → (All (scan O R e k f t) → scan O R e k f t ≡ scan O R e k g t)
-      → All (after O R e k f t) → after O R e k f t ≡ after O R e k g t
+      → All (seenAfter O R e k f t) → seenAfter O R e k f t ≡ seenAfter O R e k g t
   same-after e k {f} {g} t a ih x = rw (← stop-alike f g t a) (same-cond (cut e k t) All (stop O (R .margin) f t) ih x)
 
   module _ (frames : (n : ℕ) (f g : Forest A) → Alike P f g → R .frame n f ≡ R .frame n g) where
@@ -82,18 +83,18 @@ module _ {A : Type 0} (O : Arith A) (R : Rules A) (P : ℕ → Type 0) where
     unread e k s alike-end x = refl
     unread e k s (alike-leaf {n} {w} {v} {v2} {rest} {rest2} q a) x =
         let r : Seen A = point n v (s .read) in
-        let t : State A = take O e k n w s r in
-        let y : All r = rw take-read at (back-after e k rest t (back e k rest t) x) in
+        let t : State A = update O e k n w s r in
+        let y : All r = rw update-read at (back-after e k rest t (back e k rest t) x) in
         let same : r ≡ point n v2 (s .read) = ap (λ y. point n y (s .read)) (q (back-point n v (s .read) y .1)) in
-        same-after e k t a (unread e k t a) x ∙ ap (λ y. after O R e k rest2 (take O e k n w s y)) same
+        same-after e k t a (unread e k t a) x ∙ ap (λ y. seenAfter O R e k rest2 (update O e k n w s y)) same
     unread e k s (alike-inner {n} {w} {k = c} {under} {under2} {rest} {rest2} u a) x =
-        let r : Seen A = enter O R e k n w c under s in
-        let t : State A = take O e k n w s r in
-        let y : All r = rw take-read at (back-after e k rest t (back e k rest t) x) in
+        let r : Seen A = seenUnder O R e k n w c under s in
+        let t : State A = update O e k n w s r in
+        let y : All r = rw update-read at (back-after e k rest t (back e k rest t) x) in
         let d : Frame A = R .frame n under in
-        let same : r ≡ enter O R e k n w c under2 s = unread d c _ u y ∙ ap
+        let same : r ≡ seenUnder O R e k n w c under2 s = unread d c _ u y ∙ ap
         (λ d. scan O R d c under2 (begin d c (lower O e k w s) (upper O e k w s) (s .read))) (frames n under under2 u) in
-        same-after e k t a (unread e k t a) x ∙ ap (λ v. after O R e k rest2 (take O e k n w s v)) same
+        same-after e k t a (unread e k t a) x ∙ ap (λ v. seenAfter O R e k rest2 (update O e k n w s v)) same
 
 -- each number of a list is in it
 each-self : (l : List ℕ) (P : ℕ → Type 0) → ((n : ℕ) → List·Memᴰ n l → P n) → Each P l

@@ -6,11 +6,13 @@ use native.Mathlib.Nat.{lt-mul-div-succ, mul-le-mul-left, mul-le-mul-right, mul-
 use native.Mathlib.Decide.{decLe}
 use native.Mathlib.Omega.{arith}
 use lib.Dec.{T as Holds, leb→le}
+use Rattle.field.proofs.Small.{choose}
 use Rattle.table.specs.Tree.{Kind, MAX, MIN, CHANCE, Forest, end, leaf, inner, weigh}
-use Rattle.search.specs.Search.{Frame, Seen, State, Rules, begin, lower, upper, take, finish, cut, stop, point, enter, after, scan, search}
+use Rattle.search.specs.Search.{Frame, Seen, State, Rules, begin, lower, upper, update, finish, cut, stop, point, scan, search}
 use Rattle.search.specs.Heights.{natural, ceil}
+use Rattle.search.proofs.Steps.{seenUnder, seenAfter}
 use Rattle.search.proofs.Heights.{Paid, Sound, Within, grade, Even, Fit, total}
-use Rattle.search.proofs.Contain.{choose, contained}
+use Rattle.search.proofs.Contain.{contained}
 use Rattle.search.proofs.Exact.{share, even, EvenR, even-begin, below}
 
 pub ceil-le : (x w : ℕ) → 0 < w → x ≤ w * ceil x w
@@ -174,23 +176,23 @@ module _ (R : Rules ℕ) where
         let n = mul-le-mul-left (e .total) (q .ends) in
         rw (q .weighed) (omega arith, omega arith, omega arith, omega arith, λ _. omega arith)
 
-    narrow-take : (e : Frame ℕ) (k : Kind) (g n w W : ℕ) (s : State ℕ) (r : Seen ℕ) → Paid e k → Even (grade e k g) e → EvenR (grade e k g) r
+    narrow-update : (e : Frame ℕ) (k : Kind) (g n w W : ℕ) (s : State ℕ) (r : Seen ℕ) → Paid e k → Even (grade e k g) e → EvenR (grade e k g) r
         → e .bottom ≤ r .low → r .low ≤ r .high → r .high ≤ e .top
-        → Tight (lower natural e k w s) (upper natural e k w s) r → Narrow a b e k (w + W) s → Narrow a b e k W (take natural e k n w s r)
-    unfolding take lower upper
-    narrow-take e MAX g n w W s r T-pos d x bl lh rS t i = (
+        → Tight (lower natural e k w s) (upper natural e k w s) r → Narrow a b e k (w + W) s → Narrow a b e k W (update natural e k n w s r)
+    unfolding update lower upper
+    narrow-update e MAX g n w W s r T-pos d x bl lh rS t i = (
       max-alpha a _ _ _ (i .0),
       omega (arith, i .1),
       max-step (s .hi) (r .high) b b (s .lo) (r .low) a (s .alpha) _ ε (max-join a (s .lo) (r .low) (s .alpha) _ refl (i .0)) (le-refl b) (i .2)
           (meet-top b (e .top) (s .beta) (r .high) _ (i .1) rS t),
     )
-    narrow-take e MIN g n w W s r T-pos d x bl lh rS t i = (
+    narrow-update e MIN g n w W s r T-pos d x bl lh rS t i = (
       omega (arith, i .0),
       min-beta b (s .hi) (r .high) (s .beta) (i .1),
       min-step (s .hi) (r .high) b (s .beta) (s .lo) (r .low) a a _ ε (min-join b (s .hi) (r .high) (s .beta) _ refl (i .1)) (le-refl a) (i .2)
           (meet-bottom a (e .bottom) (s .alpha) (r .low) _ ε (i .0) bl t),
     )
-    narrow-take e CHANCE g n w W s r T-pos d x bl lh rS t i =
+    narrow-update e CHANCE g n w W s r T-pos d x bl lh rS t i =
         let T : ℕ = e .total in
         let B : ℕ = e .bottom in
         let rl : ℕ = r .low - B in
@@ -233,7 +235,7 @@ module _ (R : Rules ℕ) where
     narrow-cut e CHANCE W s h i = omega arith
 
     narrow-after : (e : Frame ℕ) (k : Kind) (rest : Forest ℕ) (t : State ℕ) → Narrow a b e k (weigh rest) t → Tight a b (scan natural R e k rest t)
-        → Tight a b (after natural R e k rest t)
+        → Tight a b (seenAfter natural R e k rest t)
     narrow-after e k rest t i x =
         choose (Tight a b) (stop natural (R .margin) rest t) (λ h. narrow-cut e k (weigh rest) t (stop-shut rest t h) i) (λ _. x)
 
@@ -242,19 +244,19 @@ module _ (R : Rules ℕ) where
   unfolding scan weigh point
   narrow e k end s a b g q i d x j = narrow-finish a b e k s q j
   narrow e k (leaf n w v rest) s a b g q i d x j = (
-      let j2 = narrow-take a b e k g n w (weigh rest) s (point n v (s .read)) q d (x .0, x .0) (i .0) (omega arith) (i .1) (omega arith) j in
+      let j2 = narrow-update a b e k g n w (weigh rest) s (point n v (s .read)) q d (x .0, x .0) (i .0) (omega arith) (i .1) (omega arith) j in
       narrow-after a b e k rest _ j2 (narrow e k rest _ a b g q (i .2) d (x .1) j2))
   narrow e k (inner n w c under rest) s a b g q i d x j = (
       let la : ℕ = lower natural e k w s in
       let ub : ℕ = upper natural e k w s in
       let m : Frame ℕ = R .frame n under in
-      let r : Seen ℕ = enter natural R e k n w c under s in
+      let r : Seen ℕ = seenUnder natural R e k n w c under s in
       let u : Tight la ub r = narrow m c under _ la ub (grade e k g) (i .2 .paid) (i .3) (x .0) (x .1)
       (narrow-begin la ub m c under (s .read) (i .2)) in
       let v = contained R m c under la ub (s .read) (i .2) (i .3) in
       let y = even R m c under _ (grade e k g) (i .2 .paid) (i .3) (x .0) (x .1)
       (even-begin m c (grade e k g) la ub (s .read) (below m c (grade e k g) (x .0 .0), below m c (grade e k g) (x .0 .1))) in
-      let j2 = narrow-take a b e k g n w (weigh rest) s r q d y (le-trans (i .0) (v .0)) (le-trans (v .1) (v .2)) (le-trans (v .3) (i .1)) u j in
+      let j2 = narrow-update a b e k g n w (weigh rest) s r q d y (le-trans (i .0) (v .0)) (le-trans (v .1) (v .2)) (le-trans (v .3) (i .1)) u j in
       narrow-after a b e k rest _ j2 (narrow e k rest _ a b g q (i .4) d (x .2) j2))
 
   -- at the root

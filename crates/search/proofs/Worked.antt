@@ -1,4 +1,4 @@
--- The two window figures of document 01, by computation; its starred positions are in engine/specs/Rows.antt. Assumes nothing.
+-- The two window figures of document 01, by computation; its starred positions are in demands/specs/Rows.antt. Assumes nothing.
 use mathlib.Core.Path.{_≡_, refl}
 use lib.IntN.{pos}
 use Rattle.worth.specs.Worth.{maxZ, minZ, floorZ}

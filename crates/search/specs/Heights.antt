@@ -1,4 +1,4 @@
--- The search over heights, in grains above the lowest end: what is computed with. Assumes nothing.
+-- The search over heights, in grains above the lowest end: what is computed with.
 use Prim.Native.Nat.{ℕ, _+_, _-_, _*_, _/_, min, max}
 use lib.Dec.{leb, ltb}
 use Rattle.table.specs.Tree.{Forest, end, leaf, inner}
@@ -8,7 +8,7 @@ use Rattle.table.specs.Accepted.{span}
 use Rattle.search.specs.Search.{Frame, Arith, Rules, Seen, searchRoot}
 
 -- x divided by w, rounded up
-unfoldable pub ceil : ℕ → ℕ → ℕ
+unfoldable pub ceil : (x w : ℕ) → ℕ
 ceil x w = (x + (w - 1)) / w
 
 abbrev pub natural : Arith ℕ
@@ -16,15 +16,15 @@ natural = record {
   high-of = max;
   low-of = min;
   less = ltb;
-  near = λ ε a b. leb b (a + ε);
-  down = λ e w a u. max (e .bottom) (e .top - ceil ((u - a) * e .total) w);
-  up = λ e w b l. min (e .top) (e .bottom + ceil ((b - l) * e .total) w);
-  gain = λ e w lo l. lo + w * (l - e .bottom) / e .total;
-  loss = λ e w hi h. hi - w * (e .top - h) / e .total;
+  near = λ ε α β. leb β (α + ε);
+  down = λ e w α U. max (e .bottom) (e .top - ceil ((U - α) * e .total) w);
+  up = λ e w β L. min (e .top) (e .bottom + ceil ((β - L) * e .total) w);
+  gain = λ e w L Lc. L + w * (Lc - e .bottom) / e .total;
+  loss = λ e w U Uc. U - w * (e .top - Uc) / e .total;
 }
 
 -- heights in points as heights in grains
-unfoldable pub grained : ℕ → Forest ℕ → Forest ℕ
+unfoldable pub grained : (G : ℕ) → Forest ℕ → Forest ℕ
 grained G end = end
 grained G (leaf n w h rest) = leaf n w (h * G) (grained G rest)
 grained G (inner n w k under rest) = inner n w k (grained G under) (grained G rest)
@@ -37,5 +37,5 @@ abbrev pub heightRules : (S T ε : ℕ) → Rules ℕ
 heightRules S T ε = record { frame = λ (n : ℕ) (f : Forest ℕ). frameOf S T; margin = ε }
 
 -- the search of a table, every bound in grains above the lowest end
-abbrev pub heightSearched : Table → ℕ → Seen ℕ
+abbrev pub heightSearched : Table → (ε : ℕ) → Seen ℕ
 heightSearched t ε = searchRoot natural (heightRules (span (t .head) * grain t) (t .head .total) ε) (grained (grain t) (heightTree t))

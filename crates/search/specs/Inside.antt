@@ -1,4 +1,4 @@
--- The search as the code makes it: over heights in grains, with the play as a node number. Assumes nothing: these are definitions.
+-- The search as the code makes it: over heights in grains, with the play as a node number.
 -- proofs/Bridge.antt has that it is the search of Heights.antt.
 use Prim.Native.Nat.{ℕ, suc, _+_, _-_, _*_, _/_, _≤_, _<_, min, max}
 use mathlib.Core.Path.{_≡_}
@@ -6,7 +6,7 @@ use mathlib.Core.Bool.{Bool, true, false, _||_, cond}
 use mathlib.Core.List.{List, [], _∷_, _++_}
 use mathlib.Core.Option.{Option, none, some}
 use lib.Dec.{eqb, leb, ltb}
-use lib.ListN.{length, getD, set}
+use lib.ListN.{length, set}
 use Rattle.table.specs.Tree.{Kind, MAX, MIN, CHANCE, Forest, end, leaf, inner, isChance, isEnd, weigh, leaves}
 use Rattle.table.specs.Slices.{Slices, Spans, laid}
 use Rattle.table.specs.Accepted.{Sums, Rooted}
@@ -29,24 +29,24 @@ pub record Answer : Type 0 where
   pub read : List ℕ
 
 -- before the first child, in the window α, β
-abbrev pub start : Kind → Rule → ℕ → ℕ → State
+abbrev pub start : Kind → (g : Rule) (α β : ℕ) → State
 start MAX g α β = record { alpha = α; beta = β; low = 0; high = 0; play = 0 }
 start MIN g α β = record { alpha = α; beta = β; low = g .top; high = g .top; play = 0 }
 start CHANCE g α β = record { alpha = α; beta = β; low = 0; high = g .top; play = 0 }
 
 -- the window of a child of weight w
-abbrev pub alphaFor : Kind → Rule → ℕ → State → ℕ
+abbrev pub alphaFor : Kind → (g : Rule) (w : ℕ) (s : State) → ℕ
 alphaFor MAX g w s = s .alpha
 alphaFor MIN g w s = s .alpha
 alphaFor CHANCE g w s = g .top - ceil ((s .high - s .alpha) * g .total) w
 
-abbrev pub betaFor : Kind → Rule → ℕ → State → ℕ
+abbrev pub betaFor : Kind → (g : Rule) (w : ℕ) (s : State) → ℕ
 betaFor MAX g w s = s .beta
 betaFor MIN g w s = s .beta
 betaFor CHANCE g w s = min (g .top) (ceil ((s .beta - s .low) * g .total) w)
 
 -- the first child, and then each that beats the best so far
-abbrev pub preferred : ℕ → ℕ → Bool → ℕ
+abbrev pub preferred : (play i : ℕ) (beats : Bool) → ℕ
 preferred play i beats = cond (eqb play 0 || beats) i play
 
 -- after the child i of weight w with the bounds low and high
@@ -100,7 +100,7 @@ cutHigh MIN g s = s .high
 cutHigh CHANCE g s = s .high
 
 -- s is the state after a child that read `read`; `rest` is the answer from the children after it
-abbrev pub join : Kind → Rule → State → List ℕ → Bool → Answer → Answer
+abbrev pub join : Kind → Rule → (s : State) (read : List ℕ) (last : Bool) (rest : Answer) → Answer
 join k g s read last rest =
     cond last (record { low = s .low; high = s .high; play = s .play; read = read })
     (cond (stops g s) (record { low = cutLow k s; high = cutHigh k g s; play = s .play; read = read })
@@ -118,7 +118,7 @@ over k g (inner i w j under rest) s =
     join k g t (r .read) (isEnd rest) (over k g rest t)
 
 -- the first node, in the window α, β
-unfoldable pub first : Rule → Forest ℕ → ℕ → ℕ → Answer
+unfoldable pub first : Rule → Forest ℕ → (α β : ℕ) → Answer
 first g end α β = record { low = 0; high = 0; play = 0; read = [] }
 first g (leaf i w h rest) α β = record { low = h * g .grain; high = h * g .grain; play = 0; read = i ∷ [] }
 first g (inner i w j under rest) α β = over j g under (start j g α β)
@@ -126,9 +126,9 @@ first g (inner i w j under rest) α β = over j g under (start j g α β)
 -- ---- what the contracts say
 
 -- l with the numbers xs written from index k on
-unfoldable pub put : List ℕ → ℕ → List ℕ → List ℕ
-put l k [] = l
-put l k (x ∷ xs) = put (set l k x) (suc k) xs
+unfoldable pub putFrom : List ℕ → ℕ → List ℕ → List ℕ
+putFrom l k [] = l
+putFrom l k (x ∷ xs) = putFrom (set l k x) (suc k) xs
 
 -- the result r, with the list as it came and as it is now, is the answer a
 pub record Gives (r : Found) (a : Answer) (from : ℕ) (came now : List ℕ) : Type 0 where
@@ -136,7 +136,7 @@ pub record Gives (r : Found) (a : Answer) (from : ℕ) (came now : List ℕ) : T
   pub high : r .high ≡ a .high
   pub play : r .play ≡ a .play
   pub used : r .used ≡ from + length (a .read)
-  pub leaves : now ≡ put came from (a .read)
+  pub leaves : now ≡ putFrom came from (a .read)
 
 -- a leaf of v grains at entry c was read
 pub record LeafAt (r : Found) (v from c : ℕ) (came now : List ℕ) : Type 0 where
@@ -145,10 +145,6 @@ pub record LeafAt (r : Found) (v from c : ℕ) (came now : List ℕ) : Type 0 wh
   pub play : r .play ≡ 0
   pub used : r .used ≡ from + 1
   pub leaves : now ≡ set came from c
-
--- each node from i up to j has one child: the child's run ends at e, as the node's does; S has one past the run of each node
-abbrev pub Chain : List ℕ → (e i j : ℕ) → Type 0
-Chain S e i j = (m : ℕ) → i ≤ m → m < j → getD S (m + 1) 0 ≡ e
 
 abbrev pub WeighsIn : Kind → Rule → ℕ → Type 0
 WeighsIn k g w = isChance k ≡ true → (0 < w) × (w ≤ g .total)
@@ -194,7 +190,7 @@ pub record Holds (t : Slices) (e : ℕ) : Type 0 where
   pub few : e ≤ 1024
 
 -- the children in the entries from c up to e can be searched
-pub record Ready (t : Slices) (g : Rule) (k : Kind) (s : State) (c e used room : ℕ) : Type 0 where
+pub record ReadyChildren (t : Slices) (g : Rule) (k : Kind) (s : State) (c e used room : ℕ) : Type 0 where
   pub nodes : Forest ℕ
   pub spans : Spans t c e nodes
   pub fit : Fit k g nodes

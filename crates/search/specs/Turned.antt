@@ -1,4 +1,4 @@
--- A table and its turned one. Document 01, 'Judging and turning'. Assumes nothing: these are definitions.
+-- A table and its turned one. Document 01, 'Judging and turning'.
 use mathlib.Core.Path.{_≡_}
 use Rattle.table.specs.Table.{Table, tree}
 use Rattle.turn.specs.Turn.{turnHead, turnTree}

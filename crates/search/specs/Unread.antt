@@ -1,4 +1,4 @@
--- Trees that differ in the values of some leaves alone. Assumes nothing: these are definitions.
+-- Trees that differ in the values of some leaves alone.
 use Prim.Native.Nat.{ℕ}
 use mathlib.Core.Path.{_≡_}
 use mathlib.Core.List.{List·Memᴰ}

@@ -1,4 +1,4 @@
--- The paper's arithmetic, whole numbers of grains, and the search of a table. Document 01, 'Grains' and 'The search'. Assumes nothing.
+-- The paper's arithmetic, whole numbers of grains, and the search of a table. Document 01, 'Grains' and 'The search'.
 use Prim.Native.Nat.{ℕ}
 use mathlib.Core.Bool.{cond}
 use mathlib.Core.Option.{Option, none, some}
@@ -12,30 +12,30 @@ use Rattle.judge.specs.Judge.{children}
 use Rattle.search.specs.Search.{Frame, Arith, Rules, Seen, searchRoot}
 
 -- z divided by n, rounded up
-unfoldable pub ceilZ : ℤ → ℕ → ℤ
+unfoldable pub ceilZ : (z : ℤ) (n : ℕ) → ℤ
 ceilZ z n = negℤ (floorZ (negℤ z) n)
 
 -- Line 9, from α(p(n)) and U(p(n)): "rounded outward: the new alpha down". π is w / T, and U(n) of a node not yet searched is v_max.
-unfoldable pub downZ : Frame ℤ → ℕ → ℤ → ℤ → ℤ
-downZ e w a u = maxZ (e .bottom) (floorZ (pos (e .total) *ℤ (a -ℤ u)) w +ℤ e .top)
+unfoldable pub downZ : (e : Frame ℤ) (w : ℕ) (α U : ℤ) → ℤ
+downZ e w α U = maxZ (e .bottom) (floorZ (pos (e .total) *ℤ (α -ℤ U)) w +ℤ e .top)
 
 -- Line 10, from β(p(n)) and L(p(n)): "the new beta up". L(n) of a node not yet searched is v_min.
-unfoldable pub upZ : Frame ℤ → ℕ → ℤ → ℤ → ℤ
-upZ e w b l = minZ (e .top) (ceilZ (pos (e .total) *ℤ (b -ℤ l)) w +ℤ e .bottom)
+unfoldable pub upZ : (e : Frame ℤ) (w : ℕ) (β L : ℤ) → ℤ
+upZ e w β L = minZ (e .top) (ceilZ (pos (e .total) *ℤ (β -ℤ L)) w +ℤ e .bottom)
 
 -- Line 20, from L(n) and L(c), and line 21, from U(n) and U(c). That these two divisions leave no remainder is a theorem.
-unfoldable pub gainZ : Frame ℤ → ℕ → ℤ → ℤ → ℤ
-gainZ e w lo l = lo +ℤ floorZ (pos w *ℤ (l -ℤ e .bottom)) (e .total)
+unfoldable pub gainZ : (e : Frame ℤ) (w : ℕ) (L Lc : ℤ) → ℤ
+gainZ e w L Lc = L +ℤ floorZ (pos w *ℤ (Lc -ℤ e .bottom)) (e .total)
 
-unfoldable pub lossZ : Frame ℤ → ℕ → ℤ → ℤ → ℤ
-lossZ e w hi h = hi -ℤ floorZ (pos w *ℤ (e .top -ℤ h)) (e .total)
+unfoldable pub lossZ : (e : Frame ℤ) (w : ℕ) (U Uc : ℤ) → ℤ
+lossZ e w U Uc = U -ℤ floorZ (pos w *ℤ (e .top -ℤ Uc)) (e .total)
 
 abbrev pub whole : Arith ℤ
 whole = record {
   high-of = maxZ;
   low-of = minZ;
   less = ltZ;
-  near = λ ε a b. leZ b (a +ℤ pos ε);
+  near = λ ε α β. leZ β (α +ℤ pos ε);
   down = downZ;
   up = upZ;
   gain = gainZ;
@@ -43,7 +43,7 @@ whole = record {
 }
 
 -- "a leaf is worth its utility × G"
-unfoldable pub inGrains : ℕ → Forest ℤ → Forest ℤ
+unfoldable pub inGrains : (G : ℕ) → Forest ℤ → Forest ℤ
 inGrains G end = end
 inGrains G (leaf n w u rest) = leaf n w (u *ℤ pos G) (inGrains G rest)
 inGrains G (inner n w k under rest) = inner n w k (inGrains G under) (inGrains G rest)
@@ -52,11 +52,11 @@ inGrains G (inner n w k under rest) = inner n w k (inGrains G under) (inGrains G
 abbrev pub ends : Table → Frame ℤ
 ends t = record { bottom = t .head .lowest *ℤ pos (grain t); top = t .head .highest *ℤ pos (grain t); total = t .head .total }
 
-abbrev pub rules : Table → ℕ → Rules ℤ
+abbrev pub rules : Table → (ε : ℕ) → Rules ℤ
 rules t ε = record { frame = λ (n : ℕ) (f : Forest ℤ). ends t; margin = ε }
 
 -- the search of a table at the margin ε
-abbrev pub searched : Table → ℕ → Seen ℤ
+abbrev pub searched : Table → (ε : ℕ) → Seen ℤ
 searched t ε = searchRoot whole (rules t ε) (inGrains (grain t) (tree t))
 
 -- "a play is worth the exact worth of the root child that it names": the worth of the node m among nodes with one parent, if it is there
@@ -65,5 +65,5 @@ worthAt T G m end = none
 worthAt T G m (leaf n w u rest) = cond (eqb n m) (some (u *ℤ pos G)) (worthAt T G m rest)
 worthAt T G m (inner n w k under rest) = cond (eqb n m) (some (value T k (shares T G under))) (worthAt T G m rest)
 
-abbrev pub playWorth : Table → ℕ → Option ℤ
+abbrev pub playWorth : Table → (m : ℕ) → Option ℤ
 playWorth t m = worthAt (t .head .total) (grain t) m (children (tree t))

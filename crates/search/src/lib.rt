@@ -3,7 +3,7 @@ ghost use mathlib.Core.Path.{_≡_};
 ghost use Prim.Native.Nat.{_+_, _-_, _*_, _<_, _≤_, min, max};
 ghost use lib.ListN.{length, getD};
 ghost use Rattle.table.specs.Tree.{MAX, MIN, CHANCE};
-ghost use Rattle.search.specs.Inside.{slices, start, alphaFor, betaFor, preferred, afterMax, afterMin, afterChance, stops, LeafAt, Chain, OkRule, OkBounds, Ready, Told, ReadyRoot, Searched};
+ghost use Rattle.search.specs.Inside.{slices, start, alphaFor, betaFor, preferred, afterMax, afterMin, afterChance, stops, LeafAt, OkRule, OkBounds, ReadyChildren, Told, ReadyRoot, Searched};
 
 // The margin, the grains between the ends, the total of the weights, and the grains in a point.
 pub struct Rule {
@@ -183,27 +183,13 @@ fn leaf_at(height: &[u32], leaves: &mut [u16], used: usize, c: usize, grain: u64
 {
     leaves[used] = c as u16;
     let h = wide32(height[c]) * grain;
+    let n = used + 1;
     Found {
         low: h,
         high: h,
         play: 0,
-        used: used + 1,
+        used: n,
     }
-}
-
-// From node i, whose run ends at e, down past the nodes with one child: such a node has the bounds of its child, in the same window.
-fn chain_end(stop: &[u16], i: usize, e: usize) -> usize
-    requires { ⌜ (i < e) × (e ≤ 1024) × (e ≤ length (now stop)) ⌝ }
-    ensures { λ r. ⌜ (i ≤ r) × (r < e) × Chain (now (stop .entry)) e i r ⌝ }
-{
-    let mut j = i;
-    while j + 1 < e {
-        if stop_at(stop, j + 1) != e {
-            return j;
-        }
-        j += 1;
-    }
-    j
 }
 
 // The children of an M, entries c up to end, in the window alpha, beta. (As the value of the `if`, r would be copied once more.)
@@ -220,7 +206,7 @@ fn max_over(
     alpha: u64,
     beta: u64,
 ) -> Found
-    requires { ⌜ Ready (slices (now kind) (now stop) (now weight) (now height)) g MAX (start MAX g alpha beta) c end used (length (now leaves)) ⌝ }
+    requires { ⌜ ReadyChildren (slices (now kind) (now stop) (now weight) (now height)) g MAX (start MAX g alpha beta) c end used (length (now leaves)) ⌝ }
     ensures { λ r. ⌜ Told (slices (now (kind .entry)) (now (stop .entry)) (now (weight .entry)) (now (height .entry))) g MAX c end used alpha beta r (now (leaves .entry)) (now (leaves .exit)) ⌝ }
 {
     let mut t = State {
@@ -234,8 +220,7 @@ fn max_over(
     let mut n = used;
     loop {
         let e = stop_at(stop, i);
-        let j = chain_end(stop, i, e);
-        let k = kind_at(kind, j);
+        let k = kind_at(kind, i);
         let a = t.alpha;
         let b = t.beta;
         let mut r = Found {
@@ -245,13 +230,13 @@ fn max_over(
             used: n,
         };
         if k == 0 {
-            r = leaf_at(height, leaves, n, j, g.grain);
+            r = leaf_at(height, leaves, n, i, g.grain);
         } else if k == 1 {
-            r = max_over(kind, stop, weight, height, leaves, n, g, j + 1, e, a, b);
+            r = max_over(kind, stop, weight, height, leaves, n, g, i + 1, e, a, b);
         } else if k == 2 {
-            r = min_over(kind, stop, weight, height, leaves, n, g, j + 1, e, a, b);
+            r = min_over(kind, stop, weight, height, leaves, n, g, i + 1, e, a, b);
         } else {
-            r = chance_over(kind, stop, weight, height, leaves, n, g, j + 1, e, a, b);
+            r = chance_over(kind, stop, weight, height, leaves, n, g, i + 1, e, a, b);
         }
         t = max_after(i, t, r.low, r.high);
         n = r.used;
@@ -289,7 +274,7 @@ fn min_over(
     alpha: u64,
     beta: u64,
 ) -> Found
-    requires { ⌜ Ready (slices (now kind) (now stop) (now weight) (now height)) g MIN (start MIN g alpha beta) c end used (length (now leaves)) ⌝ }
+    requires { ⌜ ReadyChildren (slices (now kind) (now stop) (now weight) (now height)) g MIN (start MIN g alpha beta) c end used (length (now leaves)) ⌝ }
     ensures { λ r. ⌜ Told (slices (now (kind .entry)) (now (stop .entry)) (now (weight .entry)) (now (height .entry))) g MIN c end used alpha beta r (now (leaves .entry)) (now (leaves .exit)) ⌝ }
 {
     let mut t = State {
@@ -303,8 +288,7 @@ fn min_over(
     let mut n = used;
     loop {
         let e = stop_at(stop, i);
-        let j = chain_end(stop, i, e);
-        let k = kind_at(kind, j);
+        let k = kind_at(kind, i);
         let a = t.alpha;
         let b = t.beta;
         let mut r = Found {
@@ -314,13 +298,13 @@ fn min_over(
             used: n,
         };
         if k == 0 {
-            r = leaf_at(height, leaves, n, j, g.grain);
+            r = leaf_at(height, leaves, n, i, g.grain);
         } else if k == 1 {
-            r = max_over(kind, stop, weight, height, leaves, n, g, j + 1, e, a, b);
+            r = max_over(kind, stop, weight, height, leaves, n, g, i + 1, e, a, b);
         } else if k == 2 {
-            r = min_over(kind, stop, weight, height, leaves, n, g, j + 1, e, a, b);
+            r = min_over(kind, stop, weight, height, leaves, n, g, i + 1, e, a, b);
         } else {
-            r = chance_over(kind, stop, weight, height, leaves, n, g, j + 1, e, a, b);
+            r = chance_over(kind, stop, weight, height, leaves, n, g, i + 1, e, a, b);
         }
         t = min_after(i, t, r.low, r.high);
         n = r.used;
@@ -358,7 +342,7 @@ fn chance_over(
     alpha: u64,
     beta: u64,
 ) -> Found
-    requires { ⌜ Ready (slices (now kind) (now stop) (now weight) (now height)) g CHANCE (start CHANCE g alpha beta) c end used (length (now leaves)) ⌝ }
+    requires { ⌜ ReadyChildren (slices (now kind) (now stop) (now weight) (now height)) g CHANCE (start CHANCE g alpha beta) c end used (length (now leaves)) ⌝ }
     ensures { λ r. ⌜ Told (slices (now (kind .entry)) (now (stop .entry)) (now (weight .entry)) (now (height .entry))) g CHANCE c end used alpha beta r (now (leaves .entry)) (now (leaves .exit)) ⌝ }
 {
     let mut t = State {
@@ -372,8 +356,7 @@ fn chance_over(
     let mut n = used;
     loop {
         let e = stop_at(stop, i);
-        let j = chain_end(stop, i, e);
-        let k = kind_at(kind, j);
+        let k = kind_at(kind, i);
         let w = weight_at(weight, i);
         let mut r = Found {
             low: 0,
@@ -382,17 +365,17 @@ fn chance_over(
             used: n,
         };
         if k == 0 {
-            r = leaf_at(height, leaves, n, j, g.grain);
+            r = leaf_at(height, leaves, n, i, g.grain);
         } else {
             let v = chance_window(g, t, w);
             let a = v.alpha;
             let b = v.beta;
             if k == 1 {
-                r = max_over(kind, stop, weight, height, leaves, n, g, j + 1, e, a, b);
+                r = max_over(kind, stop, weight, height, leaves, n, g, i + 1, e, a, b);
             } else if k == 2 {
-                r = min_over(kind, stop, weight, height, leaves, n, g, j + 1, e, a, b);
+                r = min_over(kind, stop, weight, height, leaves, n, g, i + 1, e, a, b);
             } else {
-                r = chance_over(kind, stop, weight, height, leaves, n, g, j + 1, e, a, b);
+                r = chance_over(kind, stop, weight, height, leaves, n, g, i + 1, e, a, b);
             }
         }
         t = chance_after(g, t, w, r.low, r.high);

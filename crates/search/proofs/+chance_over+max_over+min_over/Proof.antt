@@ -10,9 +10,8 @@ use lib.ListN.{length, getD}
 use Rattle.table.specs.Tree.{MAX, MIN, CHANCE}
 use Rattle.search.specs.Inside.{slices, start, alphaFor, betaFor}
 use Rattle.search.proofs.Forest.{step, fit-weight, alpha-ok, beta-ok}
-use Rattle.search.proofs.Rules.{ChildTold, within, NodeSearched, searched-same, searched-window, searched-leaf, searched-inner, chance-state, Going, going-start}
-use Rattle.search.proofs.Rules.{Child, child-of, child-chain, child-kind, child-asks, child-three, child-leaf, Turn, turn-same, turn-less, turn-margin, turn-last, turn-cut, turn-on}
-use Rattle.search.proofs.Chain.{child-last, last-tells}
+use Rattle.search.proofs.Rules.{within, NodeSearched, searched-same, searched-window, searched-leaf, searched-inner, chance-state, Going, going-start}
+use Rattle.search.proofs.Rules.{Child, child-of, child-asks, child-three, child-leaf, Turn, turn-same, turn-less, turn-margin, turn-last, turn-cut, turn-on}
 use Rattle.search.proofs.chance_over.Reads as chance-over
 use Rattle.search.proofs.chance_over.Kinds as chance-over-kinds
 use Rattle.search.proofs.+chance_over+max_over+min_over.Lts-chance_over as chance-over-lts
@@ -24,7 +23,6 @@ use Rattle.search.proofs.min_over.Kinds as min-over-kinds
 use Rattle.search.proofs.+chance_over+max_over+min_over.Lts-min_over as min-over-lts
 use Rattle.search.proofs.chance_after.Reads as chance-after-reads
 use Rattle.search.proofs.chance_window.Reads as chance-window-reads
-use Rattle.search.proofs.chain_end.Reads as chain-end-reads
 use Rattle.search.proofs.kind_at.Reads as kind-at-reads
 use Rattle.search.proofs.leaf_at.Reads as leaf-at-reads
 use Rattle.search.proofs.max_after.Reads as max-after-reads
@@ -70,8 +68,6 @@ abbrev chance-over-claims : ℕ → chance-over-lts.Claims
 chance-over-claims t = (
   stop-at-reads.Asked,
   stop-at-reads.Learnt,
-  chain-end-reads.Asked,
-  chain-end-reads.Learnt,
   kind-at-reads.Asked,
   kind-at-reads.Learnt,
   weight-at-reads.Asked,
@@ -111,38 +107,30 @@ chance-over-stop-at-requires t c κs =
     let R = c .loop .inv .ready in
     omega (arith, R .some, R .holds .stops)
 
--- at the place where the child's stop was read: the window does not matter for the chain and for a leaf
-chance-over-first : (t : ℕ) (c : chance-over-lts.After-stop-at (chance-over-claims t) (chance-over-at t) chance-over.Post chance-over-Inv-loop chance-over-μ-loop)
-    → let a = c .before .before .before .before .before .before .before .args in
-    let l = c .before .loop in
-    Child (slices (a .kind .now) (a .stop .now) (a .weight .now) (a .height .now)) (a .g) (a .c) (a .end) (l .i) (c .stop-at .result) (l .n) (length (l .leaves)) 0 0
-chance-over-first t c =
-    let x = c .stop-at in
-    child-of (c .before .loop .inv) (x .result) 0 0 (x .ensures) (omega arith) (omega arith)
-
-chance-over-chain-end-requires : (t : ℕ) → chance-over-lts.Need-chain-end-requires (chance-over-claims t) (chance-over-at t) chance-over.Post chance-over-Inv-loop chance-over-μ-loop
-chance-over-chain-end-requires t c κs = child-chain (chance-over-first t c)
-
--- at the place where the end of the chain from the child was found
-chance-over-near : (t : ℕ) (c : chance-over-lts.After-chain-end (chance-over-claims t) (chance-over-at t) chance-over.Post chance-over-Inv-loop chance-over-μ-loop)
-    → let a = c .before .before .before .before .before .before .before .before .args in
-    let l = c .before .before .loop in
-    Child (slices (a .kind .now) (a .stop .now) (a .weight .now) (a .height .now)) (a .g) (a .c) (a .end) (c .chain-end .result) (c .before .stop-at .result) (l .n) (length (l .leaves)) 0 0
-chance-over-near t c = child-last (chance-over-first t (c .before)) (c .chain-end .ensures)
-
 chance-over-kind-at-requires : (t : ℕ) → chance-over-lts.Need-kind-at-requires (chance-over-claims t) (chance-over-at t) chance-over.Post chance-over-Inv-loop chance-over-μ-loop
-chance-over-kind-at-requires t c κs = child-kind (chance-over-near t c)
+chance-over-kind-at-requires t c κs =
+    let R = c .before .loop .inv .ready in
+    omega (arith, R .some, R .holds .kinds)
 
 chance-over-weight-at-requires : (t : ℕ) → chance-over-lts.Need-weight-at-requires (chance-over-claims t) (chance-over-at t) chance-over.Post chance-over-Inv-loop chance-over-μ-loop
 chance-over-weight-at-requires t c κs =
-    let R = c .before .before .before .loop .inv .ready in
+    let R = c .before .before .loop .inv .ready in
     omega (arith, R .some, R .holds .weights)
 
--- the child's weight
-chance-over-weight : (t : ℕ) (c : chance-over-lts.After-weight-at (chance-over-claims t) (chance-over-at t) chance-over.Post chance-over-Inv-loop chance-over-μ-loop) → (0 < c .weight-at .result) × (c .weight-at .result ≤ c .before .before .before .before .before .before .before .before .before .before .args .g .total)
+-- at the place where the child's weight was read: the window does not matter for a leaf
+chance-over-near : (t : ℕ) (c : chance-over-lts.After-weight-at (chance-over-claims t) (chance-over-at t) chance-over.Post chance-over-Inv-loop chance-over-μ-loop)
+    → let a = c .before .before .before .before .before .before .before .before .before .args in
+    let l = c .before .before .before .loop in
+    Child (slices (a .kind .now) (a .stop .now) (a .weight .now) (a .height .now)) (a .g) (a .c) (a .end) (l .i) (c .before .before .stop-at .result) (l .n) (length (l .leaves)) 0 0
+chance-over-near t c =
+    let x = c .before .before .stop-at in
+    child-of (c .before .before .before .loop .inv) (x .result) 0 0 (x .ensures) (omega arith) (omega arith)
+
+-- its weight
+chance-over-weight : (t : ℕ) (c : chance-over-lts.After-weight-at (chance-over-claims t) (chance-over-at t) chance-over.Post chance-over-Inv-loop chance-over-μ-loop) → (0 < c .weight-at .result) × (c .weight-at .result ≤ c .before .before .before .before .before .before .before .before .before .args .g .total)
 chance-over-weight t c =
-    let a = c .before .before .before .before .before .before .before .before .before .before .args in
-    let l = c .before .before .before .before .loop in
+    let a = c .before .before .before .before .before .before .before .before .before .args in
+    let l = c .before .before .before .loop in
     let R = l .inv .ready in
     let st = step (slices (a .kind .now) (a .stop .now) (a .weight .now) (a .height .now)) (l .i) (a .end) (R .nodes) (R .spans) (R .some) in
     let u = fit-weight CHANCE (a .g) (R .nodes) (st .some) (R .fit) refl in
@@ -150,32 +138,30 @@ chance-over-weight t c =
     (omega (arith, h .ensures, st .weight, u .0), omega (arith, h .ensures, st .weight, u .1))
 
 chance-over-leaf-at-requires : (t : ℕ) → chance-over-lts.Need-leaf-at-requires (chance-over-claims t) (chance-over-at t) chance-over.Post chance-over-Inv-loop chance-over-μ-loop
-chance-over-leaf-at-requires t c κs = child-leaf (chance-over-near t (c .before .before .before .before)) _ (c .before .before .before .kind-at .ensures) (c .before .if1 .taken)
+chance-over-leaf-at-requires t c κs = child-leaf (chance-over-near t (c .before .before)) _ (c .before .before .before .kind-at .ensures) (c .before .if1 .taken)
 
 chance-over-chance-window-requires : (t : ℕ) → chance-over-lts.Need-chance-window-requires (chance-over-claims t) (chance-over-at t) chance-over.Post chance-over-Inv-loop chance-over-μ-loop
 chance-over-chance-window-requires t c κs =
-    let R = c .before .before .before .before .before .loop .inv .ready in
+    let R = c .before .before .before .before .loop .inv .ready in
     let u = chance-over-weight t (c .before) in
     (R .rule, R .bounds, R .chance .under, R .chance .above, u .0, u .1)
 
 -- at the place where the child's window was made
 chance-over-child : (t : ℕ) (c : chance-over-lts.After-chance-window (chance-over-claims t) (chance-over-at t) chance-over.Post chance-over-Inv-loop chance-over-μ-loop)
-    → let a = c .before .before .before .before .before .before .before .before .before .before .before .before .args in
-    let l = c .before .before .before .before .before .before .loop in
+    → let a = c .before .before .before .before .before .before .before .before .before .before .before .args in
+    let l = c .before .before .before .before .before .loop in
     let v = c .chance-window in
-    Child (slices (a .kind .now) (a .stop .now) (a .weight .now) (a .height .now)) (a .g) (a .c) (a .end) (c .before .before .before .before .chain-end .result) (c .before .before .before .before .before .stop-at .result) (l .n) (length (l .leaves)) (v .result .alpha) (v .result .beta)
+    Child (slices (a .kind .now) (a .stop .now) (a .weight .now) (a .height .now)) (a .g) (a .c) (a .end) (l .i) (c .before .before .before .before .stop-at .result) (l .n) (length (l .leaves)) (v .result .alpha) (v .result .beta)
 chance-over-child t c =
-    let a = c .before .before .before .before .before .before .before .before .before .before .before .before .args in
-    let l = c .before .before .before .before .before .before .loop in
+    let a = c .before .before .before .before .before .before .before .before .before .before .before .args in
+    let l = c .before .before .before .before .before .loop in
     let R = l .inv .ready in
-    let x = c .before .before .before .before .before .stop-at in
+    let x = c .before .before .before .before .stop-at in
     let h = c .before .before .weight-at in
     let v = c .chance-window in
-    child-last
-    (child-of (l .inv) (x .result) (v .result .alpha) (v .result .beta) (x .ensures)
+    child-of (l .inv) (x .result) (v .result .alpha) (v .result .beta) (x .ensures)
     (omega (arith, v .ensures .0, alpha-ok CHANCE (a .g) (h .result) (l .t) (R .bounds)))
-    (omega (arith, v .ensures .1, beta-ok CHANCE (a .g) (h .result) (l .t) (R .bounds))))
-    (c .before .before .before .before .chain-end .ensures)
+    (omega (arith, v .ensures .1, beta-ok CHANCE (a .g) (h .result) (l .t) (R .bounds)))
 
 chance-over-add-max-over : (t : ℕ) → chance-over-lts.Need-add-max-over (chance-over-claims t) (chance-over-at t) chance-over.Post chance-over-Inv-loop chance-over-μ-loop
 chance-over-add-max-over t c = omega (arith, chance-over-child t (c .before .before) .small)
@@ -183,7 +169,7 @@ chance-over-add-max-over t c = omega (arith, chance-over-child t (c .before .bef
 chance-over-max-over-requires : (t : ℕ) → chance-over-lts.Need-max-over-requires (chance-over-claims t) (chance-over-at t) chance-over.Post chance-over-Inv-loop chance-over-μ-loop
 chance-over-max-over-requires t c κs =
     let p = c .before .before .before .before in
-    child-asks (chance-over-child t (c .before .before)) t (p .before .before .before .before .before .before .before .before .before .before .pre .0) MAX (sym (p .before .kind-at .ensures) ∙ c .before .if2 .taken)
+    child-asks (chance-over-child t (c .before .before)) t (p .before .before .before .before .before .before .before .before .before .pre .0) MAX (sym (p .before .kind-at .ensures) ∙ c .before .if2 .taken)
 
 chance-over-add-min-over : (t : ℕ) → chance-over-lts.Need-add-min-over (chance-over-claims t) (chance-over-at t) chance-over.Post chance-over-Inv-loop chance-over-μ-loop
 chance-over-add-min-over t c = omega (arith, chance-over-child t (c .before .before .before) .small)
@@ -191,7 +177,7 @@ chance-over-add-min-over t c = omega (arith, chance-over-child t (c .before .bef
 chance-over-min-over-requires : (t : ℕ) → chance-over-lts.Need-min-over-requires (chance-over-claims t) (chance-over-at t) chance-over.Post chance-over-Inv-loop chance-over-μ-loop
 chance-over-min-over-requires t c κs =
     let p = c .before .before .before .before .before in
-    child-asks (chance-over-child t (c .before .before .before)) t (p .before .before .before .before .before .before .before .before .before .before .pre .0) MIN (sym (p .before .kind-at .ensures) ∙ c .before .if3 .taken)
+    child-asks (chance-over-child t (c .before .before .before)) t (p .before .before .before .before .before .before .before .before .before .pre .0) MIN (sym (p .before .kind-at .ensures) ∙ c .before .if3 .taken)
 
 chance-over-add-chance-over : (t : ℕ) → chance-over-lts.Need-add-chance-over (chance-over-claims t) (chance-over-at t) chance-over.Post chance-over-Inv-loop chance-over-μ-loop
 chance-over-add-chance-over t c = omega (arith, chance-over-child t (c .before .before .before) .small)
@@ -200,70 +186,64 @@ chance-over-chance-over-requires : (t : ℕ) → chance-over-lts.Need-chance-ove
 chance-over-chance-over-requires t c κs =
     let p = c .before .before .before .before .before in
     let C = chance-over-child t (c .before .before .before) in
-    child-asks C t (p .before .before .before .before .before .before .before .before .before .before .pre .0) CHANCE
+    child-asks C t (p .before .before .before .before .before .before .before .before .before .pre .0) CHANCE
     (child-three C _ (p .before .kind-at .ensures) (c .before .before .before .before .if1 .left) (c .before .before .if2 .left) (c .before .if3 .left))
 
 -- at the place where the four ways meet: what the search of the child told
 chance-over-joined : (t : ℕ) (c : chance-over-lts.Joined1 (chance-over-claims t) (chance-over-at t) chance-over.Post chance-over-Inv-loop chance-over-μ-loop)
-    → let a = c .before .before .before .before .before .before .before .before .before .before .before .args in
-    let l = c .before .before .before .before .before .loop in
+    → let a = c .before .before .before .before .before .before .before .before .before .before .args in
+    let l = c .before .before .before .before .loop in
     let w : ℕ = getD (a .weight .now) (l .i) 0 in
-    NodeSearched (slices (a .kind .now) (a .stop .now) (a .weight .now) (a .height .now)) (a .g) (c .before .before .before .chain-end .result) (l .n) (alphaFor CHANCE (a .g) w (l .t)) (betaFor CHANCE (a .g) w (l .t)) (l .leaves) (c .if1 .r) (c .if1 .leaves)
+    NodeSearched (slices (a .kind .now) (a .stop .now) (a .weight .now) (a .height .now)) (a .g) (l .i) (l .n) (alphaFor CHANCE (a .g) w (l .t)) (betaFor CHANCE (a .g) w (l .t)) (l .leaves) (c .if1 .r) (c .if1 .leaves)
 chance-over-joined t c =
-    let a = c .before .before .before .before .before .before .before .before .before .before .before .args in
-    let l = c .before .before .before .before .before .loop in
+    let a = c .before .before .before .before .before .before .before .before .before .before .args in
+    let l = c .before .before .before .before .loop in
     let k = c .before .before .kind-at in
-    let C = chance-over-near t (c .before .before .before) in
-    let x = sym (C .node .stop) in
+    let x = c .before .before .before .stop-at in
     let h = c .before .weight-at .ensures in
     ⊎-elim
     (λ w. searched-same (w .6) (w .5) (searched-leaf (sym (k .ensures) ∙ w .0 .taken) (w .2 .ensures)))
     (⊎-elim
-    (λ w. searched-same (w .8) (w .7) (searched-window (l .t) (l .i) h (w .1 .ensures .0) (w .1 .ensures .1)
-    (searched-inner MAX (sym (k .ensures) ∙ w .2 .taken) x (w .4 .ensures) (w .4 .kept .1 .1 .1 .1 .0))))
+    (λ w. searched-same (w .8) (w .7) (searched-window (l .t) h (w .1 .ensures .0) (w .1 .ensures .1)
+    (searched-inner MAX (sym (k .ensures) ∙ w .2 .taken) (x .ensures) (w .4 .ensures) (w .4 .kept .1 .1 .1 .1 .0))))
     (⊎-elim
-    (λ w. searched-same (w .9) (w .8) (searched-window (l .t) (l .i) h (w .1 .ensures .0) (w .1 .ensures .1)
-    (searched-inner MIN (sym (k .ensures) ∙ w .3 .taken) x (w .5 .ensures) (w .5 .kept .1 .1 .1 .1 .0))))
-    (λ w. searched-same (w .9) (w .8) (searched-window (l .t) (l .i) h (w .1 .ensures .0) (w .1 .ensures .1)
-    (searched-inner CHANCE (child-three C _ (k .ensures) (w .0 .left) (w .2 .left) (w .3 .left))
-    x (w .5 .ensures) (w .5 .kept .1 .1 .1 .1 .0))))))
+    (λ w. searched-same (w .9) (w .8) (searched-window (l .t) h (w .1 .ensures .0) (w .1 .ensures .1)
+    (searched-inner MIN (sym (k .ensures) ∙ w .3 .taken) (x .ensures) (w .5 .ensures) (w .5 .kept .1 .1 .1 .1 .0))))
+    (λ w. searched-same (w .9) (w .8) (searched-window (l .t) h (w .1 .ensures .0) (w .1 .ensures .1)
+    (searched-inner CHANCE (child-three (chance-over-near t (c .before)) _ (k .ensures) (w .0 .left) (w .2 .left) (w .3 .left))
+    (x .ensures) (w .5 .ensures) (w .5 .kept .1 .1 .1 .1 .0))))))
     (c .if1 .came)
-
--- and of the child
-chance-over-told : (t : ℕ) (c : chance-over-lts.Joined1 (chance-over-claims t) (chance-over-at t) chance-over.Post chance-over-Inv-loop chance-over-μ-loop)
-    → let a = c .before .before .before .before .before .before .before .before .before .before .before .args in
-    let l = c .before .before .before .before .before .loop in
-    ChildTold (slices (a .kind .now) (a .stop .now) (a .weight .now) (a .height .now)) (a .g) CHANCE (l .t) (l .i) (a .end) (l .n) (length (l .leaves)) (c .if1 .r) (l .leaves) (c .if1 .leaves)
-chance-over-told t c = last-tells (c .before .before .before .before .before .loop .inv .ready) (c .before .before .before .before .stop-at .ensures) (c .before .before .before .chain-end .ensures) (chance-over-joined t c .tells)
 
 chance-over-chance-after-requires : (t : ℕ) → chance-over-lts.Need-chance-after-requires (chance-over-claims t) (chance-over-at t) chance-over.Post chance-over-Inv-loop chance-over-μ-loop
 chance-over-chance-after-requires t c κs =
-    let a = c .before .before .before .before .before .before .before .before .before .before .before .args in
-    let l = c .before .before .before .before .before .loop in
+    let a = c .before .before .before .before .before .before .before .before .before .before .args in
+    let l = c .before .before .before .before .loop in
     let R = l .inv .ready in
     let u = chance-over-weight t (c .before) in
+    let S = chance-over-joined t c in
     let T = (slices (a .kind .now) (a .stop .now) (a .weight .now) (a .height .now)) in
-    let q = within T (a .g) CHANCE (l .t) (l .i) (a .end) (l .n) (length (l .leaves)) R (c .if1 .r) (l .leaves) (c .if1 .leaves) (chance-over-told t c) in
+    let q = within T (a .g) CHANCE (l .t) (l .i) (a .end) (l .n) (length (l .leaves)) R (c .if1 .r) (l .leaves) (c .if1 .leaves) (S .tells) in
     (R .rule, R .bounds, u .1, q .0, q .1)
 
 -- after the child: one turn of the loop
 chance-over-turn : (t : ℕ) (c : chance-over-lts.After-chance-after (chance-over-claims t) (chance-over-at t) chance-over.Post chance-over-Inv-loop chance-over-μ-loop)
-    → let a = c .before .before .before .before .before .before .before .before .before .before .before .before .args in
+    → let a = c .before .before .before .before .before .before .before .before .before .before .before .args in
     Turn (slices (a .kind .now) (a .stop .now) (a .weight .now) (a .height .now)) (a .g) CHANCE (start CHANCE (a .g) (a .alpha) (a .beta)) (a .c) (a .end) (a .used) (a .leaves .now)
-    (c .before .before .before .before .before .before .loop .i) (c .before .before .before .before .before .stop-at .result) (c .before .if1 .r) (c .chance-after .result) (c .before .if1 .leaves)
+    (c .before .before .before .before .before .loop .i) (c .before .before .before .before .stop-at .result) (c .before .if1 .r) (c .chance-after .result) (c .before .if1 .leaves)
 chance-over-turn t c =
-    let a = c .before .before .before .before .before .before .before .before .before .before .before .before .args in
-    let l = c .before .before .before .before .before .before .loop in
+    let a = c .before .before .before .before .before .before .before .before .before .before .before .args in
+    let l = c .before .before .before .before .before .loop in
     let f = c .chance-after in
+    let S = chance-over-joined t (c .before) in
     record {
       s = l .t;
       used = l .n;
       came = l .leaves;
       going = l .inv;
-      stop = c .before .before .before .before .before .stop-at .ensures;
-      told = chance-over-told t (c .before);
+      stop = c .before .before .before .before .stop-at .ensures;
+      told = S .tells;
       state = chance-state (a .g) (l .i) (c .before .if1 .r) (l .t) (f .result) (f .ensures) (c .before .before .weight-at .ensures);
-      kept = chance-over-joined t (c .before) .kept;
+      kept = S .kept;
     }
 
 chance-over-same-length : (t : ℕ) → chance-over-lts.Need-same-length (chance-over-claims t) (chance-over-at t) chance-over.Post chance-over-Inv-loop chance-over-μ-loop
@@ -294,8 +274,6 @@ abbrev max-over-claims : ℕ → max-over-lts.Claims
 max-over-claims t = (
   stop-at-reads.Asked,
   stop-at-reads.Learnt,
-  chain-end-reads.Asked,
-  chain-end-reads.Learnt,
   kind-at-reads.Asked,
   kind-at-reads.Learnt,
   leaf-at-reads.Asked,
@@ -331,78 +309,69 @@ max-over-stop-at-requires t c κs =
     let R = c .loop .inv .ready in
     omega (arith, R .some, R .holds .stops)
 
--- at the place where the child's stop was read
-max-over-first : (t : ℕ) (c : max-over-lts.After-stop-at (max-over-claims t) (max-over-at t) max-over.Post max-over-Inv-loop max-over-μ-loop)
-    → let a = c .before .before .before .before .before .before .before .args in
-    let l = c .before .loop in
-    Child (slices (a .kind .now) (a .stop .now) (a .weight .now) (a .height .now)) (a .g) (a .c) (a .end) (l .i) (c .stop-at .result) (l .n) (length (l .leaves)) (l .t .alpha) (l .t .beta)
-max-over-first t c =
-    let l = c .before .loop in
-    let R = l .inv .ready in
-    let x = c .stop-at in
-    child-of (l .inv) (x .result) (l .t .alpha) (l .t .beta) (x .ensures) (R .bounds .alpha) (R .bounds .beta)
+max-over-kind-at-requires : (t : ℕ) → max-over-lts.Need-kind-at-requires (max-over-claims t) (max-over-at t) max-over.Post max-over-Inv-loop max-over-μ-loop
+max-over-kind-at-requires t c κs =
+    let R = c .before .loop .inv .ready in
+    omega (arith, R .some, R .holds .kinds)
 
-max-over-chain-end-requires : (t : ℕ) → max-over-lts.Need-chain-end-requires (max-over-claims t) (max-over-at t) max-over.Post max-over-Inv-loop max-over-μ-loop
-max-over-chain-end-requires t c κs = child-chain (max-over-first t c)
-
--- at the place where the end of the chain from the child was found
-max-over-child : (t : ℕ) (c : max-over-lts.After-chain-end (max-over-claims t) (max-over-at t) max-over.Post max-over-Inv-loop max-over-μ-loop)
+-- at the place where the child's kind was read
+max-over-child : (t : ℕ) (c : max-over-lts.After-kind-at (max-over-claims t) (max-over-at t) max-over.Post max-over-Inv-loop max-over-μ-loop)
     → let a = c .before .before .before .before .before .before .before .before .args in
     let l = c .before .before .loop in
-    Child (slices (a .kind .now) (a .stop .now) (a .weight .now) (a .height .now)) (a .g) (a .c) (a .end) (c .chain-end .result) (c .before .stop-at .result) (l .n) (length (l .leaves)) (l .t .alpha) (l .t .beta)
-max-over-child t c = child-last (max-over-first t (c .before)) (c .chain-end .ensures)
-
-max-over-kind-at-requires : (t : ℕ) → max-over-lts.Need-kind-at-requires (max-over-claims t) (max-over-at t) max-over.Post max-over-Inv-loop max-over-μ-loop
-max-over-kind-at-requires t c κs = child-kind (max-over-child t c)
+    Child (slices (a .kind .now) (a .stop .now) (a .weight .now) (a .height .now)) (a .g) (a .c) (a .end) (l .i) (c .before .stop-at .result) (l .n) (length (l .leaves)) (l .t .alpha) (l .t .beta)
+max-over-child t c =
+    let l = c .before .before .loop in
+    let R = l .inv .ready in
+    let x = c .before .stop-at in
+    child-of (l .inv) (x .result) (l .t .alpha) (l .t .beta) (x .ensures) (R .bounds .alpha) (R .bounds .beta)
 
 max-over-leaf-at-requires : (t : ℕ) → max-over-lts.Need-leaf-at-requires (max-over-claims t) (max-over-at t) max-over.Post max-over-Inv-loop max-over-μ-loop
-max-over-leaf-at-requires t c κs = child-leaf (max-over-child t (c .before .before .before)) _ (c .before .before .kind-at .ensures) (c .before .if1 .taken)
+max-over-leaf-at-requires t c κs = child-leaf (max-over-child t (c .before .before)) _ (c .before .before .kind-at .ensures) (c .before .if1 .taken)
 
 max-over-add-max-over : (t : ℕ) → max-over-lts.Need-add-max-over (max-over-claims t) (max-over-at t) max-over.Post max-over-Inv-loop max-over-μ-loop
-max-over-add-max-over t c = omega (arith, max-over-child t (c .before .before .before .before) .small)
+max-over-add-max-over t c = omega (arith, max-over-child t (c .before .before .before) .small)
 
 max-over-max-over-requires : (t : ℕ) → max-over-lts.Need-max-over-requires (max-over-claims t) (max-over-at t) max-over.Post max-over-Inv-loop max-over-μ-loop
 max-over-max-over-requires t c κs =
     let p = c .before .before .before in
-    child-asks (max-over-child t (c .before .before .before .before)) t (p .before .before .before .before .before .before .before .before .before .pre .0) MAX (sym (p .kind-at .ensures) ∙ c .before .if2 .taken)
+    child-asks (max-over-child t (c .before .before .before)) t (p .before .before .before .before .before .before .before .before .pre .0) MAX (sym (p .kind-at .ensures) ∙ c .before .if2 .taken)
 
 max-over-add-min-over : (t : ℕ) → max-over-lts.Need-add-min-over (max-over-claims t) (max-over-at t) max-over.Post max-over-Inv-loop max-over-μ-loop
-max-over-add-min-over t c = omega (arith, max-over-child t (c .before .before .before .before .before) .small)
+max-over-add-min-over t c = omega (arith, max-over-child t (c .before .before .before .before) .small)
 
 max-over-min-over-requires : (t : ℕ) → max-over-lts.Need-min-over-requires (max-over-claims t) (max-over-at t) max-over.Post max-over-Inv-loop max-over-μ-loop
 max-over-min-over-requires t c κs =
     let p = c .before .before .before .before in
-    child-asks (max-over-child t (c .before .before .before .before .before)) t (p .before .before .before .before .before .before .before .before .before .pre .0) MIN (sym (p .kind-at .ensures) ∙ c .before .if3 .taken)
+    child-asks (max-over-child t (c .before .before .before .before)) t (p .before .before .before .before .before .before .before .before .pre .0) MIN (sym (p .kind-at .ensures) ∙ c .before .if3 .taken)
 
 max-over-add-chance-over : (t : ℕ) → max-over-lts.Need-add-chance-over (max-over-claims t) (max-over-at t) max-over.Post max-over-Inv-loop max-over-μ-loop
-max-over-add-chance-over t c = omega (arith, max-over-child t (c .before .before .before .before .before) .small)
+max-over-add-chance-over t c = omega (arith, max-over-child t (c .before .before .before .before) .small)
 
 max-over-chance-over-requires : (t : ℕ) → max-over-lts.Need-chance-over-requires (max-over-claims t) (max-over-at t) max-over.Post max-over-Inv-loop max-over-μ-loop
 max-over-chance-over-requires t c κs =
     let p = c .before .before .before .before in
-    let C = max-over-child t (c .before .before .before .before .before) in
-    child-asks C t (p .before .before .before .before .before .before .before .before .before .pre .0) CHANCE
+    let C = max-over-child t (c .before .before .before .before) in
+    child-asks C t (p .before .before .before .before .before .before .before .before .pre .0) CHANCE
     (child-three C _ (p .kind-at .ensures) (c .before .before .before .if1 .left) (c .before .before .if2 .left) (c .before .if3 .left))
 
 -- at the place where the four ways meet: what the search of the child told
 max-over-joined : (t : ℕ) (c : max-over-lts.Joined1 (max-over-claims t) (max-over-at t) max-over.Post max-over-Inv-loop max-over-μ-loop)
-    → let a = c .before .before .before .before .before .before .before .before .before .before .args in
-    let l = c .before .before .before .before .loop in
-    NodeSearched (slices (a .kind .now) (a .stop .now) (a .weight .now) (a .height .now)) (a .g) (c .before .before .chain-end .result) (l .n) (l .t .alpha) (l .t .beta) (l .leaves) (c .if1 .r) (c .if1 .leaves)
+    → let a = c .before .before .before .before .before .before .before .before .before .args in
+    let l = c .before .before .before .loop in
+    NodeSearched (slices (a .kind .now) (a .stop .now) (a .weight .now) (a .height .now)) (a .g) (l .i) (l .n) (l .t .alpha) (l .t .beta) (l .leaves) (c .if1 .r) (c .if1 .leaves)
 max-over-joined t c =
-    let a = c .before .before .before .before .before .before .before .before .before .before .args in
-    let l = c .before .before .before .before .loop in
+    let a = c .before .before .before .before .before .before .before .before .before .args in
+    let l = c .before .before .before .loop in
     let k = c .before .kind-at in
-    let C = max-over-child t (c .before .before) in
-    let x = sym (C .node .stop) in
+    let x = c .before .before .stop-at in
     ⊎-elim
     (λ w. searched-same (w .6) (w .5) (searched-leaf (sym (k .ensures) ∙ w .0 .taken) (w .2 .ensures)))
     (⊎-elim
-    (λ w. searched-same (w .7) (w .6) (searched-inner MAX (sym (k .ensures) ∙ w .1 .taken) x (w .3 .ensures) (w .3 .kept .1 .1 .1 .1 .0)))
+    (λ w. searched-same (w .7) (w .6) (searched-inner MAX (sym (k .ensures) ∙ w .1 .taken) (x .ensures) (w .3 .ensures) (w .3 .kept .1 .1 .1 .1 .0)))
     (⊎-elim
-    (λ w. searched-same (w .8) (w .7) (searched-inner MIN (sym (k .ensures) ∙ w .2 .taken) x (w .4 .ensures) (w .4 .kept .1 .1 .1 .1 .0)))
-    (λ w. searched-same (w .8) (w .7) (searched-inner CHANCE (child-three C _ (k .ensures) (w .0 .left) (w .1 .left) (w .2 .left))
-    x (w .4 .ensures) (w .4 .kept .1 .1 .1 .1 .0)))))
+    (λ w. searched-same (w .8) (w .7) (searched-inner MIN (sym (k .ensures) ∙ w .2 .taken) (x .ensures) (w .4 .ensures) (w .4 .kept .1 .1 .1 .1 .0)))
+    (λ w. searched-same (w .8) (w .7) (searched-inner CHANCE (child-three (max-over-child t (c .before)) _ (k .ensures) (w .0 .left) (w .1 .left) (w .2 .left))
+    (x .ensures) (w .4 .ensures) (w .4 .kept .1 .1 .1 .1 .0)))))
     (c .if1 .came)
 
 max-over-max-after-requires : (t : ℕ) → max-over-lts.Need-max-after-requires (max-over-claims t) (max-over-at t) max-over.Post max-over-Inv-loop max-over-μ-loop
@@ -410,13 +379,12 @@ max-over-max-after-requires t c κs = search needs
 
 -- after the child: one turn of the loop
 max-over-turn : (t : ℕ) (c : max-over-lts.After-max-after (max-over-claims t) (max-over-at t) max-over.Post max-over-Inv-loop max-over-μ-loop)
-    → let a = c .before .before .before .before .before .before .before .before .before .before .before .args in
+    → let a = c .before .before .before .before .before .before .before .before .before .before .args in
     Turn (slices (a .kind .now) (a .stop .now) (a .weight .now) (a .height .now)) (a .g) MAX (start MAX (a .g) (a .alpha) (a .beta)) (a .c) (a .end) (a .used) (a .leaves .now)
-    (c .before .before .before .before .before .loop .i) (c .before .before .before .before .stop-at .result) (c .before .if1 .r) (c .max-after .result) (c .before .if1 .leaves)
+    (c .before .before .before .before .loop .i) (c .before .before .before .stop-at .result) (c .before .if1 .r) (c .max-after .result) (c .before .if1 .leaves)
 max-over-turn t c =
-    let a = c .before .before .before .before .before .before .before .before .before .before .before .args in
-    let l = c .before .before .before .before .before .loop in
-    let x = c .before .before .before .before .stop-at in
+    let a = c .before .before .before .before .before .before .before .before .before .before .args in
+    let l = c .before .before .before .before .loop in
     let f = c .max-after in
     let S = max-over-joined t (c .before) in
     record {
@@ -424,8 +392,8 @@ max-over-turn t c =
       used = l .n;
       came = l .leaves;
       going = l .inv;
-      stop = x .ensures;
-      told = last-tells (l .inv .ready) (x .ensures) (c .before .before .before .chain-end .ensures) (S .tells);
+      stop = c .before .before .before .stop-at .ensures;
+      told = S .tells;
       state = f .ensures;
       kept = S .kept;
     }
@@ -458,8 +426,6 @@ abbrev min-over-claims : ℕ → min-over-lts.Claims
 min-over-claims t = (
   stop-at-reads.Asked,
   stop-at-reads.Learnt,
-  chain-end-reads.Asked,
-  chain-end-reads.Learnt,
   kind-at-reads.Asked,
   kind-at-reads.Learnt,
   leaf-at-reads.Asked,
@@ -495,78 +461,69 @@ min-over-stop-at-requires t c κs =
     let R = c .loop .inv .ready in
     omega (arith, R .some, R .holds .stops)
 
--- at the place where the child's stop was read
-min-over-first : (t : ℕ) (c : min-over-lts.After-stop-at (min-over-claims t) (min-over-at t) min-over.Post min-over-Inv-loop min-over-μ-loop)
-    → let a = c .before .before .before .before .before .before .before .args in
-    let l = c .before .loop in
-    Child (slices (a .kind .now) (a .stop .now) (a .weight .now) (a .height .now)) (a .g) (a .c) (a .end) (l .i) (c .stop-at .result) (l .n) (length (l .leaves)) (l .t .alpha) (l .t .beta)
-min-over-first t c =
-    let l = c .before .loop in
-    let R = l .inv .ready in
-    let x = c .stop-at in
-    child-of (l .inv) (x .result) (l .t .alpha) (l .t .beta) (x .ensures) (R .bounds .alpha) (R .bounds .beta)
+min-over-kind-at-requires : (t : ℕ) → min-over-lts.Need-kind-at-requires (min-over-claims t) (min-over-at t) min-over.Post min-over-Inv-loop min-over-μ-loop
+min-over-kind-at-requires t c κs =
+    let R = c .before .loop .inv .ready in
+    omega (arith, R .some, R .holds .kinds)
 
-min-over-chain-end-requires : (t : ℕ) → min-over-lts.Need-chain-end-requires (min-over-claims t) (min-over-at t) min-over.Post min-over-Inv-loop min-over-μ-loop
-min-over-chain-end-requires t c κs = child-chain (min-over-first t c)
-
--- at the place where the end of the chain from the child was found
-min-over-child : (t : ℕ) (c : min-over-lts.After-chain-end (min-over-claims t) (min-over-at t) min-over.Post min-over-Inv-loop min-over-μ-loop)
+-- at the place where the child's kind was read
+min-over-child : (t : ℕ) (c : min-over-lts.After-kind-at (min-over-claims t) (min-over-at t) min-over.Post min-over-Inv-loop min-over-μ-loop)
     → let a = c .before .before .before .before .before .before .before .before .args in
     let l = c .before .before .loop in
-    Child (slices (a .kind .now) (a .stop .now) (a .weight .now) (a .height .now)) (a .g) (a .c) (a .end) (c .chain-end .result) (c .before .stop-at .result) (l .n) (length (l .leaves)) (l .t .alpha) (l .t .beta)
-min-over-child t c = child-last (min-over-first t (c .before)) (c .chain-end .ensures)
-
-min-over-kind-at-requires : (t : ℕ) → min-over-lts.Need-kind-at-requires (min-over-claims t) (min-over-at t) min-over.Post min-over-Inv-loop min-over-μ-loop
-min-over-kind-at-requires t c κs = child-kind (min-over-child t c)
+    Child (slices (a .kind .now) (a .stop .now) (a .weight .now) (a .height .now)) (a .g) (a .c) (a .end) (l .i) (c .before .stop-at .result) (l .n) (length (l .leaves)) (l .t .alpha) (l .t .beta)
+min-over-child t c =
+    let l = c .before .before .loop in
+    let R = l .inv .ready in
+    let x = c .before .stop-at in
+    child-of (l .inv) (x .result) (l .t .alpha) (l .t .beta) (x .ensures) (R .bounds .alpha) (R .bounds .beta)
 
 min-over-leaf-at-requires : (t : ℕ) → min-over-lts.Need-leaf-at-requires (min-over-claims t) (min-over-at t) min-over.Post min-over-Inv-loop min-over-μ-loop
-min-over-leaf-at-requires t c κs = child-leaf (min-over-child t (c .before .before .before)) _ (c .before .before .kind-at .ensures) (c .before .if1 .taken)
+min-over-leaf-at-requires t c κs = child-leaf (min-over-child t (c .before .before)) _ (c .before .before .kind-at .ensures) (c .before .if1 .taken)
 
 min-over-add-max-over : (t : ℕ) → min-over-lts.Need-add-max-over (min-over-claims t) (min-over-at t) min-over.Post min-over-Inv-loop min-over-μ-loop
-min-over-add-max-over t c = omega (arith, min-over-child t (c .before .before .before .before) .small)
+min-over-add-max-over t c = omega (arith, min-over-child t (c .before .before .before) .small)
 
 min-over-max-over-requires : (t : ℕ) → min-over-lts.Need-max-over-requires (min-over-claims t) (min-over-at t) min-over.Post min-over-Inv-loop min-over-μ-loop
 min-over-max-over-requires t c κs =
     let p = c .before .before .before in
-    child-asks (min-over-child t (c .before .before .before .before)) t (p .before .before .before .before .before .before .before .before .before .pre .0) MAX (sym (p .kind-at .ensures) ∙ c .before .if2 .taken)
+    child-asks (min-over-child t (c .before .before .before)) t (p .before .before .before .before .before .before .before .before .pre .0) MAX (sym (p .kind-at .ensures) ∙ c .before .if2 .taken)
 
 min-over-add-min-over : (t : ℕ) → min-over-lts.Need-add-min-over (min-over-claims t) (min-over-at t) min-over.Post min-over-Inv-loop min-over-μ-loop
-min-over-add-min-over t c = omega (arith, min-over-child t (c .before .before .before .before .before) .small)
+min-over-add-min-over t c = omega (arith, min-over-child t (c .before .before .before .before) .small)
 
 min-over-min-over-requires : (t : ℕ) → min-over-lts.Need-min-over-requires (min-over-claims t) (min-over-at t) min-over.Post min-over-Inv-loop min-over-μ-loop
 min-over-min-over-requires t c κs =
     let p = c .before .before .before .before in
-    child-asks (min-over-child t (c .before .before .before .before .before)) t (p .before .before .before .before .before .before .before .before .before .pre .0) MIN (sym (p .kind-at .ensures) ∙ c .before .if3 .taken)
+    child-asks (min-over-child t (c .before .before .before .before)) t (p .before .before .before .before .before .before .before .before .pre .0) MIN (sym (p .kind-at .ensures) ∙ c .before .if3 .taken)
 
 min-over-add-chance-over : (t : ℕ) → min-over-lts.Need-add-chance-over (min-over-claims t) (min-over-at t) min-over.Post min-over-Inv-loop min-over-μ-loop
-min-over-add-chance-over t c = omega (arith, min-over-child t (c .before .before .before .before .before) .small)
+min-over-add-chance-over t c = omega (arith, min-over-child t (c .before .before .before .before) .small)
 
 min-over-chance-over-requires : (t : ℕ) → min-over-lts.Need-chance-over-requires (min-over-claims t) (min-over-at t) min-over.Post min-over-Inv-loop min-over-μ-loop
 min-over-chance-over-requires t c κs =
     let p = c .before .before .before .before in
-    let C = min-over-child t (c .before .before .before .before .before) in
-    child-asks C t (p .before .before .before .before .before .before .before .before .before .pre .0) CHANCE
+    let C = min-over-child t (c .before .before .before .before) in
+    child-asks C t (p .before .before .before .before .before .before .before .before .pre .0) CHANCE
     (child-three C _ (p .kind-at .ensures) (c .before .before .before .if1 .left) (c .before .before .if2 .left) (c .before .if3 .left))
 
 -- at the place where the four ways meet: what the search of the child told
 min-over-joined : (t : ℕ) (c : min-over-lts.Joined1 (min-over-claims t) (min-over-at t) min-over.Post min-over-Inv-loop min-over-μ-loop)
-    → let a = c .before .before .before .before .before .before .before .before .before .before .args in
-    let l = c .before .before .before .before .loop in
-    NodeSearched (slices (a .kind .now) (a .stop .now) (a .weight .now) (a .height .now)) (a .g) (c .before .before .chain-end .result) (l .n) (l .t .alpha) (l .t .beta) (l .leaves) (c .if1 .r) (c .if1 .leaves)
+    → let a = c .before .before .before .before .before .before .before .before .before .args in
+    let l = c .before .before .before .loop in
+    NodeSearched (slices (a .kind .now) (a .stop .now) (a .weight .now) (a .height .now)) (a .g) (l .i) (l .n) (l .t .alpha) (l .t .beta) (l .leaves) (c .if1 .r) (c .if1 .leaves)
 min-over-joined t c =
-    let a = c .before .before .before .before .before .before .before .before .before .before .args in
-    let l = c .before .before .before .before .loop in
+    let a = c .before .before .before .before .before .before .before .before .before .args in
+    let l = c .before .before .before .loop in
     let k = c .before .kind-at in
-    let C = min-over-child t (c .before .before) in
-    let x = sym (C .node .stop) in
+    let x = c .before .before .stop-at in
     ⊎-elim
     (λ w. searched-same (w .6) (w .5) (searched-leaf (sym (k .ensures) ∙ w .0 .taken) (w .2 .ensures)))
     (⊎-elim
-    (λ w. searched-same (w .7) (w .6) (searched-inner MAX (sym (k .ensures) ∙ w .1 .taken) x (w .3 .ensures) (w .3 .kept .1 .1 .1 .1 .0)))
+    (λ w. searched-same (w .7) (w .6) (searched-inner MAX (sym (k .ensures) ∙ w .1 .taken) (x .ensures) (w .3 .ensures) (w .3 .kept .1 .1 .1 .1 .0)))
     (⊎-elim
-    (λ w. searched-same (w .8) (w .7) (searched-inner MIN (sym (k .ensures) ∙ w .2 .taken) x (w .4 .ensures) (w .4 .kept .1 .1 .1 .1 .0)))
-    (λ w. searched-same (w .8) (w .7) (searched-inner CHANCE (child-three C _ (k .ensures) (w .0 .left) (w .1 .left) (w .2 .left))
-    x (w .4 .ensures) (w .4 .kept .1 .1 .1 .1 .0)))))
+    (λ w. searched-same (w .8) (w .7) (searched-inner MIN (sym (k .ensures) ∙ w .2 .taken) (x .ensures) (w .4 .ensures) (w .4 .kept .1 .1 .1 .1 .0)))
+    (λ w. searched-same (w .8) (w .7) (searched-inner CHANCE (child-three (min-over-child t (c .before)) _ (k .ensures) (w .0 .left) (w .1 .left) (w .2 .left))
+    (x .ensures) (w .4 .ensures) (w .4 .kept .1 .1 .1 .1 .0)))))
     (c .if1 .came)
 
 min-over-min-after-requires : (t : ℕ) → min-over-lts.Need-min-after-requires (min-over-claims t) (min-over-at t) min-over.Post min-over-Inv-loop min-over-μ-loop
@@ -574,13 +531,12 @@ min-over-min-after-requires t c κs = search needs
 
 -- after the child: one turn of the loop
 min-over-turn : (t : ℕ) (c : min-over-lts.After-min-after (min-over-claims t) (min-over-at t) min-over.Post min-over-Inv-loop min-over-μ-loop)
-    → let a = c .before .before .before .before .before .before .before .before .before .before .before .args in
+    → let a = c .before .before .before .before .before .before .before .before .before .before .args in
     Turn (slices (a .kind .now) (a .stop .now) (a .weight .now) (a .height .now)) (a .g) MIN (start MIN (a .g) (a .alpha) (a .beta)) (a .c) (a .end) (a .used) (a .leaves .now)
-    (c .before .before .before .before .before .loop .i) (c .before .before .before .before .stop-at .result) (c .before .if1 .r) (c .min-after .result) (c .before .if1 .leaves)
+    (c .before .before .before .before .loop .i) (c .before .before .before .stop-at .result) (c .before .if1 .r) (c .min-after .result) (c .before .if1 .leaves)
 min-over-turn t c =
-    let a = c .before .before .before .before .before .before .before .before .before .before .before .args in
-    let l = c .before .before .before .before .before .loop in
-    let x = c .before .before .before .before .stop-at in
+    let a = c .before .before .before .before .before .before .before .before .before .before .args in
+    let l = c .before .before .before .before .loop in
     let f = c .min-after in
     let S = min-over-joined t (c .before) in
     record {
@@ -588,8 +544,8 @@ min-over-turn t c =
       used = l .n;
       came = l .leaves;
       going = l .inv;
-      stop = x .ensures;
-      told = last-tells (l .inv .ready) (x .ensures) (c .before .before .before .chain-end .ensures) (S .tells);
+      stop = c .before .before .before .stop-at .ensures;
+      told = S .tells;
       state = f .ensures;
       kept = S .kept;
     }
@@ -623,7 +579,6 @@ pub +chance-over+max-over+min-over-spec : {M : Type 1} → statement M
     chance-over-μ-loop
     (chance-over-loop-holds t)
     (chance-over-stop-at-requires t)
-    (chance-over-chain-end-requires t)
     (chance-over-kind-at-requires t)
     (chance-over-weight-at-requires t)
     (chance-over-leaf-at-requires t)
@@ -648,7 +603,6 @@ pub +chance-over+max-over+min-over-spec : {M : Type 1} → statement M
     max-over-μ-loop
     (max-over-loop-holds t)
     (max-over-stop-at-requires t)
-    (max-over-chain-end-requires t)
     (max-over-kind-at-requires t)
     (max-over-leaf-at-requires t)
     (max-over-add-max-over t)
@@ -671,7 +625,6 @@ pub +chance-over+max-over+min-over-spec : {M : Type 1} → statement M
     min-over-μ-loop
     (min-over-loop-holds t)
     (min-over-stop-at-requires t)
-    (min-over-chain-end-requires t)
     (min-over-kind-at-requires t)
     (min-over-leaf-at-requires t)
     (min-over-add-max-over t)

@@ -39,7 +39,7 @@ min-of-requires : tie.Need-min-of-requires
 min-of-requires c κs = search needs
 
 returns : tie.Need-returns
-returns c = state-eq _ _ (omega arith) (omega arith) refl (omega arith) refl
+returns c = state-eq _ _ refl (omega arith) (omega arith) (omega arith) refl
 
 pub chance-after-spec : {M : Type 1} → statement M
 chance-after-spec =

@@ -33,8 +33,8 @@ grains c = ap (λ (h : ℕ). h * c .before .before .before .before .args .grain)
 mul-h : tie.Need-mul-h
 mul-h c = record { fits = omega (arith, grains c, c .before .before .before .before .pre .3) }
 
-add-t8 : tie.Need-add-t8
-add-t8 c = search needs
+add-n : tie.Need-add-n
+add-n c = search needs
 
 same-length : tie.Need-same-length
 same-length c = search needs
@@ -53,6 +53,6 @@ leaf-at-spec =
     shared-slice-read-wide32
     wide32-requires
     mul-h
-    add-t8
+    add-n
     same-length
     returns)

@@ -19,7 +19,7 @@ prefer-requires : tie.Need-prefer-requires
 prefer-requires c κs = search needs
 
 returns : tie.Need-returns
-returns c = state-eq _ _ (omega arith) refl (omega arith) (omega arith) (c .prefer .ensures)
+returns c = state-eq _ _ (omega arith) (omega arith) (omega arith) refl (c .prefer .ensures)
 
 pub max-after-spec : {M : Type 1} → statement M
 max-after-spec =
