@@ -249,10 +249,10 @@ fn completed(
     ensures { λ r. ⌜ r ≡ completeAt (now (kind .entry)) (now (stop .entry)) (now (weight .entry)) n h most leaves ⌝ }
 {
     let bare = first_childless(kind, stop, n);
+    let odd = first_unbalanced(kind, stop, weight, n, h.total);
     if bare < n {
         return Reading::Refused(Refusal::Childless(bare + 1));
     }
-    let odd = first_unbalanced(kind, stop, weight, n, h.total);
     if odd < n {
         return Reading::Refused(Refusal::WrongSum(odd + 1));
     }
