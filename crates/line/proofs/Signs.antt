@@ -47,7 +47,7 @@ mag-sub : (a b : ℕ) (t : Bool) → ltb a b ≡ t → mag (subℕ a b) ≤ a + 
 mag-sub a b true e = rw e (omega arith)
 mag-sub a b false e = rw e (omega arith)
 
-mag-add : (y z : ℤ) → mag (y +ℤ z) ≤ mag y + mag z + 1
+pub mag-add : (y z : ℤ) → mag (y +ℤ z) ≤ mag y + mag z + 1
 mag-add (pos m) (pos n) = omega arith
 mag-add (pos m) (negsuc n) = omega (arith, mag-sub m (suc n) (ltb m (suc n)) refl)
 mag-add (negsuc m) (pos n) = omega (arith, mag-sub n (suc m) (ltb n (suc m)) refl)
@@ -64,7 +64,3 @@ mag-diff y z h k = omega (arith, mag-add y (negℤ z), mag-neg z)
 pub nat-mag : (z : ℤ) → toNat z ≤ mag z
 nat-mag (pos n) = omega arith
 nat-mag (negsuc n) = omega arith
-
-pub mag-abs : (z : ℤ) → mag z ≤ natAbs z
-mag-abs (pos n) = omega arith
-mag-abs (negsuc n) = omega arith

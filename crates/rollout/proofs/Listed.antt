@@ -11,6 +11,7 @@ use Rattle.table.specs.Tree.{Kind, Forest, inner, isEnd, leaves}
 use Rattle.table.specs.Table.{Table, tree, readText, greatest, grain}
 use Rattle.table.specs.Slices.{heightTree}
 use Rattle.table.specs.Accepted.{span}
+use Rattle.table.proofs.Runs.{Numbered}
 use Rattle.table.proofs.Accepted.{accepted-leaves, heights-leaves, heights-proper, heights-rooted}
 use Rattle.worth.proofs.Worth.{rooted-some}
 use Rattle.search.specs.Heights.{grained}
@@ -18,7 +19,7 @@ use Rattle.rollout.specs.Rollout.{Kept, records, lows, firstOr, candidat
 use Rattle.rollout.specs.Whole.{rolled, rolledWorth, rolledStore}
 use Rattle.rollout.specs.Heights.{natural, heightRolled}
 use Rattle.rollout.specs.Raised.{mapPair, above}
-use Rattle.rollout.specs.Lists.{Store, lowAt, highAt, Room, Frame, Ready, pairs, Numbered, candidatesS, WalkS, RolledS, keep, walkS, rollS}
+use Rattle.rollout.specs.Lists.{Store, lowAt, highAt, Room, Frame, Ready, pairs, candidatesS, WalkS, RolledS, keep, walkS, rollS}
 use Rattle.rollout.specs.Sound.{Sound}
 use Rattle.rollout.proofs.Turns.{Reads, some-candidate, test-true}
 use Rattle.rollout.proofs.Rolls.{Rolls, still, rolls-more, rolls-sound, rolls-filled, root-reads, rootLow, rootHigh}

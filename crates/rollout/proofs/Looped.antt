@@ -14,6 +14,7 @@ use Rattle.table.specs.Accepted.{span}
 use Rattle.table.proofs.Accepted.{accepted-size, accepted-grain, heights-rooted}
 use Rattle.search.specs.Inside.{slices}
 use Rattle.search.proofs.Call.{root-some}
+use Rattle.table.proofs.Runs.{size}
 use Rattle.rollout.specs.declared.Step.{Step}
 use Rattle.rollout.specs.Rollout.{firstOr, candidate}
 use Rattle.rollout.specs.Heights.{natural}
@@ -35,8 +36,8 @@ laid-more l came m h =
     ∙ ap (λ (n : ℕ). (l ++ (m ∷ [])) ++ drop n came) (sym up)
 
 -- a leaf is a node
-leaves-few : (F : Forest ℕ) → leaves F ≤ lists.size F
-unfolding leaves lists.size
+leaves-few : (F : Forest ℕ) → leaves F ≤ size F
+unfolding leaves
 leaves-few end = omega arith
 leaves-few (leaf n w x rest) = omega (arith, leaves-few rest)
 leaves-few (inner n w k under rest) = omega (arith, leaves-few under, leaves-few rest)

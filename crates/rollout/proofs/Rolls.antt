@@ -5,8 +5,9 @@ use mathlib.Core.Bool.{Bool, true, false, cond}
 use mathlib.Core.List.{List, [], _∷_, _++_}
 use native.Mathlib.Omega.{arith}
 use borrow.Author.Tests.{ltb-true, ltb-false, lt-ltb, le-ltb}
-use lib.Dec.{ltb}
+use lib.Dec.{ltb, ltb→lt, nltb→le}
 use lib.ListN.{length}
+use Rattle.field.proofs.Small.{choose}
 use Rattle.rollout.specs.Rollout.{Kept, none, tip, knot, Walk, Rolled, lows, highs, firstOr, over, candidate, candidates, walk, roll}
 use Rattle.rollout.specs.Heights.{natural}
 use Rattle.rollout.specs.Leaves.{Drops, now, later, Picks, nothing, this}
@@ -14,10 +15,6 @@ use Rattle.rollout.specs.Sound.{Filled, Sound}
 use Rattle.rollout.proofs.Numbers.{drops-length}
 use Rattle.rollout.proofs.Folds.{Some, Beside, done, also, over-le}
 use Rattle.rollout.proofs.Turns.{Turns, at-tip, at-knot, past-tip, past-knot, Reads, some-lows, walk-reads, turns-filled, turns-sound}
-
-choose : {A : Type 0} {x y : A} (P : A → Type 0) (b : Bool) → (b ≡ true → P x) → (b ≡ false → P y) → P (cond b x y)
-choose P true f g = f refl
-choose P false f g = g refl
 
 -- ---- the exact worths
 
@@ -139,11 +136,11 @@ module _ (bottom top : ℕ) where
   roll-rolls zero p f i s = still
   roll-rolls (suc n) p f i s =
       choose (λ (r : Rolled ℕ). Rolls f (r .read) (r .kept)) (ltb (rootLow f) (rootHigh f))
-      (λ e.
+      (λ o.
       let r : Walk ℕ = walk natural (rootLow f) (rootHigh f) 0 p f in
-      let x : Reads f r = root-reads p f i s e in
+      let x : Reads f r = root-reads p f i s (lt-ltb (rootLow f) (rootHigh f) (ltb→lt (rootLow f) (rootHigh f) o)) in
       rw (x .read) (again (x .turns) (roll-rolls n (r .policy) (r .kept) (turns-sound (x .turns) i) (turns-filled (x .turns)))))
-      (λ e. still)
+      (λ _. still)
 
   -- as many walks as there are unread leaves are enough
   pub roll-closes : (n : ℕ) (p : List ℕ) (f : Kept ℕ) → Sound f → Filled f → length (unread f) ≤ n
@@ -156,11 +153,11 @@ module _ (bottom top : ℕ) where
       shut false e = refl
   roll-closes (suc n) p f i s m =
       choose (λ (r : Rolled ℕ). rootHigh (r .kept) ≤ rootLow (r .kept)) (ltb (rootLow f) (rootHigh f))
-      (λ e.
+      (λ o.
       let r : Walk ℕ = walk natural (rootLow f) (rootHigh f) 0 p f in
-      let x : Reads f r = root-reads p f i s e in
+      let x : Reads f r = root-reads p f i s (lt-ltb (rootLow f) (rootHigh f) (ltb→lt (rootLow f) (rootHigh f) o)) in
       roll-closes n (r .policy) (r .kept) (turns-sound (x .turns) i) (turns-filled (x .turns)) (omega (arith, drops-length (turns-drops (x .turns)))))
-      (λ e. ltb-false (rootLow f) (rootHigh f) e)
+      (λ o. nltb→le (rootLow f) (rootHigh f) o)
 
   -- the root's bounds hold its worth
   pub root-holds : (f : Kept ℕ) → Sound f → Filled f → (rootLow f ≤ firstOr 0 (exacts f)) × (firstOr 0 (exacts f) ≤ rootHigh f)

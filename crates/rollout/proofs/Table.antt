@@ -23,7 +23,7 @@ use Rattle.rollout.specs.Rollout.{Kept, fresh, firstOr, roll}
 use Rattle.rollout.specs.Whole.{hasChance}
 use Rattle.rollout.specs.Heights.{natural, heightRolled}
 use Rattle.rollout.specs.Leaves.{leafNodes, Picks, nothing, this, Distinct}
-use Rattle.rollout.specs.Lists.{size, Numbered}
+use Rattle.table.proofs.Runs.{size, Numbered}
 use Rattle.rollout.specs.Sound.{Filled, Sound}
 use Rattle.rollout.proofs.Rolls.{exacts, unread, Rolls, rootLow, rootHigh, roll-rolls, roll-ends, rolls-picks}
 use Rattle.rollout.proofs.Fresh.{fresh-filled, fresh-sound, fresh-exacts, grained-nodes, map-nodes, nodes-length, all-unread, none-unread}

@@ -67,7 +67,7 @@ some-candidate k α β f s p q o =
     let z : Shut α β (over natural k 0 (lows f)) (over natural k 0 (highs f)) = over-shut α β k 0 0 (some-lows f s) (all-shut α β f e) in
     omega arith)
 
-pick-less : (m : ℕ) (p : List ℕ) → 0 < m → pick m p < m
+pub pick-less : (m : ℕ) (p : List ℕ) → 0 < m → pick m p < m
 pick-less m [] h = h
 pick-less m (b ∷ p) h = mod-lt b h
 

@@ -3,7 +3,6 @@ use Prim.Native.Nat.{ℕ, suc, pred, _+_, _*_, _≤_, _<_, min, max}
 use mathlib.Core.Path.{_≡_, refl, sym, ap, ap₂, subst, subst₂, _∙_}
 use mathlib.Core.Bool.{Bool, true, false, _&&_, cond}
 use mathlib.Core.List.{List, [], _∷_}
-use native.Mathlib.Nat.{mod-lt}
 use native.Mathlib.Omega.{arith}
 use lib.Dec.{eqb}
 use lib.ListN.{getD}
@@ -13,13 +12,14 @@ use Rattle.search.specs.Inside.{slices}
 use Rattle.table.proofs.Spans.{spans-le}
 use Rattle.search.proofs.Forest.{stopOf}
 use Rattle.search.proofs.Rules.{code-pos}
-use Rattle.worth.proofs.Codes.{kind-code}
+use Rattle.table.proofs.Runs.{kind-code}
 use Rattle.rollout.specs.Rollout.{pick, spend, over, candidate}
 use Rattle.rollout.specs.Heights.{natural}
 use Rattle.rollout.specs.Sound.{Filled, Sound}
 use Rattle.rollout.specs.Lists.{Store, lowAt, highAt, put, lowsS, highsS, candidatesS, WalkS, keep, walkS}
 use Rattle.rollout.specs.Inside.{Row, boundsIn, chosen, Choice, Named, Chosen, Ready, readAt, updated, Rung}
 use Rattle.rollout.proofs.Folds.{Some, over-any}
+use Rattle.rollout.proofs.Turns.{pick-less}
 use Rattle.rollout.proofs.Listed.{inner-candidate}
 use Rattle.rollout.proofs.Rows.{spans-row, one-more, live, down-is, down-some, candidates-some}
 
@@ -187,10 +187,6 @@ module _ (t : Slices) (G α β c upto : ℕ) (st : Store) where
             ≡ updated k under m (walkS G (max α (lowAt st m)) (min β (highAt st m)) (pick (candidatesS (max α (lowAt st m)) (min β (highAt st m)) under st) p) (spend p) under st))
             (h .0) (inner-now G α β p st n w k under rest here (i .0));
       }
-
-pick-less : (m : ℕ) (p : List ℕ) → 0 < m → pick m p < m
-pick-less m [] h = h
-pick-less m (b ∷ p) h = mod-lt b h
 
 -- ---- the calls of a walk
 

@@ -51,18 +51,6 @@ pairs [] hs = []
 pairs (l ∷ ls) [] = []
 pairs (l ∷ ls) (h ∷ hs) = record { low = l; high = h } ∷ pairs ls hs
 
--- how many nodes
-unfoldable pub size : {A : Type 0} → Forest A → ℕ
-size end = 0
-size (leaf n w v rest) = 1 + size rest
-size (inner n w k under rest) = 1 + size under + size rest
-
--- the nodes are numbered from a on, in depth-first order
-unfoldable pub Numbered : {A : Type 0} → ℕ → Forest A → Type 0
-Numbered a end = Unit {0}
-Numbered a (leaf n w v rest) = (n ≡ a) × Numbered (a + 1) rest
-Numbered a (inner n w k under rest) = (n ≡ a) × Numbered (a + 1) under × Numbered (a + 1 + size under) rest
-
 -- the bounds of these nodes
 unfoldable pub lowsS : Forest ℕ → Store → List ℕ
 lowsS end st = []

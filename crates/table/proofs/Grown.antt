@@ -4,7 +4,7 @@ use mathlib.Core.Path.{_≡_, refl, sym, ap, ap₂, subst, _∙_}
 use mathlib.Core.Bool.{Bool, true, false, cond}
 use mathlib.Core.List.{List, [], _∷_, _++_, append-assoc}
 use native.Mathlib.Omega.{arith}
-use native.Mathlib.Nat.{le-trans, add-zero}
+use native.Mathlib.Nat.{add-zero}
 use lib.ListN.{length, getD, take, drop}
 use lib.Dec.{eqb}
 use lib.IntN.{ℤ, pos}
@@ -18,7 +18,7 @@ use Rattle.table.specs.Table.{prefix, nodeLines, greatest}
 use Rattle.line.specs.Line.{Within}
 use Rattle.table.specs.Accepted.{Proper, Rooted, flat, one}
 use Rattle.line.proofs.Signs.{true-ne-false}
-use Rattle.line.proofs.Fine.{Falling, Headed, climbed, Valued, Read, line-read}
+use Rattle.line.proofs.Fine.{Falling, falling-more, Headed, climbed, Valued, Read, line-read}
 use Rattle.table.proofs.Runs.{size, Numbered, code-inner, code-chance}
 
 -- ---- verdicts
@@ -82,10 +82,6 @@ module _ (h : Head) where
       rw (F .lines) (ap suc (r .0), omega (arith, F .read .chances, F .read .few, r .1))
 
 -- ---- the nodes below each step of a path
-
-falling-more : (a b : ℕ) (P : List Step) → a ≤ b → Falling a P → Falling b P
-falling-more a b [] h f = tt
-falling-more a b (s ∷ P) h f = (le-trans (f .0) h, f .1)
 
 -- a kind's number is that of a leaf or of an inner kind
 data Coded (n : ℕ) : Type 0 where

@@ -70,7 +70,7 @@ fn store(
     height[i] = height_of(l, lowest);
 }
 
-fn max_of(a: u64, b: u64) -> u64
+pub fn max_of(a: u64, b: u64) -> u64
     ensures { λ r. ⌜ r ≡ max a b ⌝ }
 {
     if a < b { b } else { a }
@@ -117,7 +117,7 @@ fn node_lines(
     Lines::Fine(most, leaves as usize)
 }
 
-fn index(x: u16) -> usize
+pub fn index(x: u16) -> usize
     ensures { λ r. ⌜ r ≡ x ⌝ }
 {
     x as usize

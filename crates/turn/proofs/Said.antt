@@ -1,5 +1,5 @@
 -- What an accepted header and an accepted node line have in their fields: what their texts are written from. Assumes nothing.
-use Prim.Native.Nat.{ℕ, zero, suc, _+_, _^_, _≤_, _<_}
+use Prim.Native.Nat.{ℕ, zero, suc, _^_, _≤_, _<_}
 use mathlib.Core.Path.{_≡_, refl, sym, ap, subst, _∙_}
 use mathlib.Core.Bool.{Bool, true, false, not, cond}
 use mathlib.Core.List.{List, [], _∷_}
@@ -8,7 +8,8 @@ use borrow.Author.Tests.{eqb-true, not-false}
 use lib.Dec.{eqb, eqb·suc-zero, lit<}
 use lib.ListN.{length, getD}
 use lib.IntN.{ℤ, pos, negsuc, natAbs}
-use lib.Signed.{mag, ltZ}
+use lib.Signed.{ltZ}
+use Rattle.field.proofs.Bits.{abs-mag}
 use Rattle.field.specs.Field.{fieldOf}
 use Rattle.field.specs.declared.Field.{Field}
 use Rattle.field.specs.declared.Field.the-variants.{Blank, Ill, Number}
@@ -132,10 +133,6 @@ pub record Said (s : List ℕ) (l : Line) : Type 0 where
 nat-abs : (z : ℤ) → toNat z ≤ natAbs z
 nat-abs (pos n) = omega arith
 nat-abs (negsuc n) = omega arith
-
-abs-mag : (z : ℤ) → natAbs z ≤ mag z + 1
-abs-mag (pos n) = omega arith
-abs-mag (negsuc n) = omega arith
 
 count-small : (s : List ℕ) (from width : ℕ) → 0 < 10 ^ width → countOf (fieldOf s from width) < 10 ^ width
 count-small s from width p = go (fieldOf s from width) refl
