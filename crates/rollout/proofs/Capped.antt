@@ -14,7 +14,7 @@ use Rattle.rollout.specs.Rollout.{Kept, none, tip, knot, fresh, lows, hi
 use Rattle.rollout.specs.Heights.{natural}
 use Rattle.rollout.specs.Lists.{Store, lowAt, highAt, keep}
 use Rattle.rollout.proofs.Folds.{Beside, done, also, over-both}
-use Rattle.rollout.proofs.Turns.{Turns, at-tip, at-knot, past-tip, past-knot, some-lows, some-highs, turns-filled}
+use Rattle.rollout.proofs.Turns.{Turns, at-tip, at-knot, past-tip, past-knot, some-lows, some-highs, turns-some}
 use Rattle.rollout.proofs.Rolls.{Rolls, still, again}
 
 module _ (S : ℕ) where
@@ -44,8 +44,8 @@ module _ (S : ℕ) where
   turns-capped (at-tip o) c = (c .0, c .0, c .0, c .3)
   turns-capped (at-knot {l} {h} {k} {under2} t) c =
       let u : Capped under2 = turns-capped t (c .2) in (
-        over-both (λ (x y : ℕ). x ≤ S) k (joined-capped k) l l (some-lows under2 (turns-filled t)) (lows-capped under2 u),
-        over-both (λ (x y : ℕ). x ≤ S) k (joined-capped k) h h (some-highs under2 (turns-filled t)) (highs-capped under2 u),
+        over-both (λ (x y : ℕ). x ≤ S) k (joined-capped k) l l (some-lows under2 (turns-some t)) (lows-capped under2 u),
+        over-both (λ (x y : ℕ). x ≤ S) k (joined-capped k) h h (some-highs under2 (turns-some t)) (highs-capped under2 u),
         u,
         c .3,
       )

@@ -14,7 +14,7 @@ use lib.ListN.{length, getD, set, length-map}
 use Rattle.line.proofs.Signs.{mag-add}
 use Rattle.rollout.specs.declared.Record.{Record}
 use lib.IntN.{ℤ, pos, _+ℤ_}
-use Rattle.rollout.specs.Filled.{risen, recordsOf, filled}
+use Rattle.rollout.specs.Records.{risen, recordsOf, filled}
 
 pub filled-none : (ls hs : List ℤ) (st : List Record) → st ≡ filled 0 ls hs st
 unfolding recordsOf

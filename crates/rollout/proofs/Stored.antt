@@ -14,10 +14,10 @@ use Rattle.search.specs.Heights.{grained}
 use Rattle.table.proofs.Runs.{size, Numbered}
 use Rattle.rollout.specs.Rollout.{Kept, tip, knot, Pair, Walk, Rolled, pick, spend, fresh, lows, highs, records, firstOr, over, candidate, candidates, walk, roll}
 use Rattle.rollout.specs.Heights.{natural}
-use Rattle.rollout.specs.Lists.{Store, lowAt, highAt, put, Room, At, Frame, pairs, lowsS, highsS, candidatesS, WalkS, RolledS, keep, walkS, rollS}
+use Rattle.rollout.specs.Lists.{Store, lowAt, highAt, putBoth, Room, At, Frame, pairs, lowsS, highsS, candidatesS, WalkS, RolledS, keep, walkS, rollS}
 
-put-other : (st : Store) (n l h i : ℕ) → i ≢ n → At st (put st n l h) i
-put-other st n l h i e = (getD-set-other (st .low) n i l 0 e, getD-set-other (st .high) n i h 0 e)
+put-both-other : (st : Store) (n l h i : ℕ) → i ≢ n → At st (putBoth st n l h) i
+put-both-other st n l h i e = (getD-set-other (st .low) n i l 0 e, getD-set-other (st .high) n i h 0 e)
 
 -- either way of a test
 both : {A B : Type 0} {x y : A} {u v : B} (P : A → B → Type 0) (b : Bool) → P x u → P y v → P (cond b x y) (cond b u v)
@@ -99,12 +99,12 @@ module _ (G : ℕ) where
     pub frame : Frame a (size F) st (r .store)
 
   now-leaf : (n w x : ℕ) (rest : Forest ℕ) (p : List ℕ) (st : Store) (a : ℕ) → Numbered a (leaf n w x rest) → Room (a + size (leaf n w x rest)) st
-      → Like a (leaf n w x rest) st (record { store = put st n (x * G) (x * G); read = n ∷ []; policy = p })
+      → Like a (leaf n w x rest) st (record { store = putBoth st n (x * G) (x * G); read = n ∷ []; policy = p })
       (record { kept = tip n (x * G) (x * G) (x * G) (keep G rest st); read = n ∷ []; policy = p })
   unfolding keep
   now-leaf n w x rest p st a q m =
       let v : ℕ = x * G in
-      let e : keep G rest (put st n v v) ≡ keep G rest st = keep-same rest (suc a) st (put st n v v) (q .1) (λ i b c. put-other st n v v i (omega (arith, q .0))) in
+      let e : keep G rest (putBoth st n v v) ≡ keep G rest st = keep-same rest (suc a) st (putBoth st n v v) (q .1) (λ i b c. put-both-other st n v v i (omega (arith, q .0))) in
       let l : getD (set (st .low) n v) n 0 ≡ v = getD-set-same (st .low) n v 0 (omega (arith, q .0)) in
       let h : getD (set (st .high) n v) n 0 ≡ v = getD-set-same (st .high) n v 0 (omega (arith, q .0)) in
       record {
@@ -114,8 +114,8 @@ module _ (G : ℕ) where
         frame = record {
           low = length-set (st .low) n v;
           high = length-set (st .high) n v;
-          before = λ i b. put-other st n v v i (omega (arith, q .0));
-          behind = λ i b. put-other st n v v i (omega (arith, q .0));
+          before = λ i b. put-both-other st n v v i (omega (arith, q .0));
+          behind = λ i b. put-both-other st n v v i (omega (arith, q .0));
         };
       }
 
@@ -159,7 +159,7 @@ module _ (G : ℕ) where
   now-inner : (n w L H : ℕ) (k : Kind) (under rest : Forest ℕ) (st : Store) (a : ℕ) (r : WalkS) (u : Walk ℕ) → Numbered a (inner n w k under rest)
       → Room (a + size (inner n w k under rest)) st → Like (suc a) under st r u
       → Like a (inner n w k under rest) st
-      (record { store = put (r .store) n (over natural k L (lowsS under (r .store))) (over natural k H (highsS under (r .store))); read = r .read; policy = r .policy })
+      (record { store = putBoth (r .store) n (over natural k L (lowsS under (r .store))) (over natural k H (highsS under (r .store))); read = r .read; policy = r .policy })
       (record { kept = knot n k (over natural k L (lows (u .kept))) (over natural k H (highs (u .kept))) (u .kept) (keep G rest st); read = u .read; policy = u .policy })
   unfolding keep
   now-inner n w L H k under rest st a r u q m i =
@@ -167,10 +167,10 @@ module _ (G : ℕ) where
       let z : ℕ = over natural k H (highsS under (r .store)) in
       let st2 : Store = r .store in
       let f = i .frame in
-      let d : keep G under (put st2 n v z) ≡ u .kept
-      = keep-same under (suc a) st2 (put st2 n v z) (q .1) (λ y b c. put-other st2 n v z y (omega (arith, q .0))) ∙ i .kept in
-      let e : keep G rest (put st2 n v z) ≡ keep G rest st
-      = keep-same rest (suc a + size under) st2 (put st2 n v z) (q .2) (λ y b c. put-other st2 n v z y (omega (arith, q .0)))
+      let d : keep G under (putBoth st2 n v z) ≡ u .kept
+      = keep-same under (suc a) st2 (putBoth st2 n v z) (q .1) (λ y b c. put-both-other st2 n v z y (omega (arith, q .0))) ∙ i .kept in
+      let e : keep G rest (putBoth st2 n v z) ≡ keep G rest st
+      = keep-same rest (suc a + size under) st2 (putBoth st2 n v z) (q .2) (λ y b c. put-both-other st2 n v z y (omega (arith, q .0)))
       ∙ keep-same rest (suc a + size under) st st2 (q .2) (λ y b c. f .behind y b) in
       let l : getD (set (st2 .low) n v) n 0 ≡ over natural k L (lows (u .kept))
       = getD-set-same (st2 .low) n v 0 (omega (arith, q .0, f .low)) ∙ ap (over natural k L) (lows-keep under st2 ∙ ap lows (i .kept)) in
@@ -183,8 +183,8 @@ module _ (G : ℕ) where
         frame = record {
           low = length-set (st2 .low) n v ∙ f .low;
           high = length-set (st2 .high) n z ∙ f .high;
-          before = λ y b. at-then st st2 (put st2 n v z) y (f .before y (omega arith)) (put-other st2 n v z y (omega (arith, q .0)));
-          behind = λ y b. at-then st st2 (put st2 n v z) y (f .behind y (omega arith)) (put-other st2 n v z y (omega (arith, q .0)));
+          before = λ y b. at-then st st2 (putBoth st2 n v z) y (f .before y (omega arith)) (put-both-other st2 n v z y (omega (arith, q .0)));
+          behind = λ y b. at-then st st2 (putBoth st2 n v z) y (f .behind y (omega arith)) (put-both-other st2 n v z y (omega (arith, q .0)));
         };
       }
 

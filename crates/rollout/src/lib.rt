@@ -6,7 +6,7 @@ ghost use lib.ListN.{length, getD, set, drop};
 ghost use Rattle.table.specs.Tree.{kindOf};
 ghost use Rattle.rollout.specs.Rollout.{spend, joined, candidate};
 ghost use Rattle.rollout.specs.Heights.{natural};
-ghost use Rattle.rollout.specs.Filled.{Small, risen, filled};
+ghost use Rattle.rollout.specs.Records.{SmallHeights, risen, filled};
 ghost use Rattle.rollout.specs.Inside.{stored, Children, Counted, Choice, Named, Chosen, Extreme, Updated, ReadyDown, WentDown, Climb, Climbed, ReadyWalk, Walked, ReadyRoll, WellRolled};
 use search::kind_at;
 use search::min_of;
@@ -324,7 +324,7 @@ pub struct Record {
 // The first n records of the lent store get the bounds, in grains above `base`; the others stay. A function over a slice of structs is proved
 // by hand.
 pub fn fill(store: &mut [Record], low: &[u64], high: &[u64], n: usize, base: i64)
-    requires { ⌜ (n ≤ length (now store)) × (n ≤ length (now low)) × (n ≤ length (now high)) × Small base n (now low) × Small base n (now high) ⌝ }
+    requires { ⌜ (n ≤ length (now store)) × (n ≤ length (now low)) × (n ≤ length (now high)) × SmallHeights base n (now low) × SmallHeights base n (now high) ⌝ }
     ensures { λ _. ⌜ now (store .exit) ≡ filled n (risen base (now (low .entry))) (risen base (now (high .entry))) (now (store .entry)) ⌝ }
 {
     let mut i = 0;

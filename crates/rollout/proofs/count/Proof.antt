@@ -5,13 +5,13 @@ use borrow.Author.Needs.{needs}
 use denote.Ref.{now}
 use Rattle.field.proofs.Small.{one-or-none}
 use Rattle.table.specs.Tree.{Forest}
-use Rattle.rollout.specs.Inside.{stored, Row}
+use Rattle.rollout.specs.Inside.{stored, Siblings}
 use Rattle.rollout.proofs.Rows.{First, Counting, count-start, count-first, count-turn, count-end}
 use Rattle.rollout.proofs.count.Statement.{statement}
 use Rattle.rollout.proofs.count.Tie as tie
 
 abbrev Inv-loop : tie.InvT-loop
-Inv-loop stop low high c e alpha beta m₀ i₀ m i = (m ≤ i) × ((F : Forest ℕ) → Row stop c e F → Counting stop e alpha beta (stored low high) F m i)
+Inv-loop stop low high c e alpha beta m₀ i₀ m i = (m ≤ i) × ((F : Forest ℕ) → Siblings stop c e F → Counting stop e alpha beta (stored low high) F m i)
 
 abbrev μ-loop : tie.MeasureT-loop
 μ-loop stop low high c e alpha beta m₀ i₀ m i = e - i
