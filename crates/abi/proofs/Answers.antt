@@ -17,7 +17,7 @@ use Rattle.engine.specs.Calls.{exactCall, judgeAnswer, judgeCall}
 use Rattle.engine.specs.declared.Bounds.{Bounds}
 use Rattle.engine.specs.declared.Rolled
 use Rattle.engine.specs.declared.Rolled.{Rolled}
-use Rattle.engine.proofs.Answered.{Sizes, Below}
+use Rattle.engine.proofs.Answered.{Sizes, PlayBelow}
 use Rattle.engine.proofs.RollAnswered.{RollSized}
 use Rattle.judge.specs.declared.Play.{Play}
 use Rattle.judge.specs.declared.Play.the-variants.{Child, NoPlay}
@@ -65,7 +65,7 @@ judge-line s i r e = line-at (readText s) refl e
 pub stored : {A : Type 0} {a b b′ : List A} {z z′ : A} (i : ℕ) → a ≡ set b i z → b ≡ b′ → z ≡ z′ → a ≡ set b′ i z′
 stored {A = A} i p q r = p ∙ ap₂ (λ (x : List A) (y : A). set x i y) q r
 
-node-small : (p : Play) → Below 1024 p → nodeNumber p < 1024
+node-small : (p : Play) → PlayBelow 1024 p → nodeNumber p < 1024
 node-small (Child n) h = h
 node-small NoPlay h = omega arith
 

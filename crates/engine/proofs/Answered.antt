@@ -75,16 +75,16 @@ module _ (s : List ℕ) (m : ℤ) (room : ℕ) (t : Table) (p : readText s ≡ f
 -- ---- sizes
 
 -- a play is a node below n
-abbrev pub Below : ℕ → Play → Type 0
-Below n (Child m) = m < n
-Below n NoPlay = Unit {0}
+abbrev pub PlayBelow : ℕ → Play → Type 0
+PlayBelow n (Child m) = m < n
+PlayBelow n NoPlay = Unit {0}
 
-below-of : (n : ℕ) (p : Option ℕ) → ((m : ℕ) → p ≡ some m → m < n) → Below n (playOf p)
+below-of : (n : ℕ) (p : Option ℕ) → ((m : ℕ) → p ≡ some m → m < n) → PlayBelow n (playOf p)
 below-of n none h = tt
 below-of n (some m) h = h m refl
 
 pub record Sizes (b : Bounds) : Type 0 where
-  pub play : Below 1024 (b .play)
+  pub play : PlayBelow 1024 (b .play)
   pub leaves : b .leaves ≤ 1024
   pub grain : b .grain ≤ 16777216
 

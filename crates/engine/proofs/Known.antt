@@ -13,7 +13,7 @@ use mir.Val.{toZ, ofZ}
 use Rattle.line.specs.declared.Line.{Line}
 use Rattle.line.specs.declared.Refusal.{Refusal}
 use Rattle.line.specs.Refusal.{Verdict, refused, fine}
-use Rattle.line.proofs.Signs.{mag-abs}
+use Rattle.field.proofs.Bits.{mag-abs}
 use Rattle.table.specs.declared.Summary.{Summary}
 use Rattle.table.specs.declared.Reading.{Reading}
 use Rattle.table.specs.declared.Reading.the-variants.{Accepted, Refused}

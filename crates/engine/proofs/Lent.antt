@@ -76,11 +76,11 @@ module _ {M : Type 1} (𝓤 : URA M) (H : Heap 𝓤) (A : Atoms 𝓤) (W : Given
       rewrite ! 1 (λ (k : ℕ). ‵ (flent κ (Held u64 k l 0 γ))) e refl $ at-once ! $ show ! (LentOut ℓ κ) γ $ done !))
 
   -- what is lent as a `&` slice
-  abbrev pub Whole : List ℕ → Fml
-  Whole zs = arr-parts (shares u64) n .part fullShare zs l 0
+  abbrev pub LentArray : List ℕ → Fml
+  LentArray zs = arr-parts (shares u64) n .part fullShare zs l 0
 
   abbrev pub LentIn : Lifetime → Lft → List ℕ → GName → SProp 𝓤
-  LentIn ℓ κ zs γ = sep 𝓤 (sem 𝓤 H A (ShrSlice ℓ κ u64 .own (lent-ref zs γ) (sliceVal (l, 0) n ∷ []))) (A .lent κ (Whole zs))
+  LentIn ℓ κ zs γ = sep 𝓤 (sem 𝓤 H A (ShrSlice ℓ κ u64 .own (lent-ref zs γ) (sliceVal (l, 0) n ∷ []))) (A .lent κ (LentArray zs))
 
   pub lends-in : (ℓ : Lifetime) (κ : Lft) (zs : List ℕ) → ent 𝓤 (sem 𝓤 H A (Arr (mem u64) n .lies zs l 0)) (H .⇛ (ex 𝓤 (LentIn ℓ κ zs)))
   lends-in ℓ κ zs =
@@ -92,10 +92,10 @@ module _ {M : Type 1} (𝓤 : URA M) (H : Heap 𝓤) (A : Atoms 𝓤) (W : Given
       rewrite ! 1 (λ (k : ℕ). ‵ (flent κ (arr-parts (shares u64) k .part fullShare zs l 0))) e refl $ at-once ! $ show ! (LentIn ℓ κ zs) γ $ done !))
 
   -- the array gives its room back
-  pub unlaid : (zs : List ℕ) → ent 𝓤 (sem 𝓤 H A (Whole zs)) (H .room (tyArray word n) l 0)
+  pub unlaid : (zs : List ℕ) → ent 𝓤 (sem 𝓤 H A (LentArray zs)) (H .room (tyArray word n) l 0)
   unfolding partOf
   unlaid zs =
-      qed W (‵ (Whole zs) ∷ []) ∵
+      qed W (‵ (LentArray zs) ∷ []) ∵
       use1 W (‵ (partAt (Array u64 n) fullShare zs l 0)) (array-whole 𝓤 H A W u64 fullShare n zs l 0) $ fpick ! (λ vs. fsplit ! $ move ! (1 ∷ []) $ fpick ! (λ us. fsplit ! $ fsplit ! $ feqL ! (λ e.
       move ! (2 ∷ []) $ rewrite ! 0 (λ (ws : List Val). ‵ (cellAt fullShare (tyArray word n ∷ []) ws l 0)) e refl $
       use1 W (‵ (fat fullShare (tyArray word n) l 0 (arrayVal us))) (W .laws .raw-at fullShare (tyArray word n) l 0 (arrayVal us)) $ keep ! (0 ∷ []) $ by ! (W .laws .at-room (tyArray word n) l 0 (arrayVal us)))))

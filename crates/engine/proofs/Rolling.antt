@@ -19,11 +19,11 @@ use Rattle.table.specs.Table.{Table, readText, tree, summary, answer, grain}
 use Rattle.table.specs.Slices.{kindsOf, stopsOf, heightsOf, fitted, laid, decoded}
 use Rattle.table.proofs.Accepted.{answer-accepted, accepted-size, accepted-leaves}
 use Rattle.worth.proofs.Worth.{span-grains}
+use Rattle.rollout.specs.Lists.{AtEnds}
 use Rattle.rollout.specs.declared.Record.{Record}
 use Rattle.rollout.specs.Rollout.{Pair}
 use Rattle.table.specs.Accepted.{span}
-use Rattle.rollout.specs.Lists as lists
-use Rattle.rollout.specs.Filled.{lowsOf, highsOf, risen, recordsOf, filled}
+use Rattle.rollout.specs.Records.{lowsOf, highsOf, risen, recordsOf, filled}
 use Rattle.rollout.specs.Inside.{stored, ReadyRoll, WellRolled}
 use Rattle.rollout.proofs.Given.{Given, accepted-roll-ready, accepted-rolled}
 use Rattle.engine.specs.declared.Rolled.the-variants.{Done, Refused}
@@ -112,8 +112,8 @@ module _ (s : List ℕ) (t : Summary) (e : answer (readText s) ≡ Accepted t) (
     (isK : K ≡ fitted (decoded kindsOf (readText s)) k₀) (isS : S ≡ fitted (decoded stopsOf (readText s)) s₀) (isH : H ≡ fitted (decoded heightsOf (readText s)) h₀)
     (zl zh : List ℕ) (isZ : zl ≡ replicate 1024 0) (long : length zh ≡ 1024) (top : ℕ) (isT : top ≡ scaleFor t .top) (begun : Started (t .nodes) top zh) where
   -- what is said with the slices that were read, for any verdict
-  abbrev Ready : Verdict Table → Summary → ℕ → Type 0
-  Ready v x room =
+  abbrev ReadySlices : Verdict Table → Summary → ℕ → Type 0
+  ReadySlices v x room =
       ReadyRoll (fitted (decoded kindsOf v) k₀) (fitted (decoded stopsOf v) s₀) (fitted (decoded heightsOf v) h₀) (x .grain) (x .nodes) (stored zl zh) room
 
   abbrev Well : Verdict Table → Summary → (P low high : List ℕ) → ℕ → (came now : List ℕ) → Type 0
@@ -127,22 +127,22 @@ module _ (s : List ℕ) (t : Summary) (e : answer (readText s) ≡ Accepted t) (
   begun-is : Begun t
   begun-is = λ i o. begun i o ∙ isT
 
-  begun-ready : (T : Table) → readText s ≡ fine T → Begun (summary T) → lists.Ready (length (T .lines)) (span (T .head) * grain T) (stored zl zh)
+  begun-ready : (T : Table) → readText s ≡ fine T → Begun (summary T) → AtEnds (length (T .lines)) (span (T .head) * grain T) (stored zl zh)
   begun-ready T p b =
       let z = accepted-size s T p .1 in
       let k : length zl ≡ 1024 = ap length isZ ∙ length-replicate {A = ℕ} 1024 0 in
       record { room = (omega (arith, k), omega arith); ends = λ i o. (ap (λ (l : List ℕ). getD l i 0) isZ ∙ getD-replicate 1024 i 0 0 (omega arith), b i o) }
 
-  ready-of : (T : Table) → readText s ≡ fine T → (room : ℕ) → summary T .leaves ≤ room → Begun (summary T) → Ready (readText s) (summary T) room
+  ready-of : (T : Table) → readText s ≡ fine T → (room : ℕ) → summary T .leaves ≤ room → Begun (summary T) → ReadySlices (readText s) (summary T) room
   ready-of T p room enough b =
       let z = accepted-size s T p .1 in
-      subst (λ (v : Verdict Table). Ready v (summary T) room) (sym p)
+      subst (λ (v : Verdict Table). ReadySlices v (summary T) room) (sym p)
       (accepted-roll-ready s T p k₀ s₀ w₀ h₀ (omega arith) (omega arith) (omega arith) (omega arith) (stored zl zh) (begun-ready T p b) room enough)
 
   pub roll-ready : (room : ℕ) → t .leaves ≤ room → ReadyRoll K S H (t .grain) (t .nodes) (stored zl zh) room
   roll-ready room enough =
       let (T, p, q) = answer-accepted (readText s) t e in
-      rw (isK, isS, isH) (subst (λ (x : Summary). x .leaves ≤ room → Begun x → Ready (readText s) x room) q (ready-of T p room) enough begun-is)
+      rw (isK, isS, isH) (subst (λ (x : Summary). x .leaves ≤ room → Begun x → ReadySlices (readText s) x room) q (ready-of T p room) enough begun-is)
 
   rolled-of : (P low high : List ℕ) (r : ℕ) (came now : List ℕ) (room : ℕ) (T : Table) → readText s ≡ fine T
       → summary T .chances ≤ 0 → (ltb (length came) (summary T .leaves) || ltb room (summary T .nodes)) ≡ false → summary T .leaves ≤ length came → Begun (summary T)

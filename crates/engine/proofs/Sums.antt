@@ -10,7 +10,7 @@ use borrow.Author.Tests.{lt-ltb}
 use mir.Syntax.{w64}
 use mir.Val.{SFits, toZ, ofZ}
 use mir.ValLaws.{toZ-ofZ}
-use Rattle.rollout.proofs.Filling.{mag-add}
+use Rattle.line.proofs.Signs.{mag-add}
 
 as-pos : (n : ℕ) → n < 2 ^ 63 → toZ w64 n ≡ pos n
 as-pos n h = toZ-ofZ w64 (pos n) (sfits-of h)
@@ -37,7 +37,7 @@ module _ (z : ℤ) (g h : ℕ) (hz : mag z ≤ 1000000) (hg : g ≤ 16777216) (h
       omega (arith, mag-mul z g)
 
   pub few-digits : mag (z *ℤ pos g +ℤ pos h) < 99999999999999
-  few-digits = omega (arith, product, mag-add (z *ℤ pos g) h)
+  few-digits = omega (arith, product, mag-add (z *ℤ pos g) (pos h))
 
   pub sum : mag (z *ℤ pos g +ℤ pos h) < 2 ^ 63
   sum = omega (arith, few-digits)
@@ -67,7 +67,7 @@ grains-back lowest grain height r a b c e =
 -- ---- the lowest end in grains
 
 pub base-small : (z : ℤ) (g : ℕ) → mag z ≤ 1000000 → g ≤ 16777216 → mag (z *ℤ pos g +ℤ pos 0) ≤ 35184372088832
-base-small z g hz hg = omega (arith, product z g 0 hz hg (omega arith), mag-add (z *ℤ pos g) 0)
+base-small z g hz hg = omega (arith, product z g 0 hz hg (omega arith), mag-add (z *ℤ pos g) (pos 0))
 
 pub plus-none : (z : ℤ) → z +ℤ pos 0 ≡ z
 plus-none (pos a) = ap pos (omega arith)

@@ -15,7 +15,7 @@ use Rattle.table.specs.Table.{Table, readText}
 use Rattle.table.specs.Slices.{laid}
 use Rattle.table.proofs.Places.{refused-line}
 use Rattle.turn.specs.Turn.{turnedText}
-use Rattle.turn.specs.Inside.{Ready, Turned}
+use Rattle.turn.specs.Inside.{ReadyText, Turned}
 use Rattle.turn.proofs.Canonical.{canonical}
 use Rattle.turn.proofs.Accepted.{turned-length}
 use Rattle.turn.proofs.Ready.{accepted-turns, accepted-turned}
@@ -39,9 +39,9 @@ module _ {s : List ℕ} {t : Summary} {K S W H : List ℕ} (G : Taken s t K S W 
   room-short l = of-table G (λ t K S W H. turnOf (readText s) (length d) ≡ refused NoRoom) (λ T p. turn-short s T (length d) p l)
 
   module _ (long : length s ≤ length d) where
-    pub turn-ready : Ready s K H (t .nodes) (t .lowest) (t .highest) d
+    pub turn-ready : ReadyText s K H (t .nodes) (t .lowest) (t .highest) d
     turn-ready =
-        of-table G (λ t K S W H. Ready s K H (t .nodes) (t .lowest) (t .highest) d) (λ T p.
+        of-table G (λ t K S W H. ReadyText s K H (t .nodes) (t .lowest) (t .highest) d) (λ T p.
         let z = zeros-enough s T p in accepted-turns s T p (canonical s T p) zeros zeros d z z long)
 
     -- b is the buffer after `turn`: so many bytes, and these

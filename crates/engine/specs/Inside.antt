@@ -12,7 +12,7 @@ use Rattle.table.specs.Table.{Table}
 use Rattle.table.specs.Slices.{laid}
 use Rattle.worth.specs.declared.Scale.{Scale}
 use Rattle.search.specs.declared.Rule.{Rule}
-use Rattle.rollout.specs.Filled.{lowsOf, highsOf, risen, Small}
+use Rattle.rollout.specs.Records.{lowsOf, highsOf, risen, SmallHeights}
 use Rattle.engine.specs.declared.Outcome.{Outcome}
 use Rattle.engine.specs.Calls.{rollCall, rollReads, rollStore}
 
@@ -45,5 +45,5 @@ pub record RollsTo (v : Verdict Table) (p : List ℕ) (room : ℕ) (o : Outcome)
   pub lists : now ≡ laid (rollReads v p (length came) room) came
   pub lows-are : risen (o .base) (take (o .nodes) low) ≡ lowsOf (rollStore v p (length came) room)
   pub highs-are : risen (o .base) (take (o .nodes) high) ≡ highsOf (rollStore v p (length came) room)
-  pub small-low : Small (o .base) (o .nodes) low
-  pub small-high : Small (o .base) (o .nodes) high
+  pub small-low : SmallHeights (o .base) (o .nodes) low
+  pub small-high : SmallHeights (o .base) (o .nodes) high

@@ -1,5 +1,5 @@
 -- Signed numbers of 64 bits: what fits is read back from its bits, and so is its negative. Assumes nothing.
-use Prim.Native.Nat.{ℕ, zero, suc, _^_, _≤_, _<_}
+use Prim.Native.Nat.{ℕ, zero, suc, _+_, _^_, _≤_, _<_}
 use mathlib.Core.Path.{_≡_, refl}
 use mathlib.Core.Bool.{Bool, true, false}
 use native.Mathlib.Omega.{arith}
@@ -15,6 +15,10 @@ use mir.ValLaws.{toZ-ofZ}
 pub mag-abs : (z : ℤ) → mag z ≤ natAbs z
 mag-abs (pos n) = omega arith
 mag-abs (negsuc n) = omega arith
+
+pub abs-mag : (z : ℤ) → natAbs z ≤ mag z + 1
+abs-mag (pos n) = omega arith
+abs-mag (negsuc n) = omega arith
 
 pub abs-neg : (z : ℤ) → natAbs (negℤ z) ≡ natAbs z
 abs-neg (pos zero) = refl

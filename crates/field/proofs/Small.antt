@@ -21,6 +21,10 @@ pub choose : {A : Type 0} {x y : A} (P : A → Type 0) (b : Bool) → (Holds b �
 choose P true f g = f tt
 choose P false f g = g tt
 
+pub one-or-none : (b : Bool) → cond b 1 0 ≤ 1
+one-or-none true = omega arith
+one-or-none false = omega arith
+
 -- a digit more, a digit less, and room to spare
 pub more-digits : (n i d : ℕ) → n < 10 ^ i → d < 10 → n * 10 + d < 10 ^ (i + 1)
 more-digits n i d h k = rw (add-one, pow-suc) (omega arith)

@@ -11,7 +11,7 @@ use Rattle.line.specs.declared.Head.{Head}
 use Rattle.line.specs.declared.Entry.{Entry}
 use Rattle.line.specs.declared.Heading.{Heading}
 use Rattle.line.specs.declared.Refusal.the-variants.{TooDeep, Misfilled, OutOfRange, IllWritten, Misnumbered, UnknownKind, WrongParent}
-use Rattle.line.specs.Line.{Step, Above, wrong, path, ancestors, stepsOf, isWrong, illEntry, holds, letterCode, placeOf, illHeading, wideHeading, headOf, headerFor, chancesOf, atChance, stepped, deep, misfilled, wideEntry, lineSaid, lateChecks, placed}
+use Rattle.line.specs.Line.{Step, Above, wrong, path, ancestors, stepsOf, isWrong, illEntry, hasNumber, letterCode, placeOf, illHeading, wideHeading, headOf, headerFor, chancesOf, atChance, stepped, deep, misfilled, wideEntry, lineSaid, lateChecks, placed}
 use Rattle.line.specs.Inside.{pathOf, placingOf}
 use Rattle.line.proofs.Path.{path-length}
 use Rattle.line.proofs.Signs.{true-ne-false}
@@ -73,10 +73,10 @@ module _ (h : Head) (i : ℕ) (e : Entry) (fifth last : ℕ) (P : List Step) whe
   place-ill x = unless-here _ _ _ x
 
   module _ (x : illEntry fifth last e ≡ false) where
-    pub place-number : holds i (e .number) ≡ false → refused (Misnumbered (i + 1)) ≡ placeOf h i e fifth last P
+    pub place-number : hasNumber i (e .number) ≡ false → refused (Misnumbered (i + 1)) ≡ placeOf h i e fifth last P
     place-number y = unless-here _ _ _ (ap not y) ∙ unless-on _ _ _ x
 
-    module _ (y : holds i (e .number) ≡ true) where
+    module _ (y : hasNumber i (e .number) ≡ true) where
       pub place-kind : letterCode (e .letter) ≡ 4 → refused (UnknownKind (i + 1)) ≡ placeOf h i e fifth last P
       place-kind z = unless-here _ _ _ (eq-eqb _ 4 z) ∙ unless-on _ _ _ (ap not y) ∙ unless-on _ _ _ x
 
@@ -102,8 +102,8 @@ module _ (n last : ℕ) (g : Heading) where
     head-wide y = unless-here _ _ _ y ∙ unless-on _ _ _ x
 
     module _ (y : wideHeading g ≡ false) where
-      pub head-count : holds n (g .count) ≡ false → refused (Misnumbered 0) ≡ headerFor n last g
+      pub head-count : hasNumber n (g .count) ≡ false → refused (Misnumbered 0) ≡ headerFor n last g
       head-count z = unless-here _ _ _ (ap not z) ∙ unless-on _ _ _ y ∙ unless-on _ _ _ x
 
-      pub head-fine : holds n (g .count) ≡ true → fine (headOf g) ≡ headerFor n last g
+      pub head-fine : hasNumber n (g .count) ≡ true → fine (headOf g) ≡ headerFor n last g
       head-fine z = unless-none _ ∙ unless-on _ _ _ (ap not z) ∙ unless-on _ _ _ y ∙ unless-on _ _ _ x

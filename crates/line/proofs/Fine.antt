@@ -12,15 +12,16 @@ use lib.IntN.{ℤ, pos, negsuc, natAbs}
 use lib.Signed.{mag, ltZ}
 use Rattle.field.specs.declared.Field.{Field}
 use Rattle.field.specs.declared.Field.the-variants.{Blank, Ill, Number}
+use Rattle.field.proofs.Bits.{mag-abs}
 use Rattle.line.specs.declared.Head.{Head}
 use Rattle.line.specs.declared.Heading.{Heading}
 use Rattle.line.specs.declared.Entry.{Entry}
 use Rattle.line.specs.declared.Refusal.{Refusal}
 use Rattle.line.specs.Refusal.{refused, fine, Check, unless, unlessAt}
-use Rattle.line.specs.Line.{isIll, isBlank, holds, outside, valueOf, toNat, countOf, headOf, headerChecks, headerFor, letterCode, Step, Above, wrong, path, climb, ancestors, isWrong, stepsOf, chancesOf, atChance, stepped, Placed, placed, lineChecks, placeOf}
+use Rattle.line.specs.Line.{isIll, isBlank, outside, valueOf, toNat, countOf, headOf, headerChecks, headerFor, letterCode, Step, Above, wrong, path, climb, ancestors, isWrong, stepsOf, chancesOf, atChance, stepped, Placed, placed, lineChecks, placeOf}
 use Rattle.line.specs.Line.{Ranged, Weighs, Within}
 use Rattle.line.specs.Inside.{Sized}
-use Rattle.line.proofs.Signs.{true-ne-false, mag-abs}
+use Rattle.line.proofs.Signs.{true-ne-false}
 use Rattle.line.proofs.Checks.{or-left, or-right}
 
 -- no check of the list holds
@@ -130,6 +131,10 @@ right-path (path P) e = refl
 abbrev pub Falling : ℕ → List Step → Type 0
 Falling n [] = Unit {0}
 Falling n (s ∷ P) = (s .node < n) × Falling (s .node) P
+
+pub falling-more : (a b : ℕ) (P : List Step) → a ≤ b → Falling a P → Falling b P
+falling-more a b [] h f = tt
+falling-more a b (s ∷ P) h f = (le-trans (f .0) h, f .1)
 
 -- the step of node p, which is no leaf, comes first
 abbrev pub Headed : ℕ → List Step → Type 0

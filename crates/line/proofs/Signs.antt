@@ -10,7 +10,7 @@ use lib.Signed.{mag, ltZ, nonNeg}
 use mir.Syntax.{w64}
 use mir.Val.{Fits}
 use Rattle.field.specs.declared.Field.the-variants.{Number}
-use Rattle.line.specs.Line.{toNat, holds}
+use Rattle.line.specs.Line.{toNat, hasNumber}
 
 pub true-ne-false : _≡_ {A = Bool} true false → ⊥
 true-ne-false e = let z : _≡_ {A = ℕ} 0 1 = cc in omega arith
@@ -34,20 +34,20 @@ pub nat-casts : (z : ℤ) → ltZ z (pos 0) ≡ false → mag z < 2 ^ 63 → T (
 nat-casts (pos n) t h = (tt, record { fits = omega arith })
 nat-casts (negsuc n) t h = absurd (no-pos n t)
 
-pub holds-neg : (n : ℕ) (z : ℤ) → ltZ z (pos 0) ≡ true → false ≡ holds n (Number z)
-holds-neg n (pos m) t = absurd (no-neg m t)
-holds-neg n (negsuc m) t = refl
+pub has-number-neg : (n : ℕ) (z : ℤ) → ltZ z (pos 0) ≡ true → false ≡ hasNumber n (Number z)
+has-number-neg n (pos m) t = absurd (no-neg m t)
+has-number-neg n (negsuc m) t = refl
 
-pub holds-nat : (n : ℕ) (z : ℤ) → ltZ z (pos 0) ≡ false → eqb (toNat z) n ≡ holds n (Number z)
-holds-nat n (pos m) t = refl
-holds-nat n (negsuc m) t = absurd (no-pos m t)
+pub has-number-nat : (n : ℕ) (z : ℤ) → ltZ z (pos 0) ≡ false → eqb (toNat z) n ≡ hasNumber n (Number z)
+has-number-nat n (pos m) t = refl
+has-number-nat n (negsuc m) t = absurd (no-pos m t)
 
 -- how large a difference is
 mag-sub : (a b : ℕ) (t : Bool) → ltb a b ≡ t → mag (subℕ a b) ≤ a + b
 mag-sub a b true e = rw e (omega arith)
 mag-sub a b false e = rw e (omega arith)
 
-mag-add : (y z : ℤ) → mag (y +ℤ z) ≤ mag y + mag z + 1
+pub mag-add : (y z : ℤ) → mag (y +ℤ z) ≤ mag y + mag z + 1
 mag-add (pos m) (pos n) = omega arith
 mag-add (pos m) (negsuc n) = omega (arith, mag-sub m (suc n) (ltb m (suc n)) refl)
 mag-add (negsuc m) (pos n) = omega (arith, mag-sub n (suc m) (ltb n (suc m)) refl)
@@ -64,7 +64,3 @@ mag-diff y z h k = omega (arith, mag-add y (negℤ z), mag-neg z)
 pub nat-mag : (z : ℤ) → toNat z ≤ mag z
 nat-mag (pos n) = omega arith
 nat-mag (negsuc n) = omega arith
-
-pub mag-abs : (z : ℤ) → mag z ≤ natAbs z
-mag-abs (pos n) = omega arith
-mag-abs (negsuc n) = omega arith

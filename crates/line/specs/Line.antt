@@ -30,11 +30,11 @@ isBlank Ill = false
 isBlank (Number z) = false
 
 -- the field holds the number n
-abbrev pub holds : ℕ → Field → Bool
-holds n Blank = false
-holds n Ill = false
-holds n (Number (pos m)) = eqb m n
-holds n (Number (negsuc m)) = false
+abbrev pub hasNumber : ℕ → Field → Bool
+hasNumber n Blank = false
+hasNumber n Ill = false
+hasNumber n (Number (pos m)) = eqb m n
+hasNumber n (Number (negsuc m)) = false
 
 -- the field holds a number below lo or above hi
 abbrev pub outside : ℤ → ℤ → Field → Bool
@@ -91,7 +91,7 @@ abbrev pub headerChecks : ℕ → ℕ → Heading → List Check
 headerChecks n last g =
     record { holds = illHeading last g; gives = IllWritten 0 }
     ∷ record { holds = wideHeading g; gives = OutOfRange 0 }
-    ∷ record { holds = not (holds n (g .count)); gives = Misnumbered 0 }
+    ∷ record { holds = not (hasNumber n (g .count)); gives = Misnumbered 0 }
     ∷ []
 
 abbrev pub headerFor : ℕ → ℕ → Heading → Verdict Head
@@ -207,7 +207,7 @@ lateChecks h i k e P =
 abbrev pub earlyChecks : ℕ → ℕ → Above → Entry → ℕ → ℕ → List Check
 earlyChecks i k a e fifth last =
     record { holds = illEntry fifth last e; gives = IllWritten (i + 1) }
-    ∷ record { holds = not (holds i (e .number)); gives = Misnumbered (i + 1) }
+    ∷ record { holds = not (hasNumber i (e .number)); gives = Misnumbered (i + 1) }
     ∷ record { holds = eqb k 4; gives = UnknownKind (i + 1) }
     ∷ record { holds = isWrong a; gives = WrongParent (i + 1) }
     ∷ []

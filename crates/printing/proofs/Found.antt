@@ -9,14 +9,13 @@ use native.Mathlib.Omega.{arith}
 use lib.Dec.{ltb}
 use lib.ListN.{length, take, drop}
 use lib.Seq.{take-append-seam}
-use lib.IntN.{ℤ, pos, negsuc, natAbs, _+ℤ_, _*ℤ_}
-use lib.Signed.{mag}
+use lib.IntN.{ℤ, pos, natAbs, _+ℤ_, _*ℤ_}
 use Rattle.line.specs.declared.Refusal.{Refusal}
 use Rattle.line.specs.declared.Refusal.the-variants.{NoRoom, BadMargin}
 use Rattle.line.specs.Refusal.{Verdict, refused, fine, unless, lineOf}
 use Rattle.line.specs.Line.{toNat}
 use Rattle.line.proofs.Fine.{unless-fine}
-use Rattle.line.proofs.Signs.{mag-abs}
+use Rattle.field.proofs.Bits.{mag-abs, abs-mag}
 use Rattle.table.specs.Tree.{leaves}
 use Rattle.table.specs.Table.{Table, readText, tree, grain}
 use Rattle.table.specs.Slices.{laid}
@@ -71,10 +70,6 @@ pub refused-low : (s : List ℕ) (m : ℤ) (room : ℕ) (r : Refusal) → sought
 refused-low s m room r e = refused-by (readText s) m room r (refused-line s) e
 
 -- ---- the numbers
-
-abs-mag : (z : ℤ) → natAbs z ≤ mag z + 1
-abs-mag (pos n) = omega arith
-abs-mag (negsuc n) = omega arith
 
 module _ (text : List ℕ) (t : Table) (h : readText text ≡ fine t) (ε : ℕ) where
   abbrev seen : Seen ℤ

@@ -1,21 +1,17 @@
 -- Counting the lines of root children. Assumes nothing.
 use Prim.Native.Nat.{ℕ, zero, suc, _+_, _-_, _*_, _≤_}
 use mathlib.Core.Path.{_≡_, sym, ap, ap₂, _∙_}
-use mathlib.Core.Bool.{Bool, true, false, cond}
 use mathlib.Core.List.{List}
 use native.Mathlib.Omega.{arith}
 use native.Mathlib.Numerals.{add-one}
 use lib.Dec.{eqb}
 use lib.ListN.{length, take, drop, length-drop}
 use lib.Seq.{length-take-le}
+use Rattle.field.proofs.Small.{one-or-none}
 use Rattle.field.specs.Field.{fieldOf}
 use Rattle.field.proofs.Reading.{part-of}
 use Rattle.line.specs.Line.{countOf}
 use Rattle.printing.specs.Inside.{childMark, childMarks}
-
-one-or-none : (b : Bool) → cond b 1 0 ≤ 1
-one-or-none true = omega arith
-one-or-none false = omega arith
 
 pub mark-few : (r : ℕ) (s : List ℕ) → r ≡ childMark s → r ≤ 1
 mark-few r s e = omega (arith, e, one-or-none (eqb (countOf (fieldOf s 6 5)) 0))

@@ -19,7 +19,7 @@ use Rattle.table.proofs.Accepted.{accepted-size, accepted-leaves, accepted-leaf
 use Rattle.search.specs.Whole.{searched}
 use Rattle.engine.specs.Calls.{badMargin, Sought, sought, boundsOf}
 use Rattle.engine.proofs.Searching.{sought-fine}
-use Rattle.printing.specs.Program.{Row, marginOf, tableOf, printed, leafRow, rowsOf, outputOf}
+use Rattle.printing.specs.Program.{WordLine, marginOf, tableOf, printed, leafRow, rowsOf, outputOf}
 use Rattle.printing.specs.Inside.{playMarks, boundRows}
 use Rattle.printing.proofs.Sizes.{refusal-size, found-size}
 use Rattle.printing.proofs.Found.{narrow, rows}
@@ -51,7 +51,7 @@ fits text m (fine s) e =
     let read : List ℕ = s .seen .read in
     let n = narrow text m 1024 s e k refl in
     let same : length (shown (fine s)) ≡ length (printed (boundRows (boundsOf s) k ++ map leafRow (take (length read) (laid read [])))) =
-    sym (ap (λ (l : List Row). length (printed l)) (rows text m 1024 s e k refl [])) in
+    sym (ap (λ (l : List WordLine). length (printed l)) (rows text m 1024 s e k refl [])) in
     let size = found-size (boundsOf s) k (take (length read) (laid read [])) n in
     let long : length (take (length read) (laid read [])) ≡ length read = ap length (take-append-seam read (drop (length read) [])) in
     omega (arith, same, size, long, n .leaves)

@@ -9,7 +9,7 @@ use Rattle.field.proofs.Width.{few-columns}
 use Rattle.line.specs.declared.Refusal.{Refusal}
 use Rattle.line.specs.Refusal.{numberOf, lineOf}
 use Rattle.engine.specs.declared.Bounds.{Bounds}
-use Rattle.printing.specs.Program.{Word, Low, High, Grain, Play, Leaves, Leaf, Refuse, Line, Row, columns, rowOf, printed, leafRow}
+use Rattle.printing.specs.Program.{Word, Low, High, Grain, Play, Leaves, Leaf, Refuse, Line, WordLine, columns, rowOf, printed, leafRow}
 use Rattle.printing.specs.Inside.{Narrow, boundRows, refusalRows}
 use Rattle.printing.proofs.Stores.{count-columns, row-size, printed-append, leaves-size}
 
@@ -25,11 +25,11 @@ word-size Refuse = refl
 word-size Line = refl
 
 -- rows whose numbers fit
-abbrev Fit : List Row → Type 0
+abbrev Fit : List WordLine → Type 0
 Fit [] = Unit {0}
 Fit (r ∷ rs) = (length (textOf (r .number)) ≤ 15) × Fit rs
 
-rows-size : (rs : List Row) → Fit rs → length (printed rs) ≡ 22 * length rs
+rows-size : (rs : List WordLine) → Fit rs → length (printed rs) ≡ 22 * length rs
 unfolding printed
 rows-size [] f = refl
 rows-size (r ∷ rs) f =

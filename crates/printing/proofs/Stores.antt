@@ -10,7 +10,7 @@ use lib.ListN.{length, getD, set, take, drop, length-append, length-replicate}
 use lib.Seq.{sets, sets-eq, length-sets, take-suc, length-take-le}
 use lib.IntN.{ℤ, pos}
 use Rattle.field.specs.Field.{leading, textOf, justified, written, digit}
-use Rattle.printing.specs.Program.{Row, Leaf, columns, rowOf, printed, leafRow}
+use Rattle.printing.specs.Program.{WordLine, Leaf, columns, rowOf, printed, leafRow}
 
 -- one run of stores after another
 pub sets-append : (l : List ℕ) (i : ℕ) (xs ys : List ℕ) → sets l i (xs ++ ys) ≡ sets (sets l i xs) (i + length xs) ys
@@ -77,7 +77,7 @@ module _ (d word : List ℕ) (at : ℕ) (z : ℤ) (room : at + 22 ≤ length d) 
 
 -- ---- rows
 
-pub printed-append : (rs qs : List Row) → printed (rs ++ qs) ≡ printed rs ++ printed qs
+pub printed-append : (rs qs : List WordLine) → printed (rs ++ qs) ≡ printed rs ++ printed qs
 unfolding printed
 printed-append [] qs = refl
 printed-append (r ∷ rs) qs =
@@ -93,7 +93,7 @@ leaves-size (n ∷ ns) =
 
 map-append : (xs ys : List ℕ) → map leafRow (xs ++ ys) ≡ map leafRow xs ++ map leafRow ys
 map-append [] ys = refl
-map-append (x ∷ xs) ys = ap (λ (l : List Row). leafRow x ∷ l) (map-append xs ys)
+map-append (x ∷ xs) ys = ap (λ (l : List WordLine). leafRow x ∷ l) (map-append xs ys)
 
 -- one leaf line more
 pub leaf-stored : (d ns : List ℕ) (at i : ℕ) → i < length ns
@@ -103,7 +103,7 @@ leaf-stored d ns at i h =
     let size : at + length (printed (map leafRow (take i ns))) ≡ at + 22 * i = omega (arith, leaves-size (take i ns), length-take-le i ns (omega arith)) in
     sym (
     ap (λ (l : List ℕ). sets d at (printed (map leafRow l))) (ap (λ (k : ℕ). take k ns) (add-one i) ∙ take-suc ns i 0 h)
-    ∙ ap (λ (l : List Row). sets d at (printed l)) (map-append (take i ns) (getD ns i 0 ∷ []))
+    ∙ ap (λ (l : List WordLine). sets d at (printed l)) (map-append (take i ns) (getD ns i 0 ∷ []))
     ∙ ap (sets d at) (printed-append (map leafRow (take i ns)) (leafRow (getD ns i 0) ∷ []))
     ∙ ap (λ (l : List ℕ). sets d at (printed (map leafRow (take i ns)) ++ l)) (append-nil (rowOf (columns Leaf) (pos (getD ns i 0))))
     ∙ sets-append d at (printed (map leafRow (take i ns))) (rowOf (columns Leaf) (pos (getD ns i 0)))

@@ -12,7 +12,7 @@ use Rattle.line.specs.Line.{countOf}
 use Rattle.judge.specs.declared.Play.{Play}
 use Rattle.judge.specs.declared.Play.the-variants.{Child, NoPlay}
 use Rattle.engine.specs.declared.Bounds.{Bounds}
-use Rattle.printing.specs.Program.{Row, Low, High, Grain, Play as PlayWord, Leaves, Refuse, Line}
+use Rattle.printing.specs.Program.{WordLine, Low, High, Grain, Play as PlayWord, Leaves, Refuse, Line}
 
 -- ---- the play
 
@@ -45,7 +45,7 @@ pub record Narrow (b : Bounds) (play : ℕ) : Type 0 where
   pub number : play < 10 ^ 15
   pub leaves : b .leaves ≤ 1024
 
-abbrev pub boundRows : Bounds → ℕ → List Row
+abbrev pub boundRows : Bounds → ℕ → List WordLine
 boundRows b play =
     record { word = Low; number = b .low }
     ∷ record { word = High; number = b .high }
@@ -54,5 +54,5 @@ boundRows b play =
     ∷ record { word = Leaves; number = pos (b .leaves) }
     ∷ []
 
-abbrev pub refusalRows : Refusal → List Row
+abbrev pub refusalRows : Refusal → List WordLine
 refusalRows r = record { word = Refuse; number = pos (numberOf r) } ∷ record { word = Line; number = pos (lineOf r) } ∷ []

@@ -1,4 +1,4 @@
--- What the margin program prints, for every input. Document 01, 'The margin program'. Assumes nothing: these are definitions.
+-- What the margin program prints, for every input. Document 01, 'The margin program'.
 use Prim.Native.Nat.{ℕ, suc, _-_}
 use mathlib.Core.Bool.{cond}
 use mathlib.Core.List.{List, [], _∷_, _++_, map}
@@ -47,7 +47,7 @@ spelled Leaf = 108 ∷ 101 ∷ 97 ∷ 102 ∷ []
 spelled Refuse = 114 ∷ 101 ∷ 102 ∷ 117 ∷ 115 ∷ 101 ∷ []
 spelled Line = 108 ∷ 105 ∷ 110 ∷ 101 ∷ []
 
-pub record Row : Type 0 where
+pub record WordLine : Type 0 where
   pub word : Word
   pub number : ℤ
 
@@ -59,7 +59,7 @@ columns w = spelled w ++ replicate (6 - length (spelled w)) 32
 abbrev pub rowOf : List ℕ → ℤ → List ℕ
 rowOf word z = word ++ (justified 15 (textOf z) ++ (10 ∷ []))
 
-unfoldable pub printed : List Row → List ℕ
+unfoldable pub printed : List WordLine → List ℕ
 printed [] = []
 printed (r ∷ rs) = rowOf (columns (r .word)) (r .number) ++ printed rs
 
@@ -76,11 +76,11 @@ playNumber none ns = 0
 playNumber (some n) ns = place n ns
 
 -- "one `leaf` line with a node number for each leaf read"
-abbrev pub leafRow : ℕ → Row
+abbrev pub leafRow : ℕ → WordLine
 leafRow n = record { word = Leaf; number = pos n }
 
 -- "Output: .."; "A refusal prints two such lines, `refuse` and `line`"
-abbrev pub rowsOf : Verdict Sought → List Row
+abbrev pub rowsOf : Verdict Sought → List WordLine
 rowsOf (refused r) = record { word = Refuse; number = pos (numberOf r) } ∷ record { word = Line; number = pos (lineOf r) } ∷ []
 rowsOf (fine s) =
     record { word = Low; number = s .seen .low }

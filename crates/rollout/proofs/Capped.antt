@@ -1,5 +1,5 @@
 -- No bound is ever above the highest end, over heights: so every record fits its number. Assumes nothing.
-use Prim.Native.Nat.{ℕ, _+_, _*_, _≤_, _<_}
+use Prim.Native.Nat.{ℕ, suc, _+_, _*_, _≤_, _<_}
 use mathlib.Core.Path.{_≡_}
 use mathlib.Core.Bool.{Bool}
 use mathlib.Core.List.{List}
@@ -9,11 +9,12 @@ use native.Mathlib.Omega.{arith}
 use Rattle.table.specs.Tree.{Kind, MAX, MIN, CHANCE, Forest, end, leaf, inner}
 use Rattle.table.specs.Accepted.{Proper}
 use Rattle.search.specs.Heights.{grained}
+use Rattle.table.proofs.Runs.{size, Numbered}
 use Rattle.rollout.specs.Rollout.{Kept, none, tip, knot, fresh, lows, highs, joined}
 use Rattle.rollout.specs.Heights.{natural}
-use Rattle.rollout.specs.Lists.{Store, lowAt, highAt, size, Numbered, keep}
+use Rattle.rollout.specs.Lists.{Store, lowAt, highAt, keep}
 use Rattle.rollout.proofs.Folds.{Beside, done, also, over-both}
-use Rattle.rollout.proofs.Turns.{Turns, at-tip, at-knot, past-tip, past-knot, some-lows, some-highs, turns-filled}
+use Rattle.rollout.proofs.Turns.{Turns, at-tip, at-knot, past-tip, past-knot, some-lows, some-highs, turns-some}
 use Rattle.rollout.proofs.Rolls.{Rolls, still, again}
 
 module _ (S : ℕ) where
@@ -43,8 +44,8 @@ module _ (S : ℕ) where
   turns-capped (at-tip o) c = (c .0, c .0, c .0, c .3)
   turns-capped (at-knot {l} {h} {k} {under2} t) c =
       let u : Capped under2 = turns-capped t (c .2) in (
-        over-both (λ (x y : ℕ). x ≤ S) k (joined-capped k) l l (some-lows under2 (turns-filled t)) (lows-capped under2 u),
-        over-both (λ (x y : ℕ). x ≤ S) k (joined-capped k) h h (some-highs under2 (turns-filled t)) (highs-capped under2 u),
+        over-both (λ (x y : ℕ). x ≤ S) k (joined-capped k) l l (some-lows under2 (turns-some t)) (lows-capped under2 u),
+        over-both (λ (x y : ℕ). x ≤ S) k (joined-capped k) h h (some-highs under2 (turns-some t)) (highs-capped under2 u),
         u,
         c .3,
       )
@@ -58,16 +59,16 @@ module _ (S : ℕ) where
   -- in the store
   pub capped-at : (G : ℕ) (F : Forest ℕ) (a : ℕ) (st : Store) → Numbered a F → Capped (keep G F st) → (i : ℕ) → a ≤ i → i < a + size F
       → (lowAt st i ≤ S) × (highAt st i ≤ S)
-  unfolding keep size Numbered
+  unfolding keep
   capped-at G end a st q c i o m = absurd (omega arith)
-  capped-at G (leaf n w x rest) a st q c i o m = elim (decLe (a + 1) i) [
-    | yes y ↦ capped-at G rest (a + 1) st (q .1) (c .3) i y (omega arith)
+  capped-at G (leaf n w x rest) a st q c i o m = elim (decLe (suc a) i) [
+    | yes y ↦ capped-at G rest (suc a) st (q .1) (c .3) i y (omega arith)
     | no y ↦ let e : n ≡ i = omega (arith, q .0) in rw (← e) (c .1, c .2)
   ]
-  capped-at G (inner n w k under rest) a st q c i o m = elim (decLe (a + 1) i) [
-    | yes y ↦ elim (decLe (a + 1 + size under) i) [
-      | yes z ↦ capped-at G rest (a + 1 + size under) st (q .2) (c .3) i z (omega arith)
-      | no z ↦ capped-at G under (a + 1) st (q .1) (c .2) i y (omega arith)
+  capped-at G (inner n w k under rest) a st q c i o m = elim (decLe (suc a) i) [
+    | yes y ↦ elim (decLe (suc a + size under) i) [
+      | yes z ↦ capped-at G rest (suc a + size under) st (q .2) (c .3) i z (omega arith)
+      | no z ↦ capped-at G under (suc a) st (q .1) (c .2) i y (omega arith)
     ]
     | no y ↦ let e : n ≡ i = omega (arith, q .0) in rw (← e) (c .0, c .1)
   ]

@@ -26,14 +26,14 @@ use Rattle.rollout.specs.Whole.{whole, bottom, hasChance, rolled, rolled
 use Rattle.rollout.specs.Heights.{natural, heightRolled}
 use Rattle.rollout.specs.Raised.{mapKept, mapPair, mapWalk, mapRolled, above}
 use Rattle.rollout.specs.Leaves.{leafNodes, Picks, Distinct, NewLeaf}
-use Rattle.rollout.specs.Store.{afterWalks, rootLow, rootHigh, isOpen, nextWalk, worths, Holds}
+use Rattle.rollout.specs.Store.{afterWalks, rootLow, rootHigh, isOpen, nextWalk, treeWorths, Holds}
 use Rattle.rollout.proofs.Raise.{lows-map, highs-map, records-map, first-map, walk-map}
 use Rattle.rollout.proofs.Shift.{lt-above, keeps, bottom-above, top-above, rolled-above, after-above}
 use Rattle.rollout.proofs.Turns.{Reads}
-use Rattle.rollout.proofs.Rolls.{Rolls, rolls-more, rolls-sound, rolls-filled, root-reads, rootLow as lowHeight, rootHigh as highHeight}
+use Rattle.rollout.proofs.Rolls.{Rolls, rolls-more, rolls-sound, rolls-some, root-reads, rootLow as lowHeight, rootHigh as highHeight}
 use Rattle.rollout.proofs.Fresh.{nodes-length}
 use Rattle.rollout.proofs.Numbers.{picks-distinct, picks-few}
-use Rattle.rollout.proofs.Table.{start, start-sound, start-filled, leaves-distinct, height-rolls, rolls-leaves, no-chance, height-ends}
+use Rattle.rollout.proofs.Table.{start, start-sound, start-some, leaves-distinct, height-rolls, rolls-leaves, no-chance, height-ends}
 use Rattle.rollout.proofs.Held.{everyExact, sound-holds, rolls-every, holds-above, worths-above}
 
 module _ (s : List ℕ) (t : Table) (h : readText s ≡ fine t) where
@@ -65,7 +65,7 @@ module _ (s : List ℕ) (t : Table) (h : readText s ≡ fine t) where
 
   module _ (none : hasChance t ≡ false) where
     -- without C the worth of every node is that over heights
-    every-worth : worths (t .head .total) (grain t) (tree t) ≡ map (above t) (everyExact (start s t h))
+    every-worth : treeWorths (t .head .total) (grain t) (tree t) ≡ map (above t) (everyExact (start s t h))
     every-worth =
         rw (heights-map t) (worths-above (t .head .total) (grain t) (t .head) (accepted-ranged s t h .some) 0 far 0 0 false (tree t)
         (subst (λ (K : ℕ). Proper (t .head .total) K (Within (t .head)) 0 0 false (tree t)) (no-chance s t h none) (accepted-proper s t h))
@@ -126,7 +126,7 @@ module _ (s : List ℕ) (t : Table) (h : readText s ≡ fine t) where
             let b : ℕ = highHeight 0 far f in
             let o : ltb a b ≡ true = sym (ap₂ ltZ (low-above f) (high-above f) ∙ lt-above (bottom t) a b) ∙ e in
             let r : Rolls (start s t h) (d .read) f = height-rolls s t h n p in
-            let x : Reads f (walk natural a b 0 q f) = root-reads 0 far q f (rolls-sound r (start-sound s t h)) (rolls-filled r (start-filled s t h)) o in
+            let x : Reads f (walk natural a b 0 q f) = root-reads 0 far q f (rolls-sound r (start-sound s t h)) (rolls-some r (start-some s t h)) o in
             let w : nextWalk t q (mapKept (above t) f) ≡ mapWalk (above t) (walk natural a b 0 q f) =
             ap₂ (λ (y z : ℤ). walk whole y z 0 q (mapKept (above t) f)) (low-above f) (high-above f)
             ∙ walk-map (above t) natural whole (keeps (bottom t)) a b 0 q f in
@@ -135,12 +135,12 @@ module _ (s : List ℕ) (t : Table) (h : readText s ≡ fine t) where
     -- ---- the store
 
     -- "the store as last updated", and every store before it: the worth of every node lies between its low and its high
-    pub stores-hold : (n : ℕ) (p : List ℕ) → Holds (worths (t .head .total) (grain t) (tree t)) (records (afterWalks t n p .kept))
+    pub stores-hold : (n : ℕ) (p : List ℕ) → Holds (treeWorths (t .head .total) (grain t) (tree t)) (records (afterWalks t n p .kept))
     stores-hold n p =
         let d : Rolled ℕ = roll natural 0 far n p (start s t h) in
         let r : Rolls (start s t h) (d .read) (d .kept) = height-rolls s t h n p in
         let e : records (afterWalks t n p .kept) ≡ map (mapPair (above t)) (records (d .kept)) =
         ap (λ (y : Rolled ℤ). records (y .kept)) (after-above s t h n p) ∙ records-map (above t) (d .kept) in
-        let v : worths (t .head .total) (grain t) (tree t) ≡ map (above t) (everyExact (d .kept)) =
+        let v : treeWorths (t .head .total) (grain t) (tree t) ≡ map (above t) (everyExact (d .kept)) =
         every-worth ∙ ap (map (above t)) (sym (rolls-every r)) in
         subst₂ Holds (sym v) (sym e) (holds-above (bottom t) (sound-holds (d .kept) (rolls-sound r (start-sound s t h))))

@@ -3,19 +3,18 @@ use Prim.Native.Nat.{ℕ, zero, suc, _+_, _^_, _≤_, _<_}
 use native.Mathlib.Nat.{not-suc-le-zero, le-of-suc-le-suc}
 use native.Mathlib.Numerals.{add-one}
 use mathlib.Core.Path.{_≡_, refl, sym, ap, ap₂, subst, _∙_}
-use mathlib.Core.Bool.{Bool, true, false}
 use mathlib.Core.List.{List, [], _∷_}
 use native.Mathlib.Omega.{arith}
 use borrow.Author.Needs.{sfits-of}
 use mir.Syntax.{w64}
 use mir.Val.{SFits, toZ, ofZ}
 use mir.ValLaws.{toZ-ofZ}
-use lib.Dec.{ltb}
 use lib.Signed.{mag}
 use lib.ListN.{length, getD, set, length-map}
+use Rattle.line.proofs.Signs.{mag-add}
 use Rattle.rollout.specs.declared.Record.{Record}
-use lib.IntN.{ℤ, pos, negsuc, subℕ, _+ℤ_}
-use Rattle.rollout.specs.Filled.{risen, recordsOf, filled}
+use lib.IntN.{ℤ, pos, _+ℤ_}
+use Rattle.rollout.specs.Records.{risen, recordsOf, filled}
 
 pub filled-none : (ls hs : List ℤ) (st : List Record) → st ≡ filled 0 ls hs st
 unfolding recordsOf
@@ -66,17 +65,9 @@ module _ (b : ℤ) where
 
 -- ---- the sum, as bits
 
-mag-sub : (a b : ℕ) (t : Bool) → ltb a b ≡ t → mag (subℕ a b) ≤ a + b
-mag-sub a b true e = rw e (omega arith)
-mag-sub a b false e = rw e (omega arith)
-
-pub mag-add : (z : ℤ) (h : ℕ) → mag (z +ℤ pos h) ≤ mag z + h + 1
-mag-add (pos a) h = omega arith
-mag-add (negsuc a) h = omega (arith, mag-sub h (suc a) (ltb h (suc a)) refl)
-
 module _ (b : ℤ) (v : ℕ) (h : (mag b ≤ 35184372088832) × (v ≤ 35184372088832)) where
   pub sum-small : mag (b +ℤ pos v) < 2 ^ 63
-  sum-small = omega (arith, mag-add b v, h .0, h .1)
+  sum-small = omega (arith, mag-add b (pos v), h .0, h .1)
 
   pub sum-is : toZ w64 (ofZ w64 b) +ℤ toZ w64 v ≡ b +ℤ pos v
   sum-is = ap₂ _+ℤ_ (toZ-ofZ w64 b (sfits-of (omega (arith, h .0)))) (toZ-ofZ w64 (pos v) (sfits-of (omega (arith, h .1))))

@@ -9,7 +9,7 @@ use borrow.Author.Tests.{lt-ltb}
 use lib.ListN.{length, length-append}
 use Rattle.line.proofs.Signs.{true-ne-false}
 use Rattle.table.specs.Tree.{Kind, MAX, MIN, CHANCE, Forest, end, leaf, inner, isEnd, leaves}
-use Rattle.table.specs.Accepted.{one, Proper, Filled as AllFilled}
+use Rattle.table.specs.Accepted.{one, Proper, Filled}
 use Rattle.table.proofs.Heights.{mapForest}
 use Rattle.worth.specs.Worth.{Share}
 use Rattle.worth.specs.Heights.{tallest, shortest, heightValue, heightShares}
@@ -17,7 +17,7 @@ use Rattle.search.specs.Heights.{grained}
 use Rattle.rollout.specs.Rollout.{fresh, lows, highs, joined, over}
 use Rattle.rollout.specs.Heights.{natural}
 use Rattle.rollout.specs.Leaves.{leafNodes}
-use Rattle.rollout.specs.Sound.{Filled, Sound}
+use Rattle.rollout.specs.Sound.{SomeNode, Sound}
 use Rattle.rollout.proofs.Folds.{Beside, done, also, over-both}
 use Rattle.rollout.proofs.Turns.{some-lows, some-highs}
 use Rattle.rollout.proofs.Rolls.{exacts, unread}
@@ -42,26 +42,26 @@ module _ (bottom top : ℕ) where
   same-highs (leaf n w v rest) = also refl (same-highs rest)
   same-highs (inner n w k under rest) = also refl (same-highs rest)
 
-  over-low : (k : Kind) (F : Forest ℕ) → Filled (fresh bottom top F) → over natural k 0 (lows (fresh bottom top F)) ≡ bottom
+  over-low : (k : Kind) (F : Forest ℕ) → SomeNode (fresh bottom top F) → over natural k 0 (lows (fresh bottom top F)) ≡ bottom
   over-low k F s = over-both (λ (x y : ℕ). x ≡ bottom) k (joined-same bottom k) 0 0 (some-lows (fresh bottom top F) s) (same-lows F)
 
-  over-high : (k : Kind) (F : Forest ℕ) → Filled (fresh bottom top F) → over natural k 0 (highs (fresh bottom top F)) ≡ top
+  over-high : (k : Kind) (F : Forest ℕ) → SomeNode (fresh bottom top F) → over natural k 0 (highs (fresh bottom top F)) ≡ top
   over-high k F s = over-both (λ (x y : ℕ). x ≡ top) k (joined-same top k) 0 0 (some-highs (fresh bottom top F) s) (same-highs F)
 
-  pub fresh-filled : (G : ℕ) (F : Forest ℕ) → isEnd F ≡ false → Filled (fresh bottom top (grained G F))
+  pub fresh-some : (G : ℕ) (F : Forest ℕ) → isEnd F ≡ false → SomeNode (fresh bottom top (grained G F))
   unfolding fresh grained
-  fresh-filled G end e = absurd (true-ne-false e)
-  fresh-filled G (leaf n w v rest) e = tt
-  fresh-filled G (inner n w k under rest) e = tt
+  fresh-some G end e = absurd (true-ne-false e)
+  fresh-some G (leaf n w v rest) e = tt
+  fresh-some G (inner n w k under rest) e = tt
 
 module _ (T K S G : ℕ) where
-  pub fresh-sound : (d c : ℕ) (u : Bool) (F : Forest ℕ) → Proper T K (λ (x : ℕ). x ≤ S) d c u F → AllFilled F
+  pub fresh-sound : (d c : ℕ) (u : Bool) (F : Forest ℕ) → Proper T K (λ (x : ℕ). x ≤ S) d c u F → Filled F
       → Sound (fresh 0 (S * G) (grained G F))
   unfolding fresh grained
   fresh-sound d c u end p f = tt
   fresh-sound d c u (leaf n w v rest) p f = (omega arith, mul-le-mul-right G (p .1), fresh-sound d c u rest (p .4) f)
   fresh-sound d c u (inner n w k under rest) p f =
-      let s : Filled (fresh 0 (S * G) (grained G under)) = fresh-filled 0 (S * G) G under (f .0) in (
+      let s : SomeNode (fresh 0 (S * G) (grained G under)) = fresh-some 0 (S * G) G under (f .0) in (
         s,
         sym (over-low 0 (S * G) k (grained G under) s),
         sym (over-high 0 (S * G) k (grained G under) s),

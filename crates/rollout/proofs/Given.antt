@@ -15,10 +15,9 @@ use Rattle.table.proofs.Accepted.{accepted-lent, heights-leaves}
 use Rattle.search.proofs.Ready.{accepted-search-ready}
 use Rattle.rollout.specs.Rollout.{Pair}
 use Rattle.rollout.specs.Whole.{rolled, rolledWorth, rolledStore}
-use Rattle.rollout.specs.Filled.{lowsOf, highsOf}
+use Rattle.rollout.specs.Records.{lowsOf, highsOf}
 use Rattle.rollout.specs.Raised.{mapPair, above}
-use Rattle.rollout.specs.Lists.{Store, lowAt, highAt, pairs, RolledS, rollS}
-use Rattle.rollout.specs.Lists as lists
+use Rattle.rollout.specs.Lists.{Store, lowAt, highAt, pairs, RolledS, rollS, AtEnds}
 use Rattle.rollout.specs.Inside.{stored, ReadyRoll, WellRolled}
 use Rattle.rollout.proofs.Listed.{Listed, listed, listed-small}
 
@@ -55,7 +54,7 @@ module _ (s : List ℕ) (t : Table) (h : readText s ≡ fine t) where
     pub room : (nodes ≤ length low) × (nodes ≤ length high)
     pub small : (i : ℕ) → i < nodes → (getD low i 0 ≤ far) × (getD high i 0 ≤ far)
 
-  listed-given : (p : List ℕ) (st0 : Store) → lists.Ready nodes far st0 → (d : RolledS) → d ≡ rollS (grain t) (leaves (heightTree t)) p (heightTree t) st0
+  listed-given : (p : List ℕ) (st0 : Store) → AtEnds nodes far st0 → (d : RolledS) → d ≡ rollS (grain t) (leaves (heightTree t)) p (heightTree t) st0
       → (r : ℕ) (came now : List ℕ) → r ≡ length (d .read) → now ≡ laid (d .read) came → Given p (d .store .low) (d .store .high) r came now
   listed-given p st0 ready d same r came now u l =
       let L : Listed s t h p st0 d = subst (λ (z : RolledS). Listed s t h p st0 z) (sym same) (listed s t h p st0 ready) in
@@ -78,7 +77,7 @@ module _ (s : List ℕ) (t : Table) (h : readText s ≡ fine t) where
       }
 
   -- st0 is the store before the first walk
-  module _ (K S W H : List ℕ) (roomK : nodes ≤ length K) (roomS : nodes ≤ length S) (roomW : nodes ≤ length W) (roomH : nodes ≤ length H) (st0 : Store) (begun : lists.Ready nodes far st0) where
+  module _ (K S W H : List ℕ) (roomK : nodes ≤ length K) (roomS : nodes ≤ length S) (roomW : nodes ≤ length W) (roomH : nodes ≤ length H) (st0 : Store) (begun : AtEnds nodes far st0) where
     pub accepted-roll-ready : (room : ℕ) → leafLines (t .lines) ≤ room
         → ReadyRoll (fitted (kindsOf t) K) (fitted (stopsOf t) S) (fitted (heightsOf t) H) (grain t) nodes st0 room
     accepted-roll-ready room enough =

@@ -8,7 +8,7 @@ use lib.IntN.{ℤ, pos, _+ℤ_, _*ℤ_}
 use Rattle.line.specs.declared.Head.{Head}
 use Rattle.line.specs.Line.{Within}
 use Rattle.table.specs.Tree.{Kind, Forest, end, leaf, inner, isChance}
-use Rattle.table.specs.Accepted.{one, Filled as AllFilled, Balanced, Proper}
+use Rattle.table.specs.Accepted.{one, Filled, Balanced, Proper}
 use Rattle.table.proofs.Heights.{above as height, height-back, mapForest, map-proper}
 use Rattle.worth.specs.Worth.{value, shares, firstWorth}
 use Rattle.worth.specs.Heights.{heightValue, heightShares}
@@ -17,7 +17,7 @@ use Rattle.search.specs.Heights.{grained}
 use Rattle.rollout.specs.Rollout.{Kept, none, tip, knot, Pair, fresh, records, over}
 use Rattle.rollout.specs.Heights.{natural}
 use Rattle.rollout.specs.Raised.{mapPair}
-use Rattle.rollout.specs.Store.{worths, Holds}
+use Rattle.rollout.specs.Store.{treeWorths, Holds}
 use Rattle.rollout.specs.Sound.{Sound}
 use Rattle.rollout.proofs.Raise.{map-append}
 use Rattle.rollout.proofs.Shift.{le-above}
@@ -82,7 +82,7 @@ module _ (T G : ℕ) (h : Head) (some : 0 < T) (bottom top : ℕ) where
   raise x = h .lowest *ℤ pos G +ℤ pos x
 
   -- one node
-  node-above : (n w d c : ℕ) (k : Kind) (u : Bool) (F : Forest ℤ) → Proper T 0 (Within h) d c u (inner n w k F end) → AllFilled (inner n w k F end)
+  node-above : (n w d c : ℕ) (k : Kind) (u : Bool) (F : Forest ℤ) → Proper T 0 (Within h) d c u (inner n w k F end) → Filled (inner n w k F end)
       → Balanced T (inner n w k F end) → value T k (shares T G F) ≡ raise (heightValue T k (heightShares T G (mapForest (height (h .lowest)) F)))
   unfolding shares heightShares
   node-above n w d c k u F p f b = ap firstWorth (shares-shift T G h some 0 d c u (inner n w k F end) p f b)
@@ -95,9 +95,9 @@ module _ (T G : ℕ) (h : Head) (some : 0 < T) (bottom top : ℕ) where
       (map-proper (height (h .lowest)) T 0 (Within h) (λ (x : ℕ). Unit {0}) (λ v w. tt) d (c + one k) (isChance k) F p))
       ∙ value-over T c k (heightShares T G (mapForest (height (h .lowest)) F)) z
 
-  pub worths-above : (d c : ℕ) (u : Bool) (F : Forest ℤ) → Proper T 0 (Within h) d c u F → AllFilled F → Balanced T F
-      → worths T G F ≡ map raise (everyExact (start F))
-  unfolding worths everyExact fresh grained
+  pub worths-above : (d c : ℕ) (u : Bool) (F : Forest ℤ) → Proper T 0 (Within h) d c u F → Filled F → Balanced T F
+      → treeWorths T G F ≡ map raise (everyExact (start F))
+  unfolding treeWorths everyExact fresh grained
   worths-above d c u end p f b = refl
   worths-above d c u (leaf n w v rest) p f b =
       ap₂ (λ (x : ℤ) (r : List ℤ). x ∷ r)

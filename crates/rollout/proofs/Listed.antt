@@ -11,6 +11,7 @@ use Rattle.table.specs.Tree.{Kind, Forest, inner, isEnd, leaves}
 use Rattle.table.specs.Table.{Table, tree, readText, greatest, grain}
 use Rattle.table.specs.Slices.{heightTree}
 use Rattle.table.specs.Accepted.{span}
+use Rattle.table.proofs.Runs.{Numbered}
 use Rattle.table.proofs.Accepted.{accepted-leaves, heights-leaves, heights-proper, heights-rooted}
 use Rattle.worth.proofs.Worth.{rooted-some}
 use Rattle.search.specs.Heights.{grained}
@@ -18,13 +19,13 @@ use Rattle.rollout.specs.Rollout.{Kept, records, lows, firstOr, candidat
 use Rattle.rollout.specs.Whole.{rolled, rolledWorth, rolledStore}
 use Rattle.rollout.specs.Heights.{natural, heightRolled}
 use Rattle.rollout.specs.Raised.{mapPair, above}
-use Rattle.rollout.specs.Lists.{Store, lowAt, highAt, Room, Frame, Ready, pairs, Numbered, candidatesS, WalkS, RolledS, keep, walkS, rollS}
+use Rattle.rollout.specs.Lists.{Store, lowAt, highAt, Room, Frame, AtEnds, pairs, candidatesS, WalkS, RolledS, keep, walkS, rollS}
 use Rattle.rollout.specs.Sound.{Sound}
 use Rattle.rollout.proofs.Turns.{Reads, some-candidate, test-true}
-use Rattle.rollout.proofs.Rolls.{Rolls, still, rolls-more, rolls-sound, rolls-filled, root-reads, rootLow, rootHigh}
+use Rattle.rollout.proofs.Rolls.{Rolls, still, rolls-more, rolls-sound, rolls-some, root-reads, rootLow, rootHigh}
 use Rattle.rollout.proofs.Fresh.{grained-leaves, nodes-length}
 use Rattle.rollout.proofs.Numbers.{picks-few}
-use Rattle.rollout.proofs.Table.{start, start-sound, start-filled, height-numbered, height-rolls, rolls-leaves}
+use Rattle.rollout.proofs.Table.{start, start-sound, start-some, height-numbered, height-rolls, rolls-leaves}
 use Rattle.rollout.proofs.Capped.{rolls-capped, capped-at, fresh-capped}
 use Rattle.rollout.proofs.Stored.{candidates-keep, Like, walk-keep, Alike, root-low, root-high, roll-keep, keep-fresh, records-keep}
 use Rattle.rollout.proofs.Demand.{shifted-read, shifted-store, shifted-worth}
@@ -92,7 +93,7 @@ module _ (s : List ℕ) (t : Table) (h : readText s ≡ fine t) where
   abbrev far : ℕ
   far = span (t .head) * grain t
 
-  ready-keep : (st : Store) → Ready nodes far st → keep G F st ≡ start s t h
+  ready-keep : (st : Store) → AtEnds nodes far st → keep G F st ≡ start s t h
   ready-keep st r =
       keep-fresh G far F 0 st (height-numbered s t h .1) (λ i a b. r .ends i (omega (arith, height-numbered s t h .0)))
 
@@ -105,13 +106,13 @@ module _ (s : List ℕ) (t : Table) (h : readText s ≡ fine t) where
     pub worth : above t (lowAt (r .store) 0) ≡ rolledWorth t p
     pub frame : Frame 0 nodes st (r .store)
 
-  pub alike : (p : List ℕ) (st : Store) → Ready nodes far st → Alike G F st (rollS G (leaves F) p F st) (heightRolled t p)
+  pub alike : (p : List ℕ) (st : Store) → AtEnds nodes far st → Alike G F st (rollS G (leaves F) p F st) (heightRolled t p)
   alike p st r =
       subst₂ (λ (n : ℕ) (f : Kept ℕ). Alike G F st (rollS G (leaves F) p F st) (roll natural 0 far n p f))
       (sym (grained-leaves G F)) (ready-keep st r)
       (roll-keep G 0 far (leaves F) p F st (height-numbered s t h .1) some (omega (arith, r .room .0, height-numbered s t h .0), omega (arith, r .room .1, height-numbered s t h .0)))
 
-  pub listed : (p : List ℕ) (st : Store) → Ready nodes far st → Listed p st (rollS G (leaves F) p F st)
+  pub listed : (p : List ℕ) (st : Store) → AtEnds nodes far st → Listed p st (rollS G (leaves F) p F st)
   listed p st r =
       let d : RolledS = rollS G (leaves F) p F st in
       let x : Alike G F st d (heightRolled t p) = alike p st r in
@@ -140,7 +141,7 @@ module _ (s : List ℕ) (t : Table) (h : readText s ≡ fine t) where
   all-left : (n : ℕ) → n ≡ n - 0
   all-left n = omega arith
 
-  pub going-begin : (p : List ℕ) (st : Store) → Ready nodes far st → Going p st [] p st
+  pub going-begin : (p : List ℕ) (st : Store) → AtEnds nodes far st → Going p st [] p st
   going-begin p st r = record {
     room = r .room;
     rolls = subst (λ (f : Kept ℕ). Rolls (start s t h) [] f) (sym (ready-keep st r)) still;
@@ -158,7 +159,7 @@ module _ (s : List ℕ) (t : Table) (h : readText s ≡ fine t) where
       (rolls-capped far r (fresh-capped (t .head .total) (greatest (t .lines)) (span (t .head)) G 0 0 false F (heights-proper s t h))) i (omega arith)
       (omega (arith, height-numbered s t h .0))
 
-  pub listed-small : (p : List ℕ) (st : Store) → Ready nodes far st
+  pub listed-small : (p : List ℕ) (st : Store) → AtEnds nodes far st
       → (i : ℕ) → i < nodes → (lowAt (rollS G (leaves F) p F st .store) i ≤ far) × (highAt (rollS G (leaves F) p F st .store) i ≤ far)
   listed-small p st r =
       rolls-small (heightRolled t p .read) (rollS G (leaves F) p F st .store)
@@ -190,7 +191,7 @@ module _ (s : List ℕ) (t : Table) (h : readText s ≡ fine t) where
       let lb : rootHigh 0 far f ≡ b = root-high G far F st q some in
       let x : Reads f (walk natural a b 0 p f) =
       subst₂ (λ (y z : ℕ). Reads f (walk natural y z 0 p f)) la lb
-      (root-reads 0 far p f (rolls-sound (g .rolls) (start-sound s t h)) (rolls-filled (g .rolls) (start-filled s t h)) (ap₂ ltb la lb ∙ e)) in
+      (root-reads 0 far p f (rolls-sound (g .rolls) (start-sound s t h)) (rolls-some (g .rolls) (start-some s t h)) (ap₂ ltb la lb ∙ e)) in
       let w : Like G 0 F st r (walk natural a b 0 p f) =
       walk-keep G a b 0 p F st 0 q (omega (arith, g .room .0, height-numbered s t h .0), omega (arith, g .room .1, height-numbered s t h .0)) in
       let m : ℕ = x .node in

@@ -14,13 +14,13 @@ use Rattle.table.specs.Accepted.{span}
 use Rattle.table.proofs.Accepted.{accepted-size, accepted-grain, heights-rooted}
 use Rattle.search.specs.Inside.{slices}
 use Rattle.search.proofs.Call.{root-some}
+use Rattle.table.proofs.Runs.{size}
 use Rattle.rollout.specs.declared.Step.{Step}
 use Rattle.rollout.specs.Rollout.{firstOr, candidate}
 use Rattle.rollout.specs.Heights.{natural}
 use Rattle.rollout.specs.Sound.{Sound}
-use Rattle.rollout.specs.Lists.{Store, lowAt, highAt, WalkS, keep, walkS, rollS}
-use Rattle.rollout.specs.Lists as lists
-use Rattle.rollout.specs.Inside.{Ready, WalkLeft, Walked, ReadyRoll, RolledIn}
+use Rattle.rollout.specs.Lists.{Store, lowAt, highAt, WalkS, keep, walkS, rollS, AtEnds}
+use Rattle.rollout.specs.Inside.{ReadyNode, WalkLeft, Walked, ReadyRoll, RolledIn}
 use Rattle.rollout.proofs.Table.{height-numbered}
 use Rattle.rollout.proofs.Listed.{Going, going-begin, going-sound, going-walk, going-end}
 
@@ -35,8 +35,8 @@ laid-more l came m h =
     ∙ ap (λ (n : ℕ). (l ++ (m ∷ [])) ++ drop n came) (sym up)
 
 -- a leaf is a node
-leaves-few : (F : Forest ℕ) → leaves F ≤ lists.size F
-unfolding leaves lists.size
+leaves-few : (F : Forest ℕ) → leaves F ≤ size F
+unfolding leaves
 leaves-few end = omega arith
 leaves-few (leaf n w x rest) = omega (arith, leaves-few rest)
 leaves-few (inner n w k under rest) = omega (arith, leaves-few under, leaves-few rest)
@@ -60,7 +60,7 @@ module _ {K S H : List ℕ} {G n : ℕ} {st0 : Store} (came P : List ℕ) (R : R
   rolling-begin =
       record {
         read = [];
-        going = going-begin (R .text) (R .table) (R .accepted) P st0 (subst (λ (m : ℕ). lists.Ready m (span (R .table .head) * grain (R .table)) st0) (R .size) (R .ready));
+        going = going-begin (R .text) (R .table) (R .accepted) P st0 (subst (λ (m : ℕ). AtEnds m (span (R .table .head) * grain (R .table)) st0) (R .size) (R .ready));
         count = refl;
         leaves = refl;
       }
@@ -82,7 +82,7 @@ module _ {K S H : List ℕ} {G n : ℕ} {st0 : Store} (came P : List ℕ) (R : R
         (record { store = refl; used = L .count; leaves = L .leaves })
 
     module _ (a b : ℕ) (ea : a ≡ lowAt st 0) (eb : b ≡ highAt st 0) (o : a < b) where
-      pub rolling-ready : Ready K S H G 0 a b st
+      pub rolling-ready : ReadyNode K S H G 0 a b st
       rolling-ready =
           let s = R .text in
           let t = R .table in

@@ -6,8 +6,9 @@ use native.Mathlib.Omega.{arith}
 use lib.ListN.{length, getD}
 use Rattle.table.specs.Tree.{Forest, end, leaf, inner}
 use Rattle.table.specs.Slices.{Slices, Spans}
+use Rattle.table.proofs.Runs.{size, Numbered}
+use Rattle.table.proofs.Places.{Below, below-append}
 use Rattle.rollout.specs.Leaves.{leafNodes, Drops, now, later, Picks, nothing, this, Lacks, Distinct}
-use Rattle.rollout.specs.Lists.{size, Numbered}
 
 -- ---- picked once
 
@@ -47,56 +48,47 @@ lacks-append : (m : ℕ) (l r : List ℕ) → Lacks m l → Lacks m r → Lacks 
 lacks-append m [] r a b = b
 lacks-append m (x ∷ l) r a b = (a .0, lacks-append m l r (a .1) b)
 
--- every entry is below b
-abbrev Below : ℕ → List ℕ → Type 0
-Below b [] = Unit {0}
-Below b (x ∷ l) = (x < b) × Below b l
-
-below-append : (b : ℕ) (l r : List ℕ) → Below b l → Below b r → Below b (l ++ r)
-below-append b [] r p q = q
-below-append b (x ∷ l) r p q = (p .0, below-append b l r (p .1) q)
-
 distinct-append : (b : ℕ) (l r : List ℕ) → Below b l → ((m : ℕ) → m < b → Lacks m r) → Distinct l → Distinct r → Distinct (l ++ r)
 distinct-append b [] r p away d e = e
 distinct-append b (x ∷ l) r p away d e = (lacks-append x l r (d .0) (away x (p .0)), distinct-append b l r (p .1) away (d .1) e)
 
 module _ {A : Type 0} where
   lacks-before : (F : Forest A) (a m : ℕ) → Numbered a F → m < a → Lacks m (leafNodes F)
-  unfolding leafNodes Numbered
+  unfolding leafNodes
   lacks-before end a m q o = tt
-  lacks-before (leaf n w v rest) a m q o = ((λ e. omega (arith, q .0)), lacks-before rest (a + 1) m (q .1) (omega arith))
+  lacks-before (leaf n w v rest) a m q o = ((λ e. omega (arith, q .0)), lacks-before rest (suc a) m (q .1) (omega arith))
   lacks-before (inner n w k under rest) a m q o =
-      lacks-append m (leafNodes under) (leafNodes rest) (lacks-before under (a + 1) m (q .1) (omega arith))
-      (lacks-before rest (a + 1 + size under) m (q .2) (omega arith))
+      lacks-append m (leafNodes under) (leafNodes rest) (lacks-before under (suc a) m (q .1) (omega arith))
+      (lacks-before rest (suc a + size under) m (q .2) (omega arith))
 
   nodes-below : (F : Forest A) (a b : ℕ) → Numbered a F → a + size F ≤ b → Below b (leafNodes F)
-  unfolding leafNodes Numbered size
+  unfolding leafNodes
   nodes-below end a b q o = tt
-  nodes-below (leaf n w v rest) a b q o = (omega (arith, q .0), nodes-below rest (a + 1) b (q .1) (omega arith))
+  nodes-below (leaf n w v rest) a b q o = (omega (arith, q .0), nodes-below rest (suc a) b (q .1) (omega arith))
   nodes-below (inner n w k under rest) a b q o =
-      below-append b (leafNodes under) (leafNodes rest) (nodes-below under (a + 1) b (q .1) (omega arith))
-      (nodes-below rest (a + 1 + size under) b (q .2) (omega arith))
+      below-append b (leafNodes under) (leafNodes rest) (nodes-below under (suc a) b (q .1) (omega arith))
+      (nodes-below rest (suc a + size under) b (q .2) (omega arith))
 
   pub nodes-distinct : (F : Forest A) (a : ℕ) → Numbered a F → Distinct (leafNodes F)
-  unfolding leafNodes Numbered
+  unfolding leafNodes
   nodes-distinct end a q = tt
-  nodes-distinct (leaf n w v rest) a q = (lacks-before rest (a + 1) n (q .1) (omega (arith, q .0)), nodes-distinct rest (a + 1) (q .1))
+  nodes-distinct (leaf n w v rest) a q = (lacks-before rest (suc a) n (q .1) (omega (arith, q .0)), nodes-distinct rest (suc a) (q .1))
   nodes-distinct (inner n w k under rest) a q =
-      distinct-append (a + 1 + size under) (leafNodes under) (leafNodes rest) (nodes-below under (a + 1) (a + 1 + size under) (q .1) (omega arith))
-      (λ m o. lacks-before rest (a + 1 + size under) m (q .2) o) (nodes-distinct under (a + 1) (q .1))
-      (nodes-distinct rest (a + 1 + size under) (q .2))
+      distinct-append (suc a + size under) (leafNodes under) (leafNodes rest) (nodes-below under (suc a) (suc a + size under) (q .1) (omega arith))
+      (λ m o. lacks-before rest (suc a + size under) m (q .2) o) (nodes-distinct under (suc a) (q .1))
+      (nodes-distinct rest (suc a + size under) (q .2))
 
 -- ---- the decoded slices
 
 -- a tree that lies in the slices from c up to e has e - c nodes, numbered from c
 pub spans-numbered : (s : Slices) (c e : ℕ) (F : Forest ℕ) → Spans s c e F → (c + size F ≡ e) × Numbered c F
-unfolding Spans Numbered size
+unfolding Spans
 spans-numbered s c e end x = (omega (arith, x), tt)
 spans-numbered s c e (leaf n w h rest) x =
     let r = spans-numbered s (c + 1) e rest (x .5) in
-    (omega (arith, r .0), (x .0, r .1))
+    (omega (arith, r .0), (x .0, subst (λ (a : ℕ). Numbered a rest) (omega arith) (r .1)))
 spans-numbered s c e (inner n w k under rest) x =
     let j : ℕ = getD (s .stops) c 0 in
     let u = spans-numbered s (c + 1) j under (x .3) in
     let r = spans-numbered s j e rest (x .4) in
-    (omega (arith, u .0, r .0), (x .0, u .1, subst (λ (a : ℕ). Numbered a rest) (sym (u .0)) (r .1)))
+    (omega (arith, u .0, r .0), (x .0, subst (λ (a : ℕ). Numbered a under) (omega arith) (u .1), subst (λ (a : ℕ). Numbered a rest) (omega (arith, u .0)) (r .1)))

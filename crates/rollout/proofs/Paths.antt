@@ -9,8 +9,8 @@ use Rattle.table.specs.Tree.{kindOf}
 use Rattle.rollout.specs.declared.Step.{Step}
 use Rattle.rollout.specs.Rollout.{spend, over}
 use Rattle.rollout.specs.Heights.{natural}
-use Rattle.rollout.specs.Lists.{Store, WalkS, put, walkS}
-use Rattle.rollout.specs.Inside.{stored, Row, boundsIn, Children, Updated, Ready, WalkLeft, readAt, updated, Rung, Up, Landed, Climb, Climbed}
+use Rattle.rollout.specs.Lists.{Store, WalkS, putBoth, walkS}
+use Rattle.rollout.specs.Inside.{stored, Siblings, boundsIn, Children, Updated, ReadyNode, WalkLeft, readAt, updated, Rung, Up, Landed, Climb, Climbed}
 use Rattle.rollout.proofs.Walks.{Window, Choosing, ready-leaf, inner-rung, inner-child, child-ready, child-upto, inner-walk}
 
 -- ---- the updates on the way up
@@ -43,12 +43,12 @@ module _ (K S Q : List ℕ) (upto : ℕ) (whole : WalkS) where
 -- ---- down: at node c, a candidate in the window α, β, under the first `depth` nodes of the path
 
 pub record Descent (K S H : List ℕ) (G upto : ℕ) (whole : WalkS) (st : Store) (P Q : List ℕ) (c depth at α β : ℕ) : Type 0 where
-  pub ready : Ready K S H G c α β st
+  pub ready : ReadyNode K S H G c α β st
   pub within : ready .upto ≤ upto
   pub deep : depth ≤ c
   pub rungs : Up K S Q upto whole depth (walkS G α β 0 (drop at P) (ready .nodes) st)
 
-pub descent-begin : {K S H : List ℕ} {G α β : ℕ} {st : Store} (P Q : List ℕ) (at : ℕ) (R : Ready K S H G 0 α β st)
+pub descent-begin : {K S H : List ℕ} {G α β : ℕ} {st : Store} (P Q : List ℕ) (at : ℕ) (R : ReadyNode K S H G 0 α β st)
     → Descent K S H G (R .upto) (walkS G α β 0 (drop at P) (R .nodes) st) st P Q 0 0 at α β
 unfolding Up
 descent-begin P Q at R = record { ready = R; within = omega arith; deep = omega arith; rungs = refl }
@@ -88,7 +88,7 @@ module _ {K S H : List ℕ} {G upto : ℕ} {whole : WalkS} {st : Store} {P Q : L
 -- ---- up
 
 -- from the leaf that was read
-pub climb-begin : {K S H : List ℕ} {G α β : ℕ} {st : Store} (R : Ready K S H G 0 α β st) {whole : WalkS} {P Q : List ℕ} {r : Step}
+pub climb-begin : {K S H : List ℕ} {G α β : ℕ} {st : Store} (R : ReadyNode K S H G 0 α β st) {whole : WalkS} {P Q : List ℕ} {r : Step}
     → Landed K S H G (R .upto) whole st P Q r → (low high : List ℕ)
     → low ≡ set (st .low) (r .leaf) (getD H (r .leaf) 0 * G) → high ≡ set (st .high) (r .leaf) (getD H (r .leaf) 0 * G)
     → Climb K S Q (r .depth) (stored low high)
@@ -135,8 +135,8 @@ module _ {K S Q : List ℕ} {d : ℕ} {st : Store} (C : Climb K S Q d st) where
 
       -- and where its run stops as e
       module _ (e : ℕ) (ee : e ≡ getD S c 0) where
-        row-to : Row S (c + 1) e (rung .0 .under)
-        row-to = subst (λ (x : ℕ). Row S (c + 1) x (rung .0 .under)) (sym ee) (rung .0 .row)
+        row-to : Siblings S (c + 1) e (rung .0 .under)
+        row-to = subst (λ (x : ℕ). Siblings S (c + 1) x (rung .0 .under)) (sym ee) (rung .0 .row)
 
         pub climb-children : Children S (c + 1) e × (c + 1 < e) × (e ≤ length (st .low)) × (e ≤ length (st .high))
         climb-children =
@@ -165,7 +165,7 @@ module _ {K S Q : List ℕ} {d : ℕ} {st : Store} (C : Climb K S Q d st) where
                 last = updated (kindOf (getD K c 0)) (rung .0 .under) c (C .last);
                 rungs = rung .1;
                 store =
-                    ap (λ (s : Store). put s c (over natural (kindOf (getD K c 0)) 0 (boundsIn (rung .0 .under) (s .low))) (over natural (kindOf (getD K c 0)) 0 (boundsIn (rung .0 .under) (s .high)))) (C .store)
+                    ap (λ (s : Store). putBoth s c (over natural (kindOf (getD K c 0)) 0 (boundsIn (rung .0 .under) (s .low))) (over natural (kindOf (getD K c 0)) 0 (boundsIn (rung .0 .under) (s .high)))) (C .store)
                     ∙ sym (ap₂ stored (set-is (st .low) low el) (set-is (st .high) high eh));
                 path = omega (arith, C .path);
                 kinds = C .kinds;
@@ -191,7 +191,7 @@ climbing-on C (D, same) o c ec y ey e ee low high el eh = (climb-on D o c ec e e
 -- ---- the whole walk
 
 -- the leaf was read, and the path climbed
-pub walk-left : {K S H : List ℕ} {G α β : ℕ} {st : Store} (R : Ready K S H G 0 α β st) {whole : WalkS} {P Q : List ℕ} {r : Step}
+pub walk-left : {K S H : List ℕ} {G α β : ℕ} {st : Store} (R : ReadyNode K S H G 0 α β st) {whole : WalkS} {P Q : List ℕ} {r : Step}
     → Landed K S H G (R .upto) whole st P Q r → (low high : List ℕ)
     → low ≡ set (st .low) (r .leaf) (getD H (r .leaf) 0 * G) → high ≡ set (st .high) (r .leaf) (getD H (r .leaf) 0 * G)
     → (now : Store) → Climbed K S Q (r .depth) (stored low high) now → WalkLeft whole r P now

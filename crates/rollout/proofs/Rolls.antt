@@ -5,19 +5,16 @@ use mathlib.Core.Bool.{Bool, true, false, cond}
 use mathlib.Core.List.{List, [], _∷_, _++_}
 use native.Mathlib.Omega.{arith}
 use borrow.Author.Tests.{ltb-true, ltb-false, lt-ltb, le-ltb}
-use lib.Dec.{ltb}
+use lib.Dec.{ltb, ltb→lt, nltb→le}
 use lib.ListN.{length}
+use Rattle.field.proofs.Small.{choose}
 use Rattle.rollout.specs.Rollout.{Kept, none, tip, knot, Walk, Rolled, lows, highs, firstOr, over, candidate, candidates, walk, roll}
 use Rattle.rollout.specs.Heights.{natural}
 use Rattle.rollout.specs.Leaves.{Drops, now, later, Picks, nothing, this}
-use Rattle.rollout.specs.Sound.{Filled, Sound}
+use Rattle.rollout.specs.Sound.{SomeNode, Sound}
 use Rattle.rollout.proofs.Numbers.{drops-length}
 use Rattle.rollout.proofs.Folds.{Some, Beside, done, also, over-le}
-use Rattle.rollout.proofs.Turns.{Turns, at-tip, at-knot, past-tip, past-knot, Reads, some-lows, walk-reads, turns-filled, turns-sound}
-
-choose : {A : Type 0} {x y : A} (P : A → Type 0) (b : Bool) → (b ≡ true → P x) → (b ≡ false → P y) → P (cond b x y)
-choose P true f g = f refl
-choose P false f g = g refl
+use Rattle.rollout.proofs.Turns.{Turns, at-tip, at-knot, past-tip, past-knot, Reads, some-lows, walk-reads, turns-some, turns-sound}
 
 -- ---- the exact worths
 
@@ -26,7 +23,7 @@ exacts none = []
 exacts (tip n v l h rest) = v ∷ exacts rest
 exacts (knot n k l h under rest) = over natural k 0 (exacts under) ∷ exacts rest
 
-pub some-exacts : (f : Kept ℕ) → Filled f → Some (exacts f)
+pub some-exacts : (f : Kept ℕ) → SomeNode f → Some (exacts f)
 unfolding exacts
 some-exacts none s = s
 some-exacts (tip n v l h rest) s = tt
@@ -100,9 +97,9 @@ pub rolls-sound : {f f2 : Kept ℕ} {l : List ℕ} → Rolls f l f2 → Sound f 
 rolls-sound still i = i
 rolls-sound (again t r) i = rolls-sound r (turns-sound t i)
 
-pub rolls-filled : {f f2 : Kept ℕ} {l : List ℕ} → Rolls f l f2 → Filled f → Filled f2
-rolls-filled still i = i
-rolls-filled (again t r) i = rolls-filled r (turns-filled t)
+pub rolls-some : {f f2 : Kept ℕ} {l : List ℕ} → Rolls f l f2 → SomeNode f → SomeNode f2
+rolls-some still i = i
+rolls-some (again t r) i = rolls-some r (turns-some t)
 
 pub rolls-exacts : {f f2 : Kept ℕ} {l : List ℕ} → Rolls f l f2 → exacts f2 ≡ exacts f
 rolls-exacts still = refl
@@ -122,31 +119,31 @@ module _ (bottom top : ℕ) where
   first-counted : (l h m : ℕ) → l < h → 0 < cond (candidate natural l h l h) (suc m) m
   first-counted l h m o = rw (lt-ltb (max l l) (min h h) (omega arith)) (omega arith)
 
-  root-counted : (f : Kept ℕ) → Filled f → rootLow f < rootHigh f → 0 < candidates natural (rootLow f) (rootHigh f) f
+  root-counted : (f : Kept ℕ) → SomeNode f → rootLow f < rootHigh f → 0 < candidates natural (rootLow f) (rootHigh f) f
   unfolding candidates lows highs
   root-counted none s o = absurd s
   root-counted (tip n v l h rest) s o = first-counted l h (candidates natural l h rest) o
   root-counted (knot n k l h under rest) s o = first-counted l h (candidates natural l h rest) o
 
   -- document 003, Lemma 3: while the root is open, a walk reads a leaf that was unread
-  pub root-reads : (p : List ℕ) (f : Kept ℕ) → Sound f → Filled f → ltb (rootLow f) (rootHigh f) ≡ true
+  pub root-reads : (p : List ℕ) (f : Kept ℕ) → Sound f → SomeNode f → ltb (rootLow f) (rootHigh f) ≡ true
       → Reads f (walk natural (rootLow f) (rootHigh f) 0 p f)
   root-reads p f i s e = walk-reads (rootLow f) (rootHigh f) 0 p f i (root-counted f s (ltb-true (rootLow f) (rootHigh f) e))
 
-  pub roll-rolls : (n : ℕ) (p : List ℕ) (f : Kept ℕ) → Sound f → Filled f
+  pub roll-rolls : (n : ℕ) (p : List ℕ) (f : Kept ℕ) → Sound f → SomeNode f
       → Rolls f (roll natural bottom top n p f .read) (roll natural bottom top n p f .kept)
   unfolding roll
   roll-rolls zero p f i s = still
   roll-rolls (suc n) p f i s =
       choose (λ (r : Rolled ℕ). Rolls f (r .read) (r .kept)) (ltb (rootLow f) (rootHigh f))
-      (λ e.
+      (λ o.
       let r : Walk ℕ = walk natural (rootLow f) (rootHigh f) 0 p f in
-      let x : Reads f r = root-reads p f i s e in
-      rw (x .read) (again (x .turns) (roll-rolls n (r .policy) (r .kept) (turns-sound (x .turns) i) (turns-filled (x .turns)))))
-      (λ e. still)
+      let x : Reads f r = root-reads p f i s (lt-ltb (rootLow f) (rootHigh f) (ltb→lt (rootLow f) (rootHigh f) o)) in
+      rw (x .read) (again (x .turns) (roll-rolls n (r .policy) (r .kept) (turns-sound (x .turns) i) (turns-some (x .turns)))))
+      (λ _. still)
 
   -- as many walks as there are unread leaves are enough
-  pub roll-closes : (n : ℕ) (p : List ℕ) (f : Kept ℕ) → Sound f → Filled f → length (unread f) ≤ n
+  pub roll-closes : (n : ℕ) (p : List ℕ) (f : Kept ℕ) → Sound f → SomeNode f → length (unread f) ≤ n
       → rootHigh (roll natural bottom top n p f .kept) ≤ rootLow (roll natural bottom top n p f .kept)
   unfolding roll
   roll-closes zero p f i s m = ltb-false (rootLow f) (rootHigh f) (shut (ltb (rootLow f) (rootHigh f)) refl)
@@ -156,25 +153,25 @@ module _ (bottom top : ℕ) where
       shut false e = refl
   roll-closes (suc n) p f i s m =
       choose (λ (r : Rolled ℕ). rootHigh (r .kept) ≤ rootLow (r .kept)) (ltb (rootLow f) (rootHigh f))
-      (λ e.
+      (λ o.
       let r : Walk ℕ = walk natural (rootLow f) (rootHigh f) 0 p f in
-      let x : Reads f r = root-reads p f i s e in
-      roll-closes n (r .policy) (r .kept) (turns-sound (x .turns) i) (turns-filled (x .turns)) (omega (arith, drops-length (turns-drops (x .turns)))))
-      (λ e. ltb-false (rootLow f) (rootHigh f) e)
+      let x : Reads f r = root-reads p f i s (lt-ltb (rootLow f) (rootHigh f) (ltb→lt (rootLow f) (rootHigh f) o)) in
+      roll-closes n (r .policy) (r .kept) (turns-sound (x .turns) i) (turns-some (x .turns)) (omega (arith, drops-length (turns-drops (x .turns)))))
+      (λ o. nltb→le (rootLow f) (rootHigh f) o)
 
   -- the root's bounds hold its worth
-  pub root-holds : (f : Kept ℕ) → Sound f → Filled f → (rootLow f ≤ firstOr 0 (exacts f)) × (firstOr 0 (exacts f) ≤ rootHigh f)
+  pub root-holds : (f : Kept ℕ) → Sound f → SomeNode f → (rootLow f ≤ firstOr 0 (exacts f)) × (firstOr 0 (exacts f) ≤ rootHigh f)
   root-holds f i s = (
     first-beside (λ (x y : ℕ). x ≤ y) bottom 0 (some-lows f s) (lows-exact f i),
     first-beside (λ (x y : ℕ). x ≤ y) 0 top (some-exacts f s) (exact-highs f i),
   )
 
   -- rollouts end on the worth, and the root's high is the worth too
-  pub roll-ends : (n : ℕ) (p : List ℕ) (f : Kept ℕ) → Sound f → Filled f → length (unread f) ≤ n
+  pub roll-ends : (n : ℕ) (p : List ℕ) (f : Kept ℕ) → Sound f → SomeNode f → length (unread f) ≤ n
       → (rootLow (roll natural bottom top n p f .kept) ≡ firstOr 0 (exacts f)) × (rootHigh (roll natural bottom top n p f .kept) ≡ firstOr 0 (exacts f))
   roll-ends n p f i s m =
       let z : Kept ℕ = roll natural bottom top n p f .kept in
       let r = roll-rolls n p f i s in
       let c = roll-closes n p f i s m in
-      let h : (rootLow z ≤ firstOr 0 (exacts f)) × (firstOr 0 (exacts f) ≤ rootHigh z) = rw (rolls-exacts r) at (root-holds z (rolls-sound r i) (rolls-filled r s)) in
+      let h : (rootLow z ≤ firstOr 0 (exacts f)) × (firstOr 0 (exacts f) ≤ rootHigh z) = rw (rolls-exacts r) at (root-holds z (rolls-sound r i) (rolls-some r s)) in
       (omega arith, omega arith)

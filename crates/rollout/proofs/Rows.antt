@@ -14,13 +14,13 @@ use Rattle.search.proofs.Forest.{restOf, stopOf}
 use Rattle.rollout.specs.Rollout.{joined, over, candidate}
 use Rattle.rollout.specs.Heights.{natural}
 use Rattle.rollout.specs.Lists.{Store, lowAt, highAt, runs, candidatesS}
-use Rattle.rollout.specs.Inside.{Row, boundsIn, chosen}
+use Rattle.rollout.specs.Inside.{Siblings, boundsIn, chosen}
 use Rattle.rollout.proofs.Folds.{over-runs}
 
 -- ---- the entries
 
-pub row-le : (S : List ℕ) (c e : ℕ) (F : Forest ℕ) → Row S c e F → c ≤ e
-unfolding Row
+pub row-le : (S : List ℕ) (c e : ℕ) (F : Forest ℕ) → Siblings S c e F → c ≤ e
+unfolding Siblings
 row-le S c e end h = omega arith
 row-le S c e (leaf n w x rest) h = let r = row-le S (getD S c 0) e rest (h .2) in omega (arith, h .1)
 row-le S c e (inner n w k under rest) h = let r = row-le S (getD S c 0) e rest (h .2) in omega (arith, h .1)
@@ -29,19 +29,19 @@ row-le S c e (inner n w k under rest) h = let r = row-le S (getD S c 0) e rest (
 pub record First (S : List ℕ) (c e : ℕ) (F : Forest ℕ) : Type 0 where
   pub below : c < getD S c 0
   pub within : getD S c 0 ≤ e
-  pub rest : Row S (getD S c 0) e (restOf F)
+  pub rest : Siblings S (getD S c 0) e (restOf F)
 
-pub first : (S : List ℕ) (c e : ℕ) (F : Forest ℕ) → Row S c e F → c < e → First S c e F
-unfolding Row
+pub first : (S : List ℕ) (c e : ℕ) (F : Forest ℕ) → Siblings S c e F → c < e → First S c e F
+unfolding Siblings
 first S c e end h lt = absurd (omega arith)
 first S c e (leaf n w x rest) h lt = record { below = h .1; within = row-le S (getD S c 0) e rest (h .2); rest = h .2 }
 first S c e (inner n w k under rest) h lt = record { below = h .1; within = row-le S (getD S c 0) e rest (h .2); rest = h .2 }
 
-pub spans-row : (t : Slices) (c e : ℕ) (F : Forest ℕ) → Spans t c e F → Row (t .stops) c e F
-unfolding Spans Row
+pub spans-row : (t : Slices) (c e : ℕ) (F : Forest ℕ) → Spans t c e F → Siblings (t .stops) c e F
+unfolding Spans Siblings
 spans-row t c e end h = h
 spans-row t c e (leaf n w x rest) h =
-    (h .0, omega (arith, h .2), subst (λ (m : ℕ). Row (t .stops) m e rest) (sym (h .2)) (spans-row t (c + 1) e rest (h .5)))
+    (h .0, omega (arith, h .2), subst (λ (m : ℕ). Siblings (t .stops) m e rest) (sym (h .2)) (spans-row t (c + 1) e rest (h .5)))
 spans-row t c e (inner n w k under rest) h =
     (h .0, omega (arith, spans-le t (c + 1) (stopOf t c) under (h .3)), spans-row t (stopOf t c) e rest (h .4))
 
@@ -56,34 +56,34 @@ module _ (α β : ℕ) (st : Store) where
   abbrev pub live : ℕ → Bool
   live c = candidate natural α β (lowAt st c) (highAt st c)
 
-  pub candidates-first : (S : List ℕ) (c e : ℕ) (F : Forest ℕ) → Row S c e F → c < e
+  pub candidates-first : (S : List ℕ) (c e : ℕ) (F : Forest ℕ) → Siblings S c e F → c < e
       → candidatesS α β F st ≡ cond (live c) 1 0 + candidatesS α β (restOf F) st
-  unfolding Row candidatesS
+  unfolding Siblings candidatesS
   candidates-first S c e end h lt = absurd (omega arith)
   candidates-first S c e (leaf n w x rest) h lt = rw (h .0) (one-more (live c) (candidatesS α β rest st))
   candidates-first S c e (inner n w k under rest) h lt = rw (h .0) (one-more (live c) (candidatesS α β rest st))
 
-  pub candidates-none : (S : List ℕ) (c e : ℕ) (F : Forest ℕ) → Row S c e F → e ≤ c → candidatesS α β F st ≡ 0
-  unfolding Row candidatesS
+  pub candidates-none : (S : List ℕ) (c e : ℕ) (F : Forest ℕ) → Siblings S c e F → e ≤ c → candidatesS α β F st ≡ 0
+  unfolding Siblings candidatesS
   candidates-none S c e end h le = refl
   candidates-none S c e (leaf n w x rest) h le = let r = row-le S (getD S c 0) e rest (h .2) in absurd (omega (arith, h .1))
   candidates-none S c e (inner n w k under rest) h le = let r = row-le S (getD S c 0) e rest (h .2) in absurd (omega (arith, h .1))
 
-  chosen-first : (S : List ℕ) (c e j : ℕ) (F : Forest ℕ) → Row S c e F → c < e
+  chosen-first : (S : List ℕ) (c e j : ℕ) (F : Forest ℕ) → Siblings S c e F → c < e
       → chosen α β j F st ≡ cond (live c && eqb j 0) c (chosen α β (cond (live c) (pred j) j) (restOf F) st)
-  unfolding Row chosen
+  unfolding Siblings chosen
   chosen-first S c e j end h lt = absurd (omega arith)
   chosen-first S c e j (leaf n w x rest) h lt = rw (h .0) refl
   chosen-first S c e j (inner n w k under rest) h lt = rw (h .0) refl
 
-bounds-first : (S : List ℕ) (c e : ℕ) (F : Forest ℕ) (b : List ℕ) → Row S c e F → c < e → boundsIn F b ≡ getD b c 0 ∷ boundsIn (restOf F) b
-unfolding Row boundsIn
+bounds-first : (S : List ℕ) (c e : ℕ) (F : Forest ℕ) (b : List ℕ) → Siblings S c e F → c < e → boundsIn F b ≡ getD b c 0 ∷ boundsIn (restOf F) b
+unfolding Siblings boundsIn
 bounds-first S c e end b h lt = absurd (omega arith)
 bounds-first S c e (leaf n w x rest) b h lt = rw (h .0) refl
 bounds-first S c e (inner n w k under rest) b h lt = rw (h .0) refl
 
-bounds-none : (S : List ℕ) (c e : ℕ) (F : Forest ℕ) (b : List ℕ) → Row S c e F → e ≤ c → boundsIn F b ≡ []
-unfolding Row boundsIn
+bounds-none : (S : List ℕ) (c e : ℕ) (F : Forest ℕ) (b : List ℕ) → Siblings S c e F → e ≤ c → boundsIn F b ≡ []
+unfolding Siblings boundsIn
 bounds-none S c e end b h le = refl
 bounds-none S c e (leaf n w x rest) b h le = let r = row-le S (getD S c 0) e rest (h .2) in absurd (omega (arith, h .1))
 bounds-none S c e (inner n w k under rest) b h le = let r = row-le S (getD S c 0) e rest (h .2) in absurd (omega (arith, h .1))
@@ -92,10 +92,10 @@ bounds-none S c e (inner n w k under rest) b h le = let r = row-le S (getD S c 0
 
 pub record Counting (S : List ℕ) (e α β : ℕ) (st : Store) (F : Forest ℕ) (m i : ℕ) : Type 0 where
   pub nodes : Forest ℕ
-  pub row : Row S i e nodes
+  pub row : Siblings S i e nodes
   pub count : candidatesS α β F st ≡ m + candidatesS α β nodes st
 
-pub count-start : (S : List ℕ) (c e α β : ℕ) (st : Store) (F : Forest ℕ) → Row S c e F → Counting S e α β st F 0 c
+pub count-start : (S : List ℕ) (c e α β : ℕ) (st : Store) (F : Forest ℕ) → Siblings S c e F → Counting S e α β st F 0 c
 count-start S c e α β st F h = record { nodes = F; row = h; count = omega arith }
 
 module _ {S : List ℕ} {e α β : ℕ} {st : Store} {F : Forest ℕ} {m i : ℕ} (C : Counting S e α β st F m i) where
@@ -107,7 +107,7 @@ module _ {S : List ℕ} {e α β : ℕ} {st : Store} {F : Forest ℕ} {m i : ℕ
       let one : o ≡ cond (live α β st i) 1 0 = q ∙ ap (λ (x : Bool). cond x 1 0) p in
       record {
         nodes = restOf (C .nodes);
-        row = subst (λ (n : ℕ). Row S n e (restOf (C .nodes))) (sym r) (count-first lt .rest);
+        row = subst (λ (n : ℕ). Siblings S n e (restOf (C .nodes))) (sym r) (count-first lt .rest);
         count = omega (arith, C .count, one, candidates-first α β st S i e (C .nodes) (C .row) lt);
       }
 
@@ -118,15 +118,15 @@ module _ {S : List ℕ} {e α β : ℕ} {st : Store} {F : Forest ℕ} {m i : ℕ
 
 pub record Seeking (S : List ℕ) (e α β : ℕ) (st : Store) (F : Forest ℕ) (j left i : ℕ) : Type 0 where
   pub nodes : Forest ℕ
-  pub row : Row S i e nodes
+  pub row : Siblings S i e nodes
   pub some : left < candidatesS α β nodes st
   pub same : chosen α β j F st ≡ chosen α β left nodes st
 
-pub seek-start : (S : List ℕ) (c e α β : ℕ) (st : Store) (F : Forest ℕ) (j : ℕ) → Row S c e F → j < candidatesS α β F st → Seeking S e α β st F j j c
+pub seek-start : (S : List ℕ) (c e α β : ℕ) (st : Store) (F : Forest ℕ) (j : ℕ) → Siblings S c e F → j < candidatesS α β F st → Seeking S e α β st F j j c
 seek-start S c e α β st F j h l = record { nodes = F; row = h; some = l; same = refl }
 
-pub candidates-some : (α β : ℕ) (st : Store) (S : List ℕ) (c e : ℕ) (F : Forest ℕ) → Row S c e F → 0 < candidatesS α β F st → c < e
-unfolding Row candidatesS
+pub candidates-some : (α β : ℕ) (st : Store) (S : List ℕ) (c e : ℕ) (F : Forest ℕ) → Siblings S c e F → 0 < candidatesS α β F st → c < e
+unfolding Siblings candidatesS
 candidates-some α β st S c e end h lt = absurd (omega arith)
 candidates-some α β st S c e (leaf n w x rest) h lt = let r = row-le S (getD S c 0) e rest (h .2) in omega (arith, h .1)
 candidates-some α β st S c e (inner n w k under rest) h lt = let r = row-le S (getD S c 0) e rest (h .2) in omega (arith, h .1)
@@ -169,7 +169,7 @@ module _ {S : List ℕ} {e α β : ℕ} {st : Store} {F : Forest ℕ} {j left i 
         let down : cond (live α β st i) (pred left) left ≡ left - o = ap (λ (x : Bool). cond x (pred left) left) (sym p) ∙ down-is b left ∙ ap (λ (x : ℕ). left - x) (sym q) in
         record {
           nodes = restOf (C .nodes);
-          row = subst (λ (n : ℕ). Row S n e (restOf (C .nodes))) (sym r) (seek-first .rest);
+          row = subst (λ (n : ℕ). Siblings S n e (restOf (C .nodes))) (sym r) (seek-first .rest);
           some = omega (arith, less .1, q);
           same =
               C .same ∙ chosen-first α β st S i e left (C .nodes) (C .row) seek-within
@@ -180,15 +180,15 @@ module _ {S : List ℕ} {e α β : ℕ} {st : Store} {F : Forest ℕ} {j left i 
 
 pub record Folding (k : Kind) (S : List ℕ) (e : ℕ) (b : List ℕ) (F : Forest ℕ) (x i : ℕ) : Type 0 where
   pub nodes : Forest ℕ
-  pub row : Row S i e nodes
+  pub row : Siblings S i e nodes
   pub same : over natural k 0 (boundsIn F b) ≡ runs k x (boundsIn nodes b)
 
-pub fold-start : (k : Kind) (S : List ℕ) (c e : ℕ) (b : List ℕ) (F : Forest ℕ) → Row S c e F → c < e → (x i : ℕ) → x ≡ getD b c 0 → i ≡ getD S c 0
+pub fold-start : (k : Kind) (S : List ℕ) (c e : ℕ) (b : List ℕ) (F : Forest ℕ) → Siblings S c e F → c < e → (x i : ℕ) → x ≡ getD b c 0 → i ≡ getD S c 0
     → Folding k S e b F x i
 fold-start k S c e b F h lt x i p q =
     record {
       nodes = restOf F;
-      row = subst (λ (n : ℕ). Row S n e (restOf F)) (sym q) (first S c e F h lt .rest);
+      row = subst (λ (n : ℕ). Siblings S n e (restOf F)) (sym q) (first S c e F h lt .rest);
       same =
           ap (over natural k 0) (bounds-first S c e F b h lt) ∙ over-runs k 0 (getD b c 0) (boundsIn (restOf F) b)
           ∙ ap (λ (y : ℕ). runs k y (boundsIn (restOf F) b)) (sym p);
@@ -210,7 +210,7 @@ module _ {k : Kind} {S : List ℕ} {e : ℕ} {b : List ℕ} {F : Forest ℕ} {x 
   fold-turn lt y x′ i′ p q r =
       record {
         nodes = restOf (C .nodes);
-        row = subst (λ (n : ℕ). Row S n e (restOf (C .nodes))) (sym r) (fold-first lt .rest);
+        row = subst (λ (n : ℕ). Siblings S n e (restOf (C .nodes))) (sym r) (fold-first lt .rest);
         same =
             C .same ∙ ap (runs k x) (bounds-first S i e (C .nodes) b (C .row) lt) ∙ runs-more k x (getD b i 0) (boundsIn (restOf (C .nodes)) b)
             ∙ ap (λ (z : ℕ). runs k z (boundsIn (restOf (C .nodes)) b)) (ap (joined natural k x) (sym p) ∙ sym q);

@@ -5,9 +5,9 @@ use mathlib.Core.Bool.{Bool, false, not}
 use mathlib.Core.List.{List}
 use native.Mathlib.Decide.{decLe}
 use native.Mathlib.Omega.{arith}
-use borrow.Author.Tests.{lt-ltb, le-ltb, le-leb, lt-leb}
+use borrow.Author.Tests.{le-leb, lt-leb}
 use lib.Dec.{ltb, leb}
-use lib.IntN.{ℤ, pos, negsuc, _+ℤ_, _*ℤ_, +ℤ-idr}
+use lib.IntN.{ℤ, pos, _+ℤ_, _*ℤ_, +ℤ-idr}
 use lib.Signed.{ltZ, leZ}
 use Rattle.line.specs.declared.Head.{Head}
 use Rattle.line.specs.Line.{Within}
@@ -22,6 +22,7 @@ use Rattle.worth.proofs.Signs.{plus, minus, parts, is-le}
 use Rattle.worth.proofs.Shift.{lift, leaf-shift, max-shift, min-shift}
 use Rattle.search.specs.Whole.{inGrains}
 use Rattle.search.specs.Heights.{grained}
+use Rattle.search.proofs.Shift.{less-natural, less-whole}
 use Rattle.rollout.specs.Rollout.{fresh, roll, rollouts}
 use Rattle.rollout.specs.Whole.{whole, bottom, top, rolled}
 use Rattle.rollout.specs.Heights.{natural, heightRolled}
@@ -30,15 +31,6 @@ use Rattle.rollout.specs.Store.{afterWalks}
 use Rattle.rollout.proofs.Raise.{Keeps, fresh-map, roll-map, rollouts-map}
 
 -- ---- the order above b
-
-ltb-not : (x y : ℕ) → ltb x y ≡ not (leb y x)
-ltb-not x y = elim (decLe y x) [ yes h ↦ rw (le-ltb x y h, le-leb y x h) | no h ↦ let l : x < y = omega arith in rw (lt-ltb x y l, lt-leb y x l) ]
-
-ltZ-not : (y z : ℤ) → ltZ y z ≡ not (leZ z y)
-ltZ-not (pos m) (pos n) = ltb-not m n
-ltZ-not (pos m) (negsuc n) = refl
-ltZ-not (negsuc m) (pos n) = refl
-ltZ-not (negsuc m) (negsuc n) = ltb-not n m
 
 leb-same : (x y u v : ℕ) → (x ≤ y → u ≤ v) → (u ≤ v → x ≤ y) → leb x y ≡ leb u v
 leb-same x y u v f g =
@@ -52,7 +44,7 @@ le-above b x y =
     ∙ leb-same (p + x + q) (p + y + q) x y (λ h. omega arith) (λ h. omega arith)
 
 pub lt-above : (b : ℤ) (x y : ℕ) → ltZ (b +ℤ pos x) (b +ℤ pos y) ≡ ltb x y
-lt-above b x y = ltZ-not (b +ℤ pos x) (b +ℤ pos y) ∙ ap not (le-above b y x) ∙ sym (ltb-not x y)
+lt-above b x y = less-whole (b +ℤ pos x) (b +ℤ pos y) ∙ ap not (le-above b y x) ∙ sym (less-natural x y)
 
 pub keeps : (b : ℤ) → Keeps natural whole (λ (x : ℕ). b +ℤ pos x)
 keeps b = record { greater = max-shift b; lesser = min-shift b; test = lt-above b }

@@ -11,12 +11,13 @@ use lib.Seq.{getD-set-same, getD-set-other, drop-cons, take-add, drop-drop}
 use Rattle.line.proofs.Signs.{true-ne-false}
 use Rattle.table.specs.Tree.{Kind, Forest, end, leaf, inner, isEnd}
 use Rattle.search.specs.Heights.{grained}
+use Rattle.table.proofs.Runs.{size, Numbered}
 use Rattle.rollout.specs.Rollout.{Kept, tip, knot, Pair, Walk, Rolled, pick, spend, fresh, lows, highs, records, firstOr, over, candidate, candidates, walk, roll}
 use Rattle.rollout.specs.Heights.{natural}
-use Rattle.rollout.specs.Lists.{Store, lowAt, highAt, put, Room, At, Frame, pairs, size, Numbered, lowsS, highsS, candidatesS, WalkS, RolledS, keep, walkS, rollS}
+use Rattle.rollout.specs.Lists.{Store, lowAt, highAt, putBoth, Room, At, Frame, pairs, lowsS, highsS, candidatesS, WalkS, RolledS, keep, walkS, rollS}
 
-put-other : (st : Store) (n l h i : ℕ) → i ≢ n → At st (put st n l h) i
-put-other st n l h i e = (getD-set-other (st .low) n i l 0 e, getD-set-other (st .high) n i h 0 e)
+put-both-other : (st : Store) (n l h i : ℕ) → i ≢ n → At st (putBoth st n l h) i
+put-both-other st n l h i e = (getD-set-other (st .low) n i l 0 e, getD-set-other (st .high) n i h 0 e)
 
 -- either way of a test
 both : {A B : Type 0} {x y : A} {u v : B} (P : A → B → Type 0) (b : Bool) → P x u → P y v → P (cond b x y) (cond b u v)
@@ -58,16 +59,16 @@ module _ (G : ℕ) where
   -- ---- what the tree keeps
 
   keep-same : (F : Forest ℕ) (a : ℕ) (st st2 : Store) → Numbered a F → ((i : ℕ) → a ≤ i → i < a + size F → At st st2 i) → keep G F st2 ≡ keep G F st
-  unfolding keep size Numbered
+  unfolding keep
   keep-same end a st st2 q e = refl
   keep-same (leaf n w x rest) a st st2 q e =
       let p = e n (omega (arith, q .0)) (omega (arith, q .0)) in
-      let r : keep G rest st2 ≡ keep G rest st = keep-same rest (a + 1) st st2 (q .1) (λ i b c. e i (omega arith) (omega arith)) in
+      let r : keep G rest st2 ≡ keep G rest st = keep-same rest (suc a) st st2 (q .1) (λ i b c. e i (omega arith) (omega arith)) in
       rw (p .0, p .1, r)
   keep-same (inner n w k under rest) a st st2 q e =
       let p = e n (omega (arith, q .0)) (omega (arith, q .0)) in
-      let u : keep G under st2 ≡ keep G under st = keep-same under (a + 1) st st2 (q .1) (λ i b c. e i (omega arith) (omega arith)) in
-      let r : keep G rest st2 ≡ keep G rest st = keep-same rest (a + 1 + size under) st st2 (q .2) (λ i b c. e i (omega arith) (omega arith)) in
+      let u : keep G under st2 ≡ keep G under st = keep-same under (suc a) st st2 (q .1) (λ i b c. e i (omega arith) (omega arith)) in
+      let r : keep G rest st2 ≡ keep G rest st = keep-same rest (suc a + size under) st st2 (q .2) (λ i b c. e i (omega arith) (omega arith)) in
       rw (p .0, p .1, u, r)
 
   pub lows-keep : (F : Forest ℕ) (st : Store) → lowsS F st ≡ lows (keep G F st)
@@ -98,12 +99,12 @@ module _ (G : ℕ) where
     pub frame : Frame a (size F) st (r .store)
 
   now-leaf : (n w x : ℕ) (rest : Forest ℕ) (p : List ℕ) (st : Store) (a : ℕ) → Numbered a (leaf n w x rest) → Room (a + size (leaf n w x rest)) st
-      → Like a (leaf n w x rest) st (record { store = put st n (x * G) (x * G); read = n ∷ []; policy = p })
+      → Like a (leaf n w x rest) st (record { store = putBoth st n (x * G) (x * G); read = n ∷ []; policy = p })
       (record { kept = tip n (x * G) (x * G) (x * G) (keep G rest st); read = n ∷ []; policy = p })
-  unfolding keep size Numbered
+  unfolding keep
   now-leaf n w x rest p st a q m =
       let v : ℕ = x * G in
-      let e : keep G rest (put st n v v) ≡ keep G rest st = keep-same rest (a + 1) st (put st n v v) (q .1) (λ i b c. put-other st n v v i (omega (arith, q .0))) in
+      let e : keep G rest (putBoth st n v v) ≡ keep G rest st = keep-same rest (suc a) st (putBoth st n v v) (q .1) (λ i b c. put-both-other st n v v i (omega (arith, q .0))) in
       let l : getD (set (st .low) n v) n 0 ≡ v = getD-set-same (st .low) n v 0 (omega (arith, q .0)) in
       let h : getD (set (st .high) n v) n 0 ≡ v = getD-set-same (st .high) n v 0 (omega (arith, q .0)) in
       record {
@@ -113,14 +114,14 @@ module _ (G : ℕ) where
         frame = record {
           low = length-set (st .low) n v;
           high = length-set (st .high) n v;
-          before = λ i b. put-other st n v v i (omega (arith, q .0));
-          behind = λ i b. put-other st n v v i (omega (arith, q .0));
+          before = λ i b. put-both-other st n v v i (omega (arith, q .0));
+          behind = λ i b. put-both-other st n v v i (omega (arith, q .0));
         };
       }
 
-  later-leaf : (n w x : ℕ) (rest : Forest ℕ) (st : Store) (a : ℕ) (r : WalkS) (u : Walk ℕ) → Numbered a (leaf n w x rest) → Like (a + 1) rest st r u
+  later-leaf : (n w x : ℕ) (rest : Forest ℕ) (st : Store) (a : ℕ) (r : WalkS) (u : Walk ℕ) → Numbered a (leaf n w x rest) → Like (suc a) rest st r u
       → Like a (leaf n w x rest) st r (record { kept = tip n (x * G) (lowAt st n) (highAt st n) (u .kept); read = u .read; policy = u .policy })
-  unfolding keep size Numbered
+  unfolding keep
   later-leaf n w x rest st a r u q i =
       let e = i .frame .before n (omega (arith, q .0)) in
       record {
@@ -136,13 +137,13 @@ module _ (G : ℕ) where
       }
 
   later-inner : (n w : ℕ) (k : Kind) (under rest : Forest ℕ) (st : Store) (a : ℕ) (r : WalkS) (u : Walk ℕ) → Numbered a (inner n w k under rest)
-      → Like (a + 1 + size under) rest st r u
+      → Like (suc a + size under) rest st r u
       → Like a (inner n w k under rest) st r
       (record { kept = knot n k (lowAt st n) (highAt st n) (keep G under st) (u .kept); read = u .read; policy = u .policy })
-  unfolding keep size Numbered
+  unfolding keep
   later-inner n w k under rest st a r u q i =
       let e = i .frame .before n (omega (arith, q .0)) in
-      let d : keep G under (r .store) ≡ keep G under st = keep-same under (a + 1) st (r .store) (q .1) (λ y b z. i .frame .before y z) in
+      let d : keep G under (r .store) ≡ keep G under st = keep-same under (suc a) st (r .store) (q .1) (λ y b z. i .frame .before y z) in
       record {
         kept = rw (e .0, e .1, d, i .kept);
         read = i .read;
@@ -156,21 +157,21 @@ module _ (G : ℕ) where
       }
 
   now-inner : (n w L H : ℕ) (k : Kind) (under rest : Forest ℕ) (st : Store) (a : ℕ) (r : WalkS) (u : Walk ℕ) → Numbered a (inner n w k under rest)
-      → Room (a + size (inner n w k under rest)) st → Like (a + 1) under st r u
+      → Room (a + size (inner n w k under rest)) st → Like (suc a) under st r u
       → Like a (inner n w k under rest) st
-      (record { store = put (r .store) n (over natural k L (lowsS under (r .store))) (over natural k H (highsS under (r .store))); read = r .read; policy = r .policy })
+      (record { store = putBoth (r .store) n (over natural k L (lowsS under (r .store))) (over natural k H (highsS under (r .store))); read = r .read; policy = r .policy })
       (record { kept = knot n k (over natural k L (lows (u .kept))) (over natural k H (highs (u .kept))) (u .kept) (keep G rest st); read = u .read; policy = u .policy })
-  unfolding keep size Numbered
+  unfolding keep
   now-inner n w L H k under rest st a r u q m i =
       let v : ℕ = over natural k L (lowsS under (r .store)) in
       let z : ℕ = over natural k H (highsS under (r .store)) in
       let st2 : Store = r .store in
       let f = i .frame in
-      let d : keep G under (put st2 n v z) ≡ u .kept
-      = keep-same under (a + 1) st2 (put st2 n v z) (q .1) (λ y b c. put-other st2 n v z y (omega (arith, q .0))) ∙ i .kept in
-      let e : keep G rest (put st2 n v z) ≡ keep G rest st
-      = keep-same rest (a + 1 + size under) st2 (put st2 n v z) (q .2) (λ y b c. put-other st2 n v z y (omega (arith, q .0)))
-      ∙ keep-same rest (a + 1 + size under) st st2 (q .2) (λ y b c. f .behind y b) in
+      let d : keep G under (putBoth st2 n v z) ≡ u .kept
+      = keep-same under (suc a) st2 (putBoth st2 n v z) (q .1) (λ y b c. put-both-other st2 n v z y (omega (arith, q .0))) ∙ i .kept in
+      let e : keep G rest (putBoth st2 n v z) ≡ keep G rest st
+      = keep-same rest (suc a + size under) st2 (putBoth st2 n v z) (q .2) (λ y b c. put-both-other st2 n v z y (omega (arith, q .0)))
+      ∙ keep-same rest (suc a + size under) st st2 (q .2) (λ y b c. f .behind y b) in
       let l : getD (set (st2 .low) n v) n 0 ≡ over natural k L (lows (u .kept))
       = getD-set-same (st2 .low) n v 0 (omega (arith, q .0, f .low)) ∙ ap (over natural k L) (lows-keep under st2 ∙ ap lows (i .kept)) in
       let h : getD (set (st2 .high) n z) n 0 ≡ over natural k H (highs (u .kept))
@@ -182,14 +183,14 @@ module _ (G : ℕ) where
         frame = record {
           low = length-set (st2 .low) n v ∙ f .low;
           high = length-set (st2 .high) n z ∙ f .high;
-          before = λ y b. at-then st st2 (put st2 n v z) y (f .before y (omega arith)) (put-other st2 n v z y (omega (arith, q .0)));
-          behind = λ y b. at-then st st2 (put st2 n v z) y (f .behind y (omega arith)) (put-other st2 n v z y (omega (arith, q .0)));
+          before = λ y b. at-then st st2 (putBoth st2 n v z) y (f .before y (omega arith)) (put-both-other st2 n v z y (omega (arith, q .0)));
+          behind = λ y b. at-then st st2 (putBoth st2 n v z) y (f .behind y (omega arith)) (put-both-other st2 n v z y (omega (arith, q .0)));
         };
       }
 
   pub walk-keep : (α β j : ℕ) (p : List ℕ) (F : Forest ℕ) (st : Store) (a : ℕ) → Numbered a F → Room (a + size F) st
       → Like a F st (walkS G α β j p F st) (walk natural α β j p (keep G F st))
-  unfolding walkS walk keep size Numbered
+  unfolding walkS walk keep
   walk-keep α β j p end st a q m =
       record { kept = refl; read = refl; policy = refl; frame = frame-still a 0 st }
   walk-keep α β j p (leaf n w x rest) st a q m =
@@ -198,7 +199,7 @@ module _ (G : ℕ) where
       both (Like a (leaf n w x rest) st) (t && eqb j 0)
       (now-leaf n w x rest p st a q m)
       (later-leaf n w x rest st a (walkS G α β i p rest st) (walk natural α β i p (keep G rest st)) q
-      (walk-keep α β i p rest st (a + 1) (q .1) (omega (arith, m .0), omega (arith, m .1))))
+      (walk-keep α β i p rest st (suc a) (q .1) (omega (arith, m .0), omega (arith, m .1))))
   walk-keep α β j p (inner n w k under rest) st a q m =
       let l : ℕ = lowAt st n in
       let h : ℕ = highAt st n in
@@ -210,11 +211,11 @@ module _ (G : ℕ) where
       both (Like a (inner n w k under rest) st) (t && eqb j 0)
       (now-inner n w l h k under rest st a (walkS G y z (pick c p) (spend p) under st)
       (walk natural y z (pick (candidates natural y z (keep G under st)) p) (spend p) (keep G under st)) q m
-      (subst (λ (x : ℕ). Like (a + 1) under st (walkS G y z (pick c p) (spend p) under st) (walk natural y z (pick x p) (spend p) (keep G under st)))
+      (subst (λ (x : ℕ). Like (suc a) under st (walkS G y z (pick c p) (spend p) under st) (walk natural y z (pick x p) (spend p) (keep G under st)))
       (candidates-keep y z under st)
-      (walk-keep y z (pick c p) (spend p) under st (a + 1) (q .1) (omega (arith, m .0), omega (arith, m .1)))))
+      (walk-keep y z (pick c p) (spend p) under st (suc a) (q .1) (omega (arith, m .0), omega (arith, m .1)))))
       (later-inner n w k under rest st a (walkS G α β i p rest st) (walk natural α β i p (keep G rest st)) q
-      (walk-keep α β i p rest st (a + 1 + size under) (q .2) (omega (arith, m .0), omega (arith, m .1))))
+      (walk-keep α β i p rest st (suc a + size under) (q .2) (omega (arith, m .0), omega (arith, m .1))))
 
   -- ---- walks one after another
 
@@ -226,13 +227,13 @@ module _ (G : ℕ) where
 
   -- the root is node 0
   pub root-low : (b : ℕ) (F : Forest ℕ) (st : Store) → Numbered 0 F → isEnd F ≡ false → firstOr b (lows (keep G F st)) ≡ lowAt st 0
-  unfolding lows keep Numbered
+  unfolding lows keep
   root-low b end st q e = absurd (true-ne-false e)
   root-low b (leaf n w x rest) st q e = ap (lowAt st) (q .0)
   root-low b (inner n w k under rest) st q e = ap (lowAt st) (q .0)
 
   pub root-high : (b : ℕ) (F : Forest ℕ) (st : Store) → Numbered 0 F → isEnd F ≡ false → firstOr b (highs (keep G F st)) ≡ highAt st 0
-  unfolding highs keep Numbered
+  unfolding highs keep
   root-high b end st q e = absurd (true-ne-false e)
   root-high b (leaf n w x rest) st q e = ap (highAt st) (q .0)
   root-high b (inner n w k under rest) st q e = ap (highAt st) (q .0)
@@ -258,34 +259,30 @@ module _ (G : ℕ) where
 
   pub keep-fresh : (S : ℕ) (F : Forest ℕ) (a : ℕ) (st : Store) → Numbered a F → ((i : ℕ) → a ≤ i → i < a + size F → (lowAt st i ≡ 0) × (highAt st i ≡ S))
       → keep G F st ≡ fresh 0 S (grained G F)
-  unfolding keep fresh grained size Numbered
+  unfolding keep fresh grained
   keep-fresh S end a st q e = refl
   keep-fresh S (leaf n w x rest) a st q e =
       let p = e n (omega (arith, q .0)) (omega (arith, q .0)) in
-      let r = keep-fresh S rest (a + 1) st (q .1) (λ i b c. e i (omega arith) (omega arith)) in
+      let r = keep-fresh S rest (suc a) st (q .1) (λ i b c. e i (omega arith) (omega arith)) in
       rw (p .0, p .1, r)
   keep-fresh S (inner n w k under rest) a st q e =
       let p = e n (omega (arith, q .0)) (omega (arith, q .0)) in
-      let u = keep-fresh S under (a + 1) st (q .1) (λ i b c. e i (omega arith) (omega arith)) in
-      let r = keep-fresh S rest (a + 1 + size under) st (q .2) (λ i b c. e i (omega arith) (omega arith)) in
+      let u = keep-fresh S under (suc a) st (q .1) (λ i b c. e i (omega arith) (omega arith)) in
+      let r = keep-fresh S rest (suc a + size under) st (q .2) (λ i b c. e i (omega arith) (omega arith)) in
       rw (p .0, p .1, u, r)
 
   -- the records of the tree are the two lists, from its first node on
   pub records-keep : (F : Forest ℕ) (a : ℕ) (st : Store) → Numbered a F → Room (a + size F) st
       → records (keep G F st) ≡ pairs (take (size F) (drop a (st .low))) (take (size F) (drop a (st .high)))
-  unfolding records keep size Numbered pairs
+  unfolding records keep pairs
   records-keep end a st q m = refl
   records-keep (leaf n w x rest) a st q m =
-      let one : 1 + size rest ≡ suc (size rest) = omega arith in
-      let up : a + 1 ≡ suc a = omega arith in
-      let r = records-keep rest (a + 1) st (q .1) (omega (arith, m .0), omega (arith, m .1)) in
-      rw (q .0, one, drop-cons (st .low) a 0 (omega (arith, m .0)), drop-cons (st .high) a 0 (omega (arith, m .1)))
-      (ap (λ (l : List (Pair ℕ)). record { low = lowAt st a; high = highAt st a } ∷ l) (rw up at r))
+      let r = records-keep rest (suc a) st (q .1) (omega (arith, m .0), omega (arith, m .1)) in
+      rw (q .0, drop-cons (st .low) a 0 (omega (arith, m .0)), drop-cons (st .high) a 0 (omega (arith, m .1)))
+      (ap (λ (l : List (Pair ℕ)). record { low = lowAt st a; high = highAt st a } ∷ l) r)
   records-keep (inner n w k under rest) a st q m =
-      let one : 1 + size under + size rest ≡ suc (size under + size rest) = omega arith in
-      let up : a + 1 ≡ suc a = omega arith in
-      let u = records-keep under (a + 1) st (q .1) (omega (arith, m .0), omega (arith, m .1)) in
-      let r = records-keep rest (a + 1 + size under) st (q .2) (omega (arith, m .0), omega (arith, m .1)) in
-      rw (q .0, one, drop-cons (st .low) a 0 (omega (arith, m .0)), drop-cons (st .high) a 0 (omega (arith, m .1)))
+      let u = records-keep under (suc a) st (q .1) (omega (arith, m .0), omega (arith, m .1)) in
+      let r = records-keep rest (suc a + size under) st (q .2) (omega (arith, m .0), omega (arith, m .1)) in
+      rw (q .0, drop-cons (st .low) a 0 (omega (arith, m .0)), drop-cons (st .high) a 0 (omega (arith, m .1)))
       (ap (λ (l : List (Pair ℕ)). record { low = lowAt st a; high = highAt st a } ∷ l)
-      (ap₂ _++_ (rw up at u) (rw up at r) ∙ pairs-two (size under) (size rest) (suc a) (st .low) (st .high) (omega (arith, m .0)) (omega (arith, m .1))))
+      (ap₂ _++_ u r ∙ pairs-two (size under) (size rest) (suc a) (st .low) (st .high) (omega (arith, m .0)) (omega (arith, m .1))))

@@ -23,10 +23,10 @@ use Rattle.rollout.specs.Rollout.{Kept, fresh, firstOr, roll}
 use Rattle.rollout.specs.Whole.{hasChance}
 use Rattle.rollout.specs.Heights.{natural, heightRolled}
 use Rattle.rollout.specs.Leaves.{leafNodes, Picks, nothing, this, Distinct}
-use Rattle.rollout.specs.Lists.{size, Numbered}
-use Rattle.rollout.specs.Sound.{Filled, Sound}
+use Rattle.table.proofs.Runs.{size, Numbered}
+use Rattle.rollout.specs.Sound.{SomeNode, Sound}
 use Rattle.rollout.proofs.Rolls.{exacts, unread, Rolls, rootLow, rootHigh, roll-rolls, roll-ends, rolls-picks}
-use Rattle.rollout.proofs.Fresh.{fresh-filled, fresh-sound, fresh-exacts, grained-nodes, map-nodes, nodes-length, all-unread, none-unread}
+use Rattle.rollout.proofs.Fresh.{fresh-some, fresh-sound, fresh-exacts, grained-nodes, map-nodes, nodes-length, all-unread, none-unread}
 use Rattle.rollout.proofs.Numbers.{drops-length, nodes-distinct, spans-numbered}
 
 -- what holds of all leaves and of none holds of the leaves unread at first
@@ -50,8 +50,8 @@ module _ (s : List ℕ) (t : Table) (h : readText s ≡ fine t) where
   start-sound =
       fresh-sound (t .head .total) (greatest (t .lines)) (span (t .head)) (grain t) 0 0 false (heightTree t) (heights-proper s t h) (heights-filled s t h)
 
-  pub start-filled : Filled start
-  start-filled = fresh-filled 0 (span (t .head) * grain t) (grain t) (heightTree t) (rooted-some (heightTree t) (heights-rooted s t h))
+  pub start-some : SomeNode start
+  start-some = fresh-some 0 (span (t .head) * grain t) (grain t) (heightTree t) (rooted-some (heightTree t) (heights-rooted s t h))
 
   -- the numbers of the leaves are those of the table's tree
   height-nodes : leafNodes (grained (grain t) (heightTree t)) ≡ leafNodes (tree t)
@@ -79,7 +79,7 @@ module _ (s : List ℕ) (t : Table) (h : readText s ≡ fine t) where
 
   pub height-rolls : (n : ℕ) (p : List ℕ)
       → Rolls start (roll natural 0 (span (t .head) * grain t) n p start .read) (roll natural 0 (span (t .head) * grain t) n p start .kept)
-  height-rolls n p = roll-rolls 0 (span (t .head) * grain t) n p start start-sound start-filled
+  height-rolls n p = roll-rolls 0 (span (t .head) * grain t) n p start start-sound start-some
 
   pub rolls-leaves : {f : Kept ℕ} {l : List ℕ} → Rolls start l f → Picks (leafNodes (tree t)) l
   rolls-leaves {l} r = start-picks l (rolls-picks r)
@@ -106,5 +106,5 @@ module _ (s : List ℕ) (t : Table) (h : readText s ≡ fine t) where
         → (rootLow 0 (span (t .head) * grain t) (heightRolled t p .kept) ≡ heightWorth t)
         × (rootHigh 0 (span (t .head) * grain t) (heightRolled t p .kept) ≡ heightWorth t)
     height-ends p =
-        let r = roll-ends 0 (span (t .head) * grain t) (leaves (grained (grain t) (heightTree t))) p start start-sound start-filled start-few in
+        let r = roll-ends 0 (span (t .head) * grain t) (leaves (grained (grain t) (heightTree t))) p start start-sound start-some start-few in
         (r .0 ∙ start-exact, r .1 ∙ start-exact)

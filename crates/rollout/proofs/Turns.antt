@@ -10,7 +10,7 @@ use lib.Dec.{eqb, eqb·suc-zero}
 use Rattle.table.specs.Tree.{Kind}
 use Rattle.rollout.specs.Rollout.{Kept, none, tip, knot, Walk, pick, spend, lows, highs, over, candidate, candidates, walk}
 use Rattle.rollout.specs.Heights.{natural}
-use Rattle.rollout.specs.Sound.{Filled, Sound}
+use Rattle.rollout.specs.Sound.{SomeNode, Sound}
 use Rattle.rollout.proofs.Folds.{Some, Beside, done, also, over-any, Shut, over-shut}
 
 -- One leaf more is read: n, which was unread; the bounds above it are taken again from all children.
@@ -23,13 +23,13 @@ pub data Turns : Kept ℕ → ℕ → Kept ℕ → Type 0 where
 
 -- ---- lists of bounds
 
-pub some-lows : (f : Kept ℕ) → Filled f → Some (lows f)
+pub some-lows : (f : Kept ℕ) → SomeNode f → Some (lows f)
 unfolding lows
 some-lows none s = s
 some-lows (tip n v l h rest) s = tt
 some-lows (knot n k l h under rest) s = tt
 
-pub some-highs : (f : Kept ℕ) → Filled f → Some (highs f)
+pub some-highs : (f : Kept ℕ) → SomeNode f → Some (highs f)
 unfolding highs
 some-highs none s = s
 some-highs (tip n v l h rest) s = tt
@@ -60,14 +60,14 @@ above-zero zero f = absurd (f refl)
 above-zero (suc m) f = omega arith
 
 -- a node with an open window has a candidate among its children
-pub some-candidate : (k : Kind) (α β : ℕ) (f : Kept ℕ) → Filled f → over natural k 0 (lows f) ≤ α → β ≤ over natural k 0 (highs f) → α < β
+pub some-candidate : (k : Kind) (α β : ℕ) (f : Kept ℕ) → SomeNode f → over natural k 0 (lows f) ≤ α → β ≤ over natural k 0 (highs f) → α < β
     → 0 < candidates natural α β f
 some-candidate k α β f s p q o =
     above-zero (candidates natural α β f) (λ e.
     let z : Shut α β (over natural k 0 (lows f)) (over natural k 0 (highs f)) = over-shut α β k 0 0 (some-lows f s) (all-shut α β f e) in
     omega arith)
 
-pick-less : (m : ℕ) (p : List ℕ) → 0 < m → pick m p < m
+pub pick-less : (m : ℕ) (p : List ℕ) → 0 < m → pick m p < m
 pick-less m [] h = h
 pick-less m (b ∷ p) h = mod-lt b h
 
@@ -107,18 +107,18 @@ walk-reads α β j p (knot n k l h under rest) i q =
 
 -- ---- what a walk keeps
 
-pub turns-filled : {f f2 : Kept ℕ} {n : ℕ} → Turns f n f2 → Filled f2
-turns-filled (at-tip h) = tt
-turns-filled (at-knot t) = tt
-turns-filled (past-tip t) = tt
-turns-filled (past-knot t) = tt
+pub turns-some : {f f2 : Kept ℕ} {n : ℕ} → Turns f n f2 → SomeNode f2
+turns-some (at-tip h) = tt
+turns-some (at-knot t) = tt
+turns-some (past-tip t) = tt
+turns-some (past-knot t) = tt
 
 pub turns-sound : {f f2 : Kept ℕ} {n : ℕ} → Turns f n f2 → Sound f → Sound f2
 turns-sound (at-tip h) i = (omega arith, omega arith, i .2)
 turns-sound (at-knot {l} {h} {k} {under2} t) i = (
-  turns-filled t,
-  over-any k l 0 (lows under2) (some-lows under2 (turns-filled t)),
-  over-any k h 0 (highs under2) (some-highs under2 (turns-filled t)),
+  turns-some t,
+  over-any k l 0 (lows under2) (some-lows under2 (turns-some t)),
+  over-any k h 0 (highs under2) (some-highs under2 (turns-some t)),
   turns-sound t (i .3),
   i .4,
 )

@@ -3,7 +3,6 @@ use Prim.Native.Nat.{ℕ, suc, pred, _+_, _*_, _≤_, _<_, min, max}
 use mathlib.Core.Path.{_≡_, refl, sym, ap, ap₂, subst, subst₂, _∙_}
 use mathlib.Core.Bool.{Bool, true, false, _&&_, cond}
 use mathlib.Core.List.{List, [], _∷_}
-use native.Mathlib.Nat.{mod-lt}
 use native.Mathlib.Omega.{arith}
 use lib.Dec.{eqb}
 use lib.ListN.{getD}
@@ -13,13 +12,14 @@ use Rattle.search.specs.Inside.{slices}
 use Rattle.table.proofs.Spans.{spans-le}
 use Rattle.search.proofs.Forest.{stopOf}
 use Rattle.search.proofs.Rules.{code-pos}
-use Rattle.worth.proofs.Codes.{kind-code}
+use Rattle.table.proofs.Runs.{kind-code}
 use Rattle.rollout.specs.Rollout.{pick, spend, over, candidate}
 use Rattle.rollout.specs.Heights.{natural}
-use Rattle.rollout.specs.Sound.{Filled, Sound}
-use Rattle.rollout.specs.Lists.{Store, lowAt, highAt, put, lowsS, highsS, candidatesS, WalkS, keep, walkS}
-use Rattle.rollout.specs.Inside.{Row, boundsIn, chosen, Choice, Named, Chosen, Ready, readAt, updated, Rung}
+use Rattle.rollout.specs.Sound.{SomeNode, Sound}
+use Rattle.rollout.specs.Lists.{Store, lowAt, highAt, putBoth, lowsS, highsS, candidatesS, WalkS, keep, walkS}
+use Rattle.rollout.specs.Inside.{Siblings, boundsIn, chosen, Choice, Named, Chosen, ReadyNode, readAt, updated, Rung}
 use Rattle.rollout.proofs.Folds.{Some, over-any}
+use Rattle.rollout.proofs.Turns.{pick-less}
 use Rattle.rollout.proofs.Listed.{inner-candidate}
 use Rattle.rollout.proofs.Rows.{spans-row, one-more, live, down-is, down-some, candidates-some}
 
@@ -37,7 +37,7 @@ highs-in end st = refl
 highs-in (leaf n w x rest) st = ap (λ (l : List ℕ). highAt st n ∷ l) (highs-in rest st)
 highs-in (inner n w k under rest) st = ap (λ (l : List ℕ). highAt st n ∷ l) (highs-in rest st)
 
-bounds-some : (G : ℕ) (F : Forest ℕ) (st : Store) → Filled (keep G F st) → (b : List ℕ) → Some (boundsIn F b)
+bounds-some : (G : ℕ) (F : Forest ℕ) (st : Store) → SomeNode (keep G F st) → (b : List ℕ) → Some (boundsIn F b)
 unfolding keep boundsIn
 bounds-some G end st f b = absurd f
 bounds-some G (leaf n w x rest) st f b = tt
@@ -45,11 +45,11 @@ bounds-some G (inner n w k under rest) st f b = tt
 
 module _ (G α β : ℕ) (p : List ℕ) (st : Store) where
   leaf-now : (n w x : ℕ) (rest : Forest ℕ) → live α β st n ≡ true
-      → walkS G α β 0 p (leaf n w x rest) st ≡ record { store = put st n (x * G) (x * G); read = n ∷ []; policy = p }
+      → walkS G α β 0 p (leaf n w x rest) st ≡ record { store = putBoth st n (x * G) (x * G); read = n ∷ []; policy = p }
   unfolding walkS
   leaf-now n w x rest e = rw e refl
 
-  inner-now : (n w : ℕ) (k : Kind) (under rest : Forest ℕ) → live α β st n ≡ true → Filled (keep G under st)
+  inner-now : (n w : ℕ) (k : Kind) (under rest : Forest ℕ) → live α β st n ≡ true → SomeNode (keep G under st)
       → let a : ℕ = max α (lowAt st n) in
       let b : ℕ = min β (highAt st n) in
       walkS G α β 0 p (inner n w k under rest) st ≡ updated k under n (walkS G a b (pick (candidatesS a b under st) p) (spend p) under st)
@@ -64,7 +64,7 @@ module _ (G α β : ℕ) (p : List ℕ) (st : Store) where
       ap (over natural k l) (lows-in under (r .store)) ∙ over-any k l 0 (boundsIn under (r .store .low)) (bounds-some G under st f (r .store .low)) in
       let hi : over natural k h (highsS under (r .store)) ≡ over natural k 0 (boundsIn under (r .store .high)) =
       ap (over natural k h) (highs-in under (r .store)) ∙ over-any k h 0 (boundsIn under (r .store .high)) (bounds-some G under st f (r .store .high)) in
-      rw e (ap₂ (λ (y z : ℕ). record { store = put (r .store) n y z; read = r .read; policy = r .policy }) lo hi)
+      rw e (ap₂ (λ (y z : ℕ). record { store = putBoth (r .store) n y z; read = r .read; policy = r .policy }) lo hi)
 
 -- ---- candidate number j of some nodes
 
@@ -104,7 +104,7 @@ module _ (t : Slices) (G e α β : ℕ) (st : Store) where
       let k : ℕ = cond T (pred j) j in
       by-test
       (λ (b : Bool). Child c (cond b n (chosen α β k rest st))
-      (λ (p : List ℕ). cond b (record { store = put st n (x * G) (x * G); read = n ∷ []; policy = p }) (walkS G α β k p rest st)))
+      (λ (p : List ℕ). cond b (record { store = putBoth st n (x * G) (x * G); read = n ∷ []; policy = p }) (walkS G α β k p rest st)))
       (T && eqb j 0)
       (λ y. record {
         nodes = leaf n w x rest;
@@ -128,7 +128,7 @@ module _ (t : Slices) (G e α β : ℕ) (st : Store) where
       (λ (p : List ℕ).
       let r : WalkS = walkS G a b (pick (candidatesS a b under st) p) (spend p) under st in
       cond y
-      (record { store = put (r .store) n (over natural kind (lowAt st n) (lowsS under (r .store))) (over natural kind (highAt st n) (highsS under (r .store))); read = r .read; policy = r .policy })
+      (record { store = putBoth (r .store) n (over natural kind (lowAt st n) (lowsS under (r .store))) (over natural kind (highAt st n) (highsS under (r .store))); read = r .read; policy = r .policy })
       (walkS G α β k p rest st)))
       (T && eqb j 0)
       (λ y. record {
@@ -148,12 +148,12 @@ module _ (t : Slices) (G e α β : ℕ) (st : Store) where
 module _ (t : Slices) (G α β c upto : ℕ) (st : Store) where
   pub at-leaf : (F : Forest ℕ) → Spans t c upto F → c < upto → getD (t .kinds) c 0 ≡ 0 → live α β st c ≡ true → (p : List ℕ)
       → let v : ℕ = getD (t .heights) c 0 * G in
-      walkS G α β 0 p F st ≡ record { store = put st c v v; read = c ∷ []; policy = p }
+      walkS G α β 0 p F st ≡ record { store = putBoth st c v v; read = c ∷ []; policy = p }
   unfolding Spans
   at-leaf end h lt z e p = absurd (omega arith)
   at-leaf (leaf n w x rest) h lt z e p =
       leaf-now G α β p st n w x rest (subst (λ (m : ℕ). live α β st m ≡ true) (sym (h .0)) e)
-      ∙ ap₂ (λ (m y : ℕ). record { store = put st m (y * G) (y * G); read = m ∷ []; policy = p }) (h .0) (sym (h .4))
+      ∙ ap₂ (λ (m y : ℕ). record { store = putBoth st m (y * G) (y * G); read = m ∷ []; policy = p }) (h .0) (sym (h .4))
   at-leaf (inner n w k under rest) h lt z e p = absurd (omega (arith, code-pos k, h .1))
 
   -- an inner node with the children `under`, in its own window a, b
@@ -188,10 +188,6 @@ module _ (t : Slices) (G α β c upto : ℕ) (st : Store) where
             (h .0) (inner-now G α β p st n w k under rest here (i .0));
       }
 
-pick-less : (m : ℕ) (p : List ℕ) → 0 < m → pick m p < m
-pick-less m [] h = h
-pick-less m (b ∷ p) h = mod-lt b h
-
 -- ---- the calls of a walk
 
 -- at an inner node c, whose kind was read as y, and where its run stops as e: its own window a, b
@@ -207,7 +203,7 @@ pub record Choosing (S : List ℕ) (c e a b : ℕ) (st : Store) (p : List ℕ) (
   pub named : Named S (c + 1) e a b st p j
   pub found : Chosen S (c + 1) e a b st j i
 
-module _ {K S H : List ℕ} {G c α β : ℕ} {st : Store} (R : Ready K S H G c α β st) where
+module _ {K S H : List ℕ} {G c α β : ℕ} {st : Store} (R : ReadyNode K S H G c α β st) where
   abbrev at : Slices
   at = slices K S (R .weights) H
 
@@ -224,11 +220,11 @@ module _ {K S H : List ℕ} {G c α β : ℕ} {st : Store} (R : Ready K S H G c 
     abbrev under : Forest ℕ
     under = node .under
 
-    row : Row S (c + 1) (getD S c 0) under
+    row : Siblings S (c + 1) (getD S c 0) under
     row = spans-row at (c + 1) (stopOf at c) under (node .spans)
 
-    row-to : Row S (c + 1) e under
-    row-to = subst (λ (x : ℕ). Row S (c + 1) x under) (sym (w .stop)) row
+    row-to : Siblings S (c + 1) e under
+    row-to = subst (λ (x : ℕ). Siblings S (c + 1) x under) (sym (w .stop)) row
 
     within : e ≤ R .upto
     within = omega (arith, w .stop, node .within)
@@ -264,7 +260,7 @@ module _ {K S H : List ℕ} {G c α β : ℕ} {st : Store} (R : Ready K S H G c 
           subst (λ (x : ℕ). Child at G (getD S c 0) a b st (c + 1) x (λ (s : List ℕ). walkS G a b j s under st)) (sym (g .found under row-to l))
           (child-of at G (getD S c 0) a b st (c + 1) j under (node .spans) (node .sound) l)
 
-      pub child-ready : Ready K S H G i a b st
+      pub child-ready : ReadyNode K S H G i a b st
       child-ready =
           let C = inner-child in
           let up = node .within in

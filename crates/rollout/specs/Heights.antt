@@ -1,4 +1,4 @@
--- Rollouts over heights, in grains above the lowest end: what is computed with. Assumes nothing: these are definitions.
+-- Rollouts over heights, in grains above the lowest end: what is computed with.
 use Prim.Native.Nat.{ℕ, _*_, min, max}
 use mathlib.Core.List.{List}
 use lib.Dec.{ltb}

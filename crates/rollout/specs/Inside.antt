@@ -1,4 +1,4 @@
--- What the contracts of the code cite. Assumes nothing: these are definitions.
+-- What the contracts of the code cite.
 use Prim.Native.Nat.{ℕ, zero, suc, pred, _+_, _*_, _≤_, _<_}
 use mathlib.Core.Path.{_≡_}
 use mathlib.Core.Bool.{Bool, true, _&&_, cond}
@@ -15,8 +15,7 @@ use Rattle.rollout.specs.declared.Step.{Step}
 use Rattle.rollout.specs.Rollout.{pick, over, candidate}
 use Rattle.rollout.specs.Heights.{natural}
 use Rattle.rollout.specs.Sound.{Sound}
-use Rattle.rollout.specs.Lists.{Store, lowAt, highAt, put, candidatesS, WalkS, RolledS, keep, walkS, rollS}
-use Rattle.rollout.specs.Lists as lists
+use Rattle.rollout.specs.Lists.{Store, lowAt, highAt, putBoth, candidatesS, WalkS, RolledS, keep, walkS, rollS, AtEnds}
 
 abbrev pub stored : (low high : List ℕ) → Store
 stored low high = record { low = low; high = high }
@@ -24,10 +23,10 @@ stored low high = record { low = low; high = high }
 -- ---- the children of a node
 
 -- the entries of these nodes with one parent: c, where its run stops, and so on up to e
-unfoldable pub Row : List ℕ → ℕ → ℕ → Forest ℕ → Type 0
-Row S c e end = c ≡ e
-Row S c e (leaf n w x rest) = (n ≡ c) × (c < getD S c 0) × Row S (getD S c 0) e rest
-Row S c e (inner n w k under rest) = (n ≡ c) × (c < getD S c 0) × Row S (getD S c 0) e rest
+unfoldable pub Siblings : List ℕ → ℕ → ℕ → Forest ℕ → Type 0
+Siblings S c e end = c ≡ e
+Siblings S c e (leaf n w x rest) = (n ≡ c) × (c < getD S c 0) × Siblings S (getD S c 0) e rest
+Siblings S c e (inner n w k under rest) = (n ≡ c) × (c < getD S c 0) × Siblings S (getD S c 0) e rest
 
 -- the bounds of these nodes in one of the two lists
 unfoldable pub boundsIn : Forest ℕ → List ℕ → List ℕ
@@ -48,17 +47,17 @@ chosen α β j (inner n w k under rest) st =
 -- there are nodes with one parent in the entries from c up to e
 pub record Children (S : List ℕ) (c e : ℕ) : Type 0 where
   pub nodes : Forest ℕ
-  pub row : Row S c e nodes
+  pub row : Siblings S c e nodes
   pub room : e ≤ length S
   pub few : e ≤ 1024
 
 abbrev pub Counted : (S : List ℕ) (c e α β : ℕ) → Store → ℕ → Type 0
-Counted S c e α β st r = (F : Forest ℕ) → Row S c e F → r ≡ candidatesS α β F st
+Counted S c e α β st r = (F : Forest ℕ) → Siblings S c e F → r ≡ candidatesS α β F st
 
 -- more than j of them are candidates
 pub record Choice (S : List ℕ) (c e α β : ℕ) (st : Store) (j : ℕ) : Type 0 where
   pub nodes : Forest ℕ
-  pub row : Row S c e nodes
+  pub row : Siblings S c e nodes
   pub some : j < candidatesS α β nodes st
   pub room : e ≤ length S
   pub low : e ≤ length (st .low)
@@ -67,22 +66,22 @@ pub record Choice (S : List ℕ) (c e α β : ℕ) (st : Store) (j : ℕ) : Type
 
 -- r is the number of the candidate that the policy bytes p name
 abbrev pub Named : (S : List ℕ) (c e α β : ℕ) → Store → List ℕ → ℕ → Type 0
-Named S c e α β st p r = (F : Forest ℕ) → Row S c e F → r ≡ pick (candidatesS α β F st) p
+Named S c e α β st p r = (F : Forest ℕ) → Siblings S c e F → r ≡ pick (candidatesS α β F st) p
 
 abbrev pub Chosen : (S : List ℕ) (c e α β : ℕ) → Store → (j r : ℕ) → Type 0
-Chosen S c e α β st j r = (F : Forest ℕ) → Row S c e F → j < candidatesS α β F st → r ≡ chosen α β j F st
+Chosen S c e α β st j r = (F : Forest ℕ) → Siblings S c e F → j < candidatesS α β F st → r ≡ chosen α β j F st
 
 abbrev pub Extreme : Kind → (S : List ℕ) (c e : ℕ) → List ℕ → ℕ → Type 0
-Extreme k S c e b r = (F : Forest ℕ) → Row S c e F → r ≡ over natural k 0 (boundsIn F b)
+Extreme k S c e b r = (F : Forest ℕ) → Siblings S c e F → r ≡ over natural k 0 (boundsIn F b)
 
 -- the bound of node c is the extreme of its children's
 abbrev pub Updated : Kind → (S : List ℕ) (c e : ℕ) → (came now : List ℕ) → Type 0
-Updated k S c e came now = (F : Forest ℕ) → Row S (c + 1) e F → now ≡ set came c (over natural k 0 (boundsIn F came))
+Updated k S c e came now = (F : Forest ℕ) → Siblings S (c + 1) e F → now ≡ set came c (over natural k 0 (boundsIn F came))
 
 -- ---- a walk
 
 -- node c is a candidate in the window α, β
-pub record Ready (K S H : List ℕ) (G c α β : ℕ) (st : Store) : Type 0 where
+pub record ReadyNode (K S H : List ℕ) (G c α β : ℕ) (st : Store) : Type 0 where
   pub weights : List ℕ
   pub nodes : Forest ℕ
   pub upto : ℕ
@@ -107,13 +106,13 @@ pub record WalkLeft (w : WalkS) (r : Step) (P : List ℕ) (st : Store) : Type 0 
 
 -- the walk that reads node c, a leaf of v grains
 abbrev pub readAt : Store → (c v : ℕ) → List ℕ → WalkS
-readAt st c v p = record { store = put st c v v; read = c ∷ []; policy = p }
+readAt st c v p = record { store = putBoth st c v v; read = c ∷ []; policy = p }
 
 -- what a node c of kind k with the children `under` leaves of the walk w under it
 abbrev pub updated : Kind → Forest ℕ → ℕ → WalkS → WalkS
 updated k under c w =
     record {
-      store = put (w .store) c (over natural k 0 (boundsIn under (w .store .low))) (over natural k 0 (boundsIn under (w .store .high)));
+      store = putBoth (w .store) c (over natural k 0 (boundsIn under (w .store .low))) (over natural k 0 (boundsIn under (w .store .high)));
       read = w .read;
       policy = w .policy;
     }
@@ -121,7 +120,7 @@ updated k under c w =
 -- node c has children, and its run goes no further than `upto`
 pub record Rung (S : List ℕ) (c upto : ℕ) : Type 0 where
   pub under : Forest ℕ
-  pub row : Row S (c + 1) (getD S c 0) under
+  pub row : Siblings S (c + 1) (getD S c 0) under
   pub some : c + 1 < getD S c 0
   pub within : getD S c 0 ≤ upto
 
@@ -135,7 +134,7 @@ module _ (K S Q : List ℕ) (upto : ℕ) (whole : WalkS) where
 pub record ReadyDown (K S : List ℕ) (α β : ℕ) (st : Store) (Q : List ℕ) : Type 0 where
   pub heights : List ℕ
   pub grain : ℕ
-  pub ready : Ready K S heights grain 0 α β st
+  pub ready : ReadyNode K S heights grain 0 α β st
   pub path : 1024 ≤ length Q
 
 -- the walk `whole` goes down the path Q to the leaf of r
@@ -146,7 +145,7 @@ pub record Landed (K S H : List ℕ) (G upto : ℕ) (whole : WalkS) (st : Store)
 
 abbrev pub WentDown : (K S : List ℕ) (α β : ℕ) → Store → (at : ℕ) (P : List ℕ) → Step → List ℕ → Type 0
 WentDown K S α β st at P r Q =
-    (H : List ℕ) (G : ℕ) (R : Ready K S H G 0 α β st) → Landed K S H G (R .upto) (walkS G α β 0 (drop at P) (R .nodes) st) st P Q r
+    (H : List ℕ) (G : ℕ) (R : ReadyNode K S H G 0 α β st) → Landed K S H G (R .upto) (walkS G α β 0 (drop at P) (R .nodes) st) st P Q r
 
 -- the store is what is left of a walk whose path begins with the first d nodes of Q, before these are updated
 pub record Climb (K S Q : List ℕ) (d : ℕ) (st : Store) : Type 0 where
@@ -166,11 +165,11 @@ abbrev pub Climbed : (K S Q : List ℕ) (d : ℕ) → (st now : Store) → Type 
 Climbed K S Q d st now = (C : Climb K S Q d st) → now ≡ C .whole .store
 
 abbrev pub ReadyWalk : (K S H : List ℕ) (G α β : ℕ) → Store → List ℕ → Type 0
-ReadyWalk K S H G α β st Q = Ready K S H G 0 α β st × (1024 ≤ length Q)
+ReadyWalk K S H G α β st Q = ReadyNode K S H G 0 α β st × (1024 ≤ length Q)
 
 -- a walk from the store st with the policy bytes p left gives r and the store `now`
 abbrev pub Walked : (K S H : List ℕ) (G α β : ℕ) (p : List ℕ) → Store → Step → List ℕ → Store → Type 0
-Walked K S H G α β p st r P now = (R : Ready K S H G 0 α β st) → WalkLeft (walkS G α β 0 p (R .nodes) st) r P now
+Walked K S H G α β p st r P now = (R : ReadyNode K S H G 0 α β st) → WalkLeft (walkS G α β 0 p (R .nodes) st) r P now
 
 -- ---- walks while the root is open
 
@@ -183,7 +182,7 @@ pub record ReadyRoll (K S H : List ℕ) (G n : ℕ) (st : Store) (room : ℕ) : 
   pub spans : Spans (slices K S weights H) 0 n (heightTree table)
   pub grained : G ≡ grain table
   pub size : n ≡ length (table .lines)
-  pub ready : lists.Ready n (span (table .head) * grain table) st
+  pub ready : AtEnds n (span (table .head) * grain table) st
   pub kinds : n ≤ length K
   pub stops : n ≤ length S
   pub heights : n ≤ length H

@@ -1,4 +1,4 @@
--- Which leaves are read: each once. Document 01, 'Rollouts': "The leaf reached is read". Assumes nothing: these are definitions.
+-- Which leaves are read: each once. Document 01, 'Rollouts': "The leaf reached is read".
 use Prim.Native.Nat.{ℕ}
 use mathlib.Core.Path.{_≡_}
 use mathlib.Core.List.{List, [], _∷_, _++_}

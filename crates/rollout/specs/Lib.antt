@@ -7,4 +7,4 @@ pub mod Store
 pub mod Sound
 pub mod Lists
 pub mod Inside
-pub mod Filled
+pub mod Records

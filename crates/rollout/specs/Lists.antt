@@ -1,5 +1,5 @@
--- Rollouts over heights with the bounds in two lists by node number, beside the tree: the form of the code. Assumes nothing: these are
--- definitions. proofs/Stored.antt has the theorem that they are those of Rollout.antt.
+-- Rollouts over heights with the bounds in two lists by node number, beside the tree: the form of the code.
+-- proofs/Stored.antt has the theorem that they are those of Rollout.antt.
 use Prim.Native.Nat.{ℕ, zero, suc, pred, _+_, _*_, min, max, _≤_, _<_}
 use mathlib.Core.Path.{_≡_}
 use mathlib.Core.Bool.{Bool, _&&_, cond}
@@ -22,8 +22,8 @@ abbrev pub highAt : Store → ℕ → ℕ
 highAt st n = getD (st .high) n 0
 
 -- node n gets the bounds l and h
-abbrev pub put : Store → ℕ → ℕ → ℕ → Store
-put st n l h = record { low = set (st .low) n l; high = set (st .high) n h }
+abbrev pub putBoth : Store → ℕ → ℕ → ℕ → Store
+putBoth st n l h = record { low = set (st .low) n l; high = set (st .high) n h }
 
 -- the store has room for n nodes
 abbrev pub Room : ℕ → Store → Type 0
@@ -41,7 +41,7 @@ pub record Frame (a n : ℕ) (st st2 : Store) : Type 0 where
   pub behind : (i : ℕ) → a + n ≤ i → At st st2 i
 
 -- "Each node has a low and a high, at first the ends": of n nodes, the lowest end 0 and the highest S
-pub record Ready (n S : ℕ) (st : Store) : Type 0 where
+pub record AtEnds (n S : ℕ) (st : Store) : Type 0 where
   pub room : Room n st
   pub ends : (i : ℕ) → i < n → (lowAt st i ≡ 0) × (highAt st i ≡ S)
 
@@ -50,18 +50,6 @@ unfoldable pub pairs : List ℕ → List ℕ → List (Pair ℕ)
 pairs [] hs = []
 pairs (l ∷ ls) [] = []
 pairs (l ∷ ls) (h ∷ hs) = record { low = l; high = h } ∷ pairs ls hs
-
--- how many nodes
-unfoldable pub size : {A : Type 0} → Forest A → ℕ
-size end = 0
-size (leaf n w v rest) = 1 + size rest
-size (inner n w k under rest) = 1 + size under + size rest
-
--- the nodes are numbered from a on, in depth-first order
-unfoldable pub Numbered : {A : Type 0} → ℕ → Forest A → Type 0
-Numbered a end = Unit {0}
-Numbered a (leaf n w v rest) = (n ≡ a) × Numbered (a + 1) rest
-Numbered a (inner n w k under rest) = (n ≡ a) × Numbered (a + 1) under × Numbered (a + 1 + size under) rest
 
 -- the bounds of these nodes
 unfoldable pub lowsS : Forest ℕ → Store → List ℕ
@@ -110,7 +98,7 @@ module _ (G : ℕ) where
   walkS α β j p end st = record { store = st; read = []; policy = p }
   walkS α β j p (leaf n w x rest) st =
       let t : Bool = candidate natural α β (lowAt st n) (highAt st n) in
-      cond (t && eqb j 0) (record { store = put st n (x * G) (x * G); read = n ∷ []; policy = p }) (walkS α β (cond t (pred j) j) p rest st)
+      cond (t && eqb j 0) (record { store = putBoth st n (x * G) (x * G); read = n ∷ []; policy = p }) (walkS α β (cond t (pred j) j) p rest st)
   walkS α β j p (inner n w k under rest) st =
       let l : ℕ = lowAt st n in
       let h : ℕ = highAt st n in
@@ -119,7 +107,7 @@ module _ (G : ℕ) where
       let b : ℕ = min β h in
       let r : WalkS = walkS a b (pick (candidatesS a b under st) p) (spend p) under st in
       cond (t && eqb j 0)
-      (record { store = put (r .store) n (over natural k l (lowsS under (r .store))) (over natural k h (highsS under (r .store))); read = r .read; policy = r .policy })
+      (record { store = putBoth (r .store) n (over natural k l (lowsS under (r .store))) (over natural k h (highsS under (r .store))); read = r .read; policy = r .policy })
       (walkS α β (cond t (pred j) j) p rest st)
 
   -- walks while the root, which is node 0, is open

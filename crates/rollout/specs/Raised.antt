@@ -1,4 +1,4 @@
--- Bounds replaced one by one: what rollouts over heights are, as rollouts over the integers. Assumes nothing: these are definitions.
+-- Bounds replaced one by one: what rollouts over heights are, as rollouts over the integers.
 use Prim.Native.Nat.{ℕ}
 use lib.IntN.{ℤ, pos, _+ℤ_}
 use Rattle.table.specs.Table.{Table}

@@ -1,5 +1,5 @@
 -- Rollouts: Algorithm 4 of document 003, over any order. Document 01, 'Rollouts'. Whole.antt has the paper's own order, that of whole grains,
--- and the rollouts of a table. Assumes nothing: these are definitions.
+-- and the rollouts of a table.
 use Prim.Native.Nat.{ℕ, zero, suc, pred, _%_}
 use mathlib.Core.Bool.{Bool, _&&_, cond}
 use mathlib.Core.List.{List, [], _∷_, _++_}

@@ -1,5 +1,4 @@
--- What is said of rollouts: the store after any number of walks, and the worth of every node. Document 01, 'Rollouts'. Assumes nothing:
--- these are definitions.
+-- What is said of rollouts: the store after any number of walks, and the worth of every node. Document 01, 'Rollouts'.
 use Prim.Native.Nat.{ℕ}
 use mathlib.Core.Path.{_≡_}
 use mathlib.Core.Bool.{Bool, true}
@@ -32,10 +31,10 @@ abbrev pub nextWalk : Table → List ℕ → Kept ℤ → Walk ℤ
 nextWalk t q f = walk whole (rootLow t f) (rootHigh t f) 0 q f
 
 -- the exact worth of every node, by node number
-unfoldable pub worths : (T G : ℕ) → Forest ℤ → List ℤ
-worths T G end = []
-worths T G (leaf n w u rest) = (u *ℤ pos G) ∷ worths T G rest
-worths T G (inner n w k under rest) = value T k (shares T G under) ∷ (worths T G under ++ worths T G rest)
+unfoldable pub treeWorths : (T G : ℕ) → Forest ℤ → List ℤ
+treeWorths T G end = []
+treeWorths T G (leaf n w u rest) = (u *ℤ pos G) ∷ treeWorths T G rest
+treeWorths T G (inner n w k under rest) = value T k (shares T G under) ∷ (treeWorths T G under ++ treeWorths T G rest)
 
 -- one record for each worth, which lies between its low and its high
 abbrev pub Holds : List ℤ → List (Pair ℤ) → Type 0

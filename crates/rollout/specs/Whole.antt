@@ -1,4 +1,4 @@
--- The rollouts of a table, in whole grains. Document 01, 'Rollouts'. Assumes nothing: these are definitions.
+-- The rollouts of a table, in whole grains. Document 01, 'Rollouts'.
 use Prim.Native.Nat.{ℕ}
 use mathlib.Core.Bool.{Bool, not}
 use mathlib.Core.List.{List}

@@ -1,13 +1,18 @@
 // Rollouts over the decoded table: Algorithm 4 of document 003, whose lines are named here, in grains above the lowest end.
 ghost use mathlib.Core.Path.{_≡_};
 ghost use mathlib.Core.Bool.{cond};
-ghost use Prim.Native.Nat.{_+_, _*_, _<_, _≤_, min, max};
+ghost use Prim.Native.Nat.{_+_, _*_, _<_, _≤_};
 ghost use lib.ListN.{length, getD, set, drop};
 ghost use Rattle.table.specs.Tree.{kindOf};
 ghost use Rattle.rollout.specs.Rollout.{spend, joined, candidate};
 ghost use Rattle.rollout.specs.Heights.{natural};
-ghost use Rattle.rollout.specs.Filled.{Small, risen, filled};
+ghost use Rattle.rollout.specs.Records.{SmallHeights, risen, filled};
 ghost use Rattle.rollout.specs.Inside.{stored, Children, Counted, Choice, Named, Chosen, Extreme, Updated, ReadyDown, WentDown, Climb, Climbed, ReadyWalk, Walked, ReadyRoll, WellRolled};
+use search::kind_at;
+use search::min_of;
+use search::wide32;
+use table::index;
+use table::max_of;
 
 // Where a walk ends: the leaf, how many inner nodes lead to it, and how many policy bytes are used.
 struct Step {
@@ -22,28 +27,10 @@ struct Bounds {
     pub high: u64,
 }
 
-fn max_of(a: u64, b: u64) -> u64
-    ensures { λ r. ⌜ r ≡ max a b ⌝ }
-{
-    if a < b { b } else { a }
-}
-
-fn min_of(a: u64, b: u64) -> u64
-    ensures { λ r. ⌜ r ≡ min a b ⌝ }
-{
-    if b < a { b } else { a }
-}
-
 fn one_if(b: bool) -> usize
     ensures { λ r. ⌜ r ≡ cond b 1 0 ⌝ }
 {
     if b { 1 } else { 0 }
-}
-
-fn wide32(x: u32) -> u64
-    ensures { λ r. ⌜ (r ≡ x) × (r < 4294967296) ⌝ }
-{
-    x as u64
 }
 
 fn index8(x: u8) -> usize
@@ -52,24 +39,11 @@ fn index8(x: u8) -> usize
     x as usize
 }
 
-fn index16(x: u16) -> usize
-    ensures { λ r. ⌜ r ≡ x ⌝ }
-{
-    x as usize
-}
-
-fn kind_at(kind: &[u8], i: usize) -> u8
-    requires { ⌜ i < length (now kind) ⌝ }
-    ensures { λ r. ⌜ r ≡ getD (now (kind .entry)) i 0 ⌝ }
-{
-    kind[i]
-}
-
 fn node_at(list: &[u16], i: usize) -> usize
     requires { ⌜ i < length (now list) ⌝ }
     ensures { λ r. ⌜ r ≡ getD (now (list .entry)) i 0 ⌝ }
 {
-    index16(list[i])
+    index(list[i])
 }
 
 fn bound_at(bound: &[u64], i: usize) -> u64
@@ -350,7 +324,7 @@ pub struct Record {
 // The first n records of the lent store get the bounds, in grains above `base`; the others stay. A function over a slice of structs is proved
 // by hand.
 pub fn fill(store: &mut [Record], low: &[u64], high: &[u64], n: usize, base: i64)
-    requires { ⌜ (n ≤ length (now store)) × (n ≤ length (now low)) × (n ≤ length (now high)) × Small base n (now low) × Small base n (now high) ⌝ }
+    requires { ⌜ (n ≤ length (now store)) × (n ≤ length (now low)) × (n ≤ length (now high)) × SmallHeights base n (now low) × SmallHeights base n (now high) ⌝ }
     ensures { λ _. ⌜ now (store .exit) ≡ filled n (risen base (now (low .entry))) (risen base (now (high .entry))) (now (store .entry)) ⌝ }
 {
     let mut i = 0;

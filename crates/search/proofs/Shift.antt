@@ -29,11 +29,11 @@ ceil-lt : (x w : ℕ) → 0 < w → w * ceil x w < x + w
 unfolding ceil
 ceil-lt x w p = omega (arith, mul-div-le (x + (w - 1)) w)
 
-less-natural : (a b : ℕ) → ltb a b ≡ not (leb b a)
+pub less-natural : (a b : ℕ) → ltb a b ≡ not (leb b a)
 less-natural a b =
     same-test (ltb a b) (not (leb b a)) (λ h. not-T (leb b a) (λ x. omega (arith, leb→le b a x, ltb→lt a b h))) (λ h. lt→ltb a b (nleb→lt b a h))
 
-less-whole : (y z : ℤ) → ltZ y z ≡ not (leZ z y)
+pub less-whole : (y z : ℤ) → ltZ y z ≡ not (leZ z y)
 less-whole (pos m) (pos n) = less-natural m n
 less-whole (pos m) (negsuc n) = refl
 less-whole (negsuc m) (pos n) = refl

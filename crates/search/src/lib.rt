@@ -1,9 +1,11 @@
 // The bounded search over the decoded table: Algorithm 1 of document 000, whose lines are named here, in grains above the lowest end.
 ghost use mathlib.Core.Path.{_≡_};
-ghost use Prim.Native.Nat.{_+_, _-_, _*_, _<_, _≤_, min, max};
+ghost use Prim.Native.Nat.{_+_, _-_, _*_, _<_, _≤_, min};
 ghost use lib.ListN.{length, getD};
 ghost use Rattle.table.specs.Tree.{MAX, MIN, CHANCE};
 ghost use Rattle.search.specs.Inside.{slices, start, alphaFor, betaFor, preferred, afterMax, afterMin, afterChance, stops, LeafAt, OkRule, OkBounds, ReadyChildren, Told, ReadyRoot, Searched};
+use table::index;
+use table::max_of;
 
 // The margin, the grains between the ends, the total of the weights, and the grains in a point.
 pub struct Rule {
@@ -36,13 +38,7 @@ pub struct Found {
     pub used: usize,
 }
 
-fn max_of(a: u64, b: u64) -> u64
-    ensures { λ r. ⌜ r ≡ max a b ⌝ }
-{
-    if a < b { b } else { a }
-}
-
-fn min_of(a: u64, b: u64) -> u64
+pub fn min_of(a: u64, b: u64) -> u64
     ensures { λ r. ⌜ r ≡ min a b ⌝ }
 {
     if b < a { b } else { a }
@@ -61,19 +57,13 @@ fn wide8(x: u8) -> u64
     x as u64
 }
 
-fn wide32(x: u32) -> u64
+pub fn wide32(x: u32) -> u64
     ensures { λ r. ⌜ r ≡ x ⌝ }
 {
     x as u64
 }
 
-fn index(x: u16) -> usize
-    ensures { λ r. ⌜ r ≡ x ⌝ }
-{
-    x as usize
-}
-
-fn kind_at(kind: &[u8], i: usize) -> u8
+pub fn kind_at(kind: &[u8], i: usize) -> u8
     requires { ⌜ i < length (now kind) ⌝ }
     ensures { λ r. ⌜ r ≡ getD (now (kind .entry)) i 0 ⌝ }
 {

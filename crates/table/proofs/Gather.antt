@@ -1,14 +1,14 @@
 -- Node lines gathered into slices, one line after another. Assumes nothing.
 use Prim.Native.Nat.{ℕ, zero, suc, _+_, _-_, _*_, _≤_, _<_, max}
 use mathlib.Core.Path.{_≡_, refl, sym, ap, ap₂, subst, _∙_}
-use mathlib.Core.Bool.{Bool, true, false, cond}
+use mathlib.Core.Bool.{cond}
 use mathlib.Core.List.{List, [], _∷_, _++_, map, map-append, append-assoc, append-nil}
 use native.Mathlib.Omega.{arith}
-use native.Mathlib.Nat.{le-trans}
 use native.Mathlib.Numerals.{add-one}
 use lib.ListN.{length, replicate, getD, set, take, drop, length-append, length-set, length-map, length-drop}
 use lib.Seq.{getD-set-same, getD-set-other, set-append-seam, drop-cons, drop-drop}
 use lib.Dec.{eqb}
+use Rattle.field.proofs.Small.{one-or-none}
 use Rattle.line.specs.declared.Head.{Head}
 use Rattle.line.specs.declared.Line.{Line}
 use Rattle.table.specs.declared.Lines
@@ -21,7 +21,7 @@ use Rattle.table.specs.Slices.{heightOf, laid}
 use Rattle.line.specs.Line.{Ranged}
 use Rattle.line.specs.Inside.{pathOf, Bounded, Sized}
 use Rattle.table.specs.Inside.{Roomed, Gathered}
-use Rattle.line.proofs.Fine.{Falling, Climbs, climbed, Read, line-read, read-sized}
+use Rattle.line.proofs.Fine.{Falling, falling-more, Climbs, climbed, Read, line-read, read-sized}
 
 -- ---- one step more on the path
 
@@ -120,10 +120,6 @@ module _ (h : Head) (n : ℕ) (s : List ℕ) where
 
 -- ---- the whole
 
-falling-more : (a b : ℕ) (P : List Step) → a ≤ b → Falling a P → Falling b P
-falling-more a b [] h f = tt
-falling-more a b (s ∷ P) h f = (le-trans (f .0) h, f .1)
-
 falls-under : (i p : ℕ) (P Q : List Step) → Falling i P → Climbs P p Q → Falling i Q
 falls-under i p [] Q f c = rw (c .1) tt
 falls-under i p (s ∷ P) Q f c = let C = climbed p i (s ∷ P) Q f c in falling-more (suc p) i Q (C .below) (C .falls)
@@ -196,10 +192,6 @@ module _ (h : Head) (n : ℕ) (s k₀ u₀ w₀ g₀ : List ℕ) where
         let pl = G .path-long in
         rw (add-one, path-more ns ks cs d i (l .kind) (l .chances) (omega (arith, pl .0)) (omega (arith, pl .1)) (omega (arith, pl .2)), said .node)
 
-    flag-small : (b : Bool) → cond b 1 0 ≤ 1
-    flag-small true = omega arith
-    flag-small false = omega arith
-
     pub gathering-more : Gathering (set k i (l .kind)) (set u i (l .parent)) (set w i (l .weight)) (set g i (heightOf (h .lowest) l))
         (set ns d i) (set ks d (l .kind)) (set cs d (l .chances)) (d + 1) (max most (l .chances)) (leaves + cond (eqb (l .kind) 0) 1 0) (i + 1)
     gathering-more =
@@ -220,7 +212,7 @@ module _ (h : Head) (n : ℕ) (s k₀ u₀ w₀ g₀ : List ℕ) where
           heights = ap (λ (a : List ℕ). set a i (heightOf (h .lowest) l)) (G .heights) ∙ entry-more (heightOf (h .lowest)) D l g₀ i C (omega (arith, L .heights));
           most-is = ap (λ (m : ℕ). max m (l .chances)) (G .most-is) ∙ sym (greatest-more D l);
           leaves-is = ap (λ (m : ℕ). m + cond (eqb (l .kind) 0) 1 0) (G .leaves-is) ∙ sym (leaves-more D l);
-          few = omega (arith, G .few, flag-small (eqb (l .kind) 0));
+          few = omega (arith, G .few, one-or-none (eqb (l .kind) 0));
         }
 
   -- the same state, under other names

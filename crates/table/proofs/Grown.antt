@@ -4,7 +4,7 @@ use mathlib.Core.Path.{_≡_, refl, sym, ap, ap₂, subst, _∙_}
 use mathlib.Core.Bool.{Bool, true, false, cond}
 use mathlib.Core.List.{List, [], _∷_, _++_, append-assoc}
 use native.Mathlib.Omega.{arith}
-use native.Mathlib.Nat.{le-trans, add-zero}
+use native.Mathlib.Nat.{add-zero}
 use lib.ListN.{length, getD, take, drop}
 use lib.Dec.{eqb}
 use lib.IntN.{ℤ, pos}
@@ -18,7 +18,7 @@ use Rattle.table.specs.Table.{prefix, nodeLines, greatest}
 use Rattle.line.specs.Line.{Within}
 use Rattle.table.specs.Accepted.{Proper, Rooted, flat, one}
 use Rattle.line.proofs.Signs.{true-ne-false}
-use Rattle.line.proofs.Fine.{Falling, Headed, climbed, Valued, Read, line-read}
+use Rattle.line.proofs.Fine.{Falling, falling-more, Headed, climbed, Valued, Read, line-read}
 use Rattle.table.proofs.Runs.{size, Numbered, code-inner, code-chance}
 
 -- ---- verdicts
@@ -82,10 +82,6 @@ module _ (h : Head) where
       rw (F .lines) (ap suc (r .0), omega (arith, F .read .chances, F .read .few, r .1))
 
 -- ---- the nodes below each step of a path
-
-falling-more : (a b : ℕ) (P : List Step) → a ≤ b → Falling a P → Falling b P
-falling-more a b [] h f = tt
-falling-more a b (s ∷ P) h f = (le-trans (f .0) h, f .1)
 
 -- a kind's number is that of a leaf or of an inner kind
 data Coded (n : ℕ) : Type 0 where
@@ -247,7 +243,7 @@ module _ (h : Head) (K : ℕ) where
 
 module _ (h : Head) where
   -- the tree of the lines ls
-  pub record Whole (ls : List Line) : Type 0 where
+  pub record OneTree (ls : List Line) : Type 0 where
     pub tree : Forest ℤ
     pub lines : flat 0 0 tree ≡ ls
     pub numbered : Numbered 0 tree
@@ -259,10 +255,10 @@ module _ (h : Head) where
   rooted K (leaf n w v rest) g l e = (g .numbered .0, g .proper .0, e)
   rooted K (inner n w k under rest) g l e = (g .numbered .0, g .proper .0, e)
 
-  whole-of : (p : Placed) (ls : List Line) → Read h 0 [] [] p → p .line .chances ≤ greatest (p .line ∷ ls)
-      → Stacked h (greatest (p .line ∷ ls)) 1 (stepped 0 (p .line .kind) []) ls → Whole (p .line ∷ ls)
+  one-tree-of : (p : Placed) (ls : List Line) → Read h 0 [] [] p → p .line .chances ≤ greatest (p .line ∷ ls)
+      → Stacked h (greatest (p .line ∷ ls)) 1 (stepped 0 (p .line .kind) []) ls → OneTree (p .line ∷ ls)
   unfolding flat
-  whole-of p ls r few (U, g, rest, a, b) =
+  one-tree-of p ls r few (U, g, rest, a, b) =
       let K : ℕ = greatest (p .line ∷ ls) in
       let t = topped h K 0 [] [] p U end r (r .climbs .0) refl few g (grown-none h K [] (suc 0 + size U)) in
       record {
@@ -273,14 +269,14 @@ module _ (h : Head) where
         rooted = rooted K (t .top) (t .grown) (omega (arith, t .large)) (t .last);
       }
 
-  pub whole : (n : ℕ) (t : List ℕ) (ls : List Line) → 0 < n → nodeLines h n 0 [] t ≡ fine ls → Whole ls
+  pub one-tree : (n : ℕ) (t : List ℕ) (ls : List Line) → 0 < n → nodeLines h n 0 [] t ≡ fine ls → OneTree ls
   unfolding greatest
-  whole zero t ls l e = absurd (omega arith)
-  whole (suc n) t ls l e =
+  one-tree zero t ls l e = absurd (omega arith)
+  one-tree (suc n) t ls l e =
       let F = lines-first h n 0 [] t ls e in
       let p = F .placed in
       let r : Read h 0 [] [] p = subst (λ (Q : List Step). Read h 0 [] Q p) (F .read .climbs .1) (F .read) in
       let K : ℕ = greatest (p .line ∷ F .rest) in
       let here : Step = record { node = 0; kind = p .line .kind; chances = 0 + cond (eqb (p .line .kind) 3) 1 0 } in
       let S = stacked h K n 1 here [] (drop 25 t) (F .rest) (omega arith, tt) (omega arith) (rw (r .steps) at (F .more)) in
-      rw (F .lines) (whole-of p (F .rest) r (omega arith) S)
+      rw (F .lines) (one-tree-of p (F .rest) r (omega arith) S)

@@ -13,7 +13,7 @@ use Rattle.table.specs.Slices.{Spans, heightTree, slicesOf}
 use Rattle.line.specs.Line.{Within}
 use Rattle.table.specs.Accepted.{flat, Proper, Rooted}
 use Rattle.table.proofs.Runs.{size, Numbered, flat-length, flat-leaves, regrow-root}
-use Rattle.table.proofs.Grown.{lines-counted, Whole, whole}
+use Rattle.table.proofs.Grown.{lines-counted, OneTree, one-tree}
 use Rattle.table.proofs.Heights.{heights-map}
 use Rattle.table.proofs.Spans.{spans-root}
 
@@ -25,8 +25,8 @@ module _ (t : Table) (n : ℕ) (b : List ℕ) (e : nodeLines (t .head) n 0 [] b 
   read-few = lines-counted (t .head) n 0 [] b (t .lines) e .1
 
   module _ (some : 0 < n) where
-    grown : Whole (t .head) (t .lines)
-    grown = whole (t .head) n b (t .lines) some e
+    grown : OneTree (t .head) (t .lines)
+    grown = one-tree (t .head) n b (t .lines) some e
 
     size-is : size (grown .tree) ≡ length (t .lines)
     size-is = sym (flat-length 0 0 (grown .tree)) ∙ ap length (grown .lines)

@@ -62,11 +62,12 @@ module _ (h : Head) (m : ℕ) where
 
 -- ---- nodes
 
-abbrev Below : ℕ → List ℕ → Type 0
+-- every entry is below m
+abbrev pub Below : ℕ → List ℕ → Type 0
 Below m [] = Unit {0}
 Below m (x ∷ xs) = (x < m) × Below m xs
 
-below-append : (m : ℕ) (xs ys : List ℕ) → Below m xs → Below m ys → Below m (xs ++ ys)
+pub below-append : (m : ℕ) (xs ys : List ℕ) → Below m xs → Below m ys → Below m (xs ++ ys)
 below-append m [] ys p q = q
 below-append m (x ∷ xs) ys p q = (p .0, below-append m xs ys (p .1) q)
 

@@ -46,7 +46,7 @@ code-chance MAX = refl
 code-chance MIN = refl
 code-chance CHANCE = refl
 
-kind-code : (k : Kind) → kindOf (codeOf k) ≡ k
+pub kind-code : (k : Kind) → kindOf (codeOf k) ≡ k
 kind-code MAX = refl
 kind-code MIN = refl
 kind-code CHANCE = refl

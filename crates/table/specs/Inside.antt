@@ -1,4 +1,4 @@
--- What the contracts of private functions cite; no public promise names these.
+-- What `decode` asks of the crates above and promises them, and what the contracts below it cite. No promise of `table::read` names these.
 use Prim.Native.Nat.{ℕ, zero, suc, _+_, _^_, _≤_, _<_}
 use mathlib.Core.Bool.{Bool, not, _&&_, cond}
 use mathlib.Core.List.{List, [], _∷_, _++_, map}

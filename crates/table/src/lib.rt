@@ -70,7 +70,7 @@ fn store(
     height[i] = height_of(l, lowest);
 }
 
-fn max_of(a: u64, b: u64) -> u64
+pub fn max_of(a: u64, b: u64) -> u64
     ensures { λ r. ⌜ r ≡ max a b ⌝ }
 {
     if a < b { b } else { a }
@@ -117,7 +117,7 @@ fn node_lines(
     Lines::Fine(most, leaves as usize)
 }
 
-fn index(x: u16) -> usize
+pub fn index(x: u16) -> usize
     ensures { λ r. ⌜ r ≡ x ⌝ }
 {
     x as usize
@@ -249,10 +249,10 @@ fn completed(
     ensures { λ r. ⌜ r ≡ completeAt (now (kind .entry)) (now (stop .entry)) (now (weight .entry)) n h most leaves ⌝ }
 {
     let bare = first_childless(kind, stop, n);
+    let odd = first_unbalanced(kind, stop, weight, n, h.total);
     if bare < n {
         return Reading::Refused(Refusal::Childless(bare + 1));
     }
-    let odd = first_unbalanced(kind, stop, weight, n, h.total);
     if odd < n {
         return Reading::Refused(Refusal::WrongSum(odd + 1));
     }

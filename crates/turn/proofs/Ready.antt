@@ -26,7 +26,7 @@ use Rattle.table.proofs.Accepted.{checked, accepted-ranged, accepted-size, acce
 use Rattle.table.proofs.Copied.{fitted-all, fitted-long}
 use Rattle.turn.specs.Text.{tableText}
 use Rattle.turn.specs.Turn.{turnedText}
-use Rattle.turn.specs.Inside.{Fits, Lined, Ready, Turned}
+use Rattle.turn.specs.Inside.{Fits, Lined, ReadyText, Turned}
 
 -- ---- the lines of an accepted table
 
@@ -112,7 +112,7 @@ module _ (s : List ℕ) (t : Table) (e : readText s ≡ fine t) where
       (accepted-proper s t e) (omega arith) (omega (arith, read-size t (count s) (drop 25 s) (C .lines) (omega (arith, z)), z)))
 
   module _ (c : tableText t ≡ s) (k g d : List ℕ) (hk : length (t .lines) ≤ length k) (hg : length (t .lines) ≤ length g) (hd : length s ≤ length d) where
-    pub accepted-turns : Ready s (fitted (kindsOf t) k) (fitted (heightsOf t) g) (length (t .lines)) (t .head .lowest) (t .head .highest) d
+    pub accepted-turns : ReadyText s (fitted (kindsOf t) k) (fitted (heightsOf t) g) (length (t .lines)) (t .head .lowest) (t .head .highest) d
     accepted-turns =
         let R = accepted-ranged s t e in
         let ls : List Line = t .lines in

@@ -14,7 +14,7 @@ use Rattle.turn.proofs.Bytes.{line-long, fits-turned, line-turned}
 
 module _ (kind height : List ℕ) (lowest : ℤ) (n : ℕ) where
   -- the line of node i, the first of the lines ls that stand after F
-  record Row (i : ℕ) (d F : List ℕ) (ls : List Line) (rest : List ℕ) : Type 0 where
+  record NextLine (i : ℕ) (d F : List ℕ) (ls : List Line) (rest : List ℕ) : Type 0 where
     line : Line
     more : List Line
     text : d ≡ F ++ (lineText line ++ (linesText more ++ rest))
@@ -25,11 +25,11 @@ module _ (kind height : List ℕ) (lowest : ℤ) (n : ℕ) where
     count : i + suc (length more) ≡ n
     turned : F ++ (linesText (map turnLine ls) ++ rest) ≡ F ++ (lineText (turnLine line) ++ (linesText (map turnLine more) ++ rest))
 
-  row : (i : ℕ) (d F : List ℕ) (ls : List Line) (rest : List ℕ) → d ≡ F ++ (linesText ls ++ rest) → i + length ls ≡ n → Lined kind height lowest i ls → i < n
-      → Row i d F ls rest
+  next-line : (i : ℕ) (d F : List ℕ) (ls : List Line) (rest : List ℕ) → d ≡ F ++ (linesText ls ++ rest) → i + length ls ≡ n → Lined kind height lowest i ls → i < n
+      → NextLine i d F ls rest
   unfolding linesText Lined
-  row i d F [] rest e c L l = absurd (omega arith)
-  row i d F (x ∷ ls) rest e c L l =
+  next-line i d F [] rest e c L l = absurd (omega arith)
+  next-line i d F (x ∷ ls) rest e c L l =
       record {
         line = x;
         more = ls;
@@ -44,8 +44,8 @@ module _ (kind height : List ℕ) (lowest : ℤ) (n : ℕ) where
 
   module _ (i : ℕ) (d : List ℕ) (R : Rows kind height lowest n i d) where
     module _ (l : i < n) where
-      here : Row i d (R .front) (R .lines) (R .rest)
-      here = row i d (R .front) (R .lines) (R .rest) (R .text) (R .count) (R .lined) l
+      here : NextLine i d (R .front) (R .lines) (R .rest)
+      here = next-line i d (R .front) (R .lines) (R .rest) (R .text) (R .count) (R .lined) l
 
       pub row-inside : 25 * i + 25 + 25 ≤ length d
       row-inside =

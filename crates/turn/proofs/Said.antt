@@ -1,5 +1,5 @@
 -- What an accepted header and an accepted node line have in their fields: what their texts are written from. Assumes nothing.
-use Prim.Native.Nat.{ℕ, zero, suc, _+_, _^_, _≤_, _<_}
+use Prim.Native.Nat.{ℕ, zero, suc, _^_, _≤_, _<_}
 use mathlib.Core.Path.{_≡_, refl, sym, ap, subst, _∙_}
 use mathlib.Core.Bool.{Bool, true, false, not, cond}
 use mathlib.Core.List.{List, [], _∷_}
@@ -8,7 +8,8 @@ use borrow.Author.Tests.{eqb-true, not-false}
 use lib.Dec.{eqb, eqb·suc-zero, lit<}
 use lib.ListN.{length, getD}
 use lib.IntN.{ℤ, pos, negsuc, natAbs}
-use lib.Signed.{mag, ltZ}
+use lib.Signed.{ltZ}
+use Rattle.field.proofs.Bits.{abs-mag}
 use Rattle.field.specs.Field.{fieldOf}
 use Rattle.field.specs.declared.Field.{Field}
 use Rattle.field.specs.declared.Field.the-variants.{Blank, Ill, Number}
@@ -18,7 +19,7 @@ use Rattle.line.specs.declared.Line.{Line}
 use Rattle.line.specs.declared.Heading.{Heading}
 use Rattle.line.specs.declared.Entry.{Entry}
 use Rattle.line.specs.Refusal.{fine}
-use Rattle.line.specs.Line.{isIll, isBlank, holds, outside, valueOf, toNat, countOf, headingOf, headOf, headerChecks, header, entryOf, letterCode, Step, Above, ancestors, isWrong, stepsOf, atChance, stepped, lineChecks, placed, Placed, nodeLine, Ranged}
+use Rattle.line.specs.Line.{isIll, isBlank, hasNumber, outside, valueOf, toNat, countOf, headingOf, headOf, headerChecks, header, entryOf, letterCode, Step, Above, ancestors, isWrong, stepsOf, atChance, stepped, lineChecks, placed, Placed, nodeLine, Ranged}
 use Rattle.line.proofs.Signs.{true-ne-false}
 use Rattle.line.proofs.Checks.{or-left, or-right}
 use Rattle.line.proofs.Fine.{unless-fine, nor9, Valued, line-read, valued-small}
@@ -54,7 +55,7 @@ line-text l =
 
 -- ---- one field
 
-number-field : (i : ℕ) (f : Field) → holds i f ≡ true → f ≡ Number (pos i)
+number-field : (i : ℕ) (f : Field) → hasNumber i f ≡ true → f ≡ Number (pos i)
 number-field i Blank e = absurd (true-ne-false (sym e))
 number-field i Ill e = absurd (true-ne-false (sym e))
 number-field i (Number (pos m)) e = ap (λ (n : ℕ). Number (pos n)) (eqb-true m i e)
@@ -133,10 +134,6 @@ nat-abs : (z : ℤ) → toNat z ≤ natAbs z
 nat-abs (pos n) = omega arith
 nat-abs (negsuc n) = omega arith
 
-abs-mag : (z : ℤ) → natAbs z ≤ mag z + 1
-abs-mag (pos n) = omega arith
-abs-mag (negsuc n) = omega arith
-
 count-small : (s : List ℕ) (from width : ℕ) → 0 < 10 ^ width → countOf (fieldOf s from width) < 10 ^ width
 count-small s from width p = go (fieldOf s from width) refl
   where
@@ -160,7 +157,7 @@ line-said h i P s p ranged long root eq =
     let w = nor9 false (not (eqb (getD s 24 0) 10)) (isIll (e .number)) (isIll (e .parent)) (isIll (e .weight)) (isIll (e .utility)) (not (eqb (getD s 4 0) 32)) (isBlank (e .number)) (eqb (e .letter) 32) (c .0) in
     let m = or-right (cond (atChance (stepsOf a)) (isBlank (e .weight)) (not (isBlank (e .weight)))) (cond (eqb k 0) (isBlank (e .utility)) (not (isBlank (e .utility)))) (c .1 .1 .1 .1 .1 .0) in
     let o = or-left (outside (pos 1) (pos (h .total)) (e .weight)) (outside (h .lowest) (h .highest) (e .utility)) (c .1 .1 .1 .1 .1 .1 .0) in
-    let number : e .number ≡ Number (pos i) = number-field i (e .number) (not-false (holds i (e .number)) (c .1 .0)) in
+    let number : e .number ≡ Number (pos i) = number-field i (e .number) (not-false (hasNumber i (e .number)) (c .1 .0)) in
     let letter : e .letter ≡ letterOf k = letter-back (e .letter) (c .1 .1 .0) in
     let parent : e .parent ≡ cond (eqb i 0) Blank (Number (pos (countOf (e .parent)))) = parent-field i P (e .parent) root (c .1 .1 .1 .0) in
     let weight : e .weight ≡ cond (eqb (countOf (e .weight)) 0) Blank (Number (pos (countOf (e .weight)))) = weight-field (h .total) (e .weight) (w .4) o in
@@ -199,7 +196,7 @@ header-said n s h long eq =
     let r = unless-fine (headerChecks n (getD s 24 0) g) (headOf g) h eq in
     let i = nor9 (not (eqb (getD s 24 0) 10)) (isIll (g .count)) (isIll (g .total)) (isIll (g .lowest)) (isIll (g .highest)) (isBlank (g .count)) (isBlank (g .total)) (isBlank (g .lowest)) (isBlank (g .highest)) (r .0 .0) in
     let w = nor9 false false false false false (outside (pos 1) (pos 64) (g .total)) (outside (negsuc 999999) (pos 1000000) (g .lowest)) (outside (negsuc 999999) (pos 1000000) (g .highest)) (ltZ (valueOf (g .highest)) (valueOf (g .lowest))) (r .0 .1 .0) in
-    let count : g .count ≡ Number (pos n) = number-field n (g .count) (not-false (holds n (g .count)) (r .0 .1 .1 .0)) in
+    let count : g .count ≡ Number (pos n) = number-field n (g .count) (not-false (hasNumber n (g .count)) (r .0 .1 .1 .0)) in
     let total : g .total ≡ Number (pos (countOf (g .total))) = natural-field 64 (g .total) (i .2) (i .6) (w .5) in
     let lowest : g .lowest ≡ Number (valueOf (g .lowest)) = filled-field (g .lowest) (i .3) (i .7) in
     let highest : g .highest ≡ Number (valueOf (g .highest)) = filled-field (g .highest) (i .4) (i .8) in

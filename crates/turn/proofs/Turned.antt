@@ -12,7 +12,7 @@ use Rattle.line.specs.declared.Line.{Line}
 use Rattle.table.specs.Slices.{laid}
 use Rattle.turn.specs.Text.{headerText, lineText, linesText, tableText}
 use Rattle.turn.specs.Turn.{turnLine, turnHead, turnedText}
-use Rattle.turn.specs.Inside.{Lined, Rows, RowsTurned, Ready}
+use Rattle.turn.specs.Inside.{Lined, Rows, RowsTurned, ReadyText}
 use Rattle.turn.proofs.Bytes.{line-long, fits-turned, header-long, ends-written}
 
 -- 25 bytes a line, turned or not
@@ -30,7 +30,7 @@ lines-long kind height lowest i (l ∷ ls) L =
 abbrev pub ended : List ℕ → ℤ → ℤ → List ℕ → List ℕ
 ended text lowest highest d = written (written (laid text d) 8 8 (negℤ highest)) 16 8 (negℤ lowest)
 
-module _ (text kind height : List ℕ) (n : ℕ) (lowest highest : ℤ) (d : List ℕ) (R : Ready text kind height n lowest highest d) where
+module _ (text kind height : List ℕ) (n : ℕ) (lowest highest : ℤ) (d : List ℕ) (R : ReadyText text kind height n lowest highest d) where
   abbrev h : Head
   h = R .table .head
 

@@ -1,4 +1,4 @@
--- The turned text, byte by byte in a lent buffer: what the contracts cite. Assumes nothing: these are definitions.
+-- The turned text, byte by byte in a lent buffer: what the contracts cite.
 use Prim.Native.Nat.{ℕ, suc, _+_, _*_, _≤_, _<_}
 use mathlib.Core.Path.{_≡_}
 use mathlib.Core.Bool.{cond}
@@ -56,7 +56,7 @@ abbrev pub RowsTurned : List ℕ → List ℕ → ℤ → ℕ → List ℕ → L
 RowsTurned kind height lowest n d e = (R : Rows kind height lowest n 0 d) → e ≡ turnedRows kind height lowest n 0 d R
 
 -- a table's text with its decoded slices, and a buffer with room for it
-pub record Ready (text kind height : List ℕ) (n : ℕ) (lowest highest : ℤ) (buffer : List ℕ) : Type 0 where
+pub record ReadyText (text kind height : List ℕ) (n : ℕ) (lowest highest : ℤ) (buffer : List ℕ) : Type 0 where
   pub table : Table
   pub is-text : text ≡ tableText table
   pub count : n ≡ length (table .lines)
@@ -73,4 +73,4 @@ pub record Ready (text kind height : List ℕ) (n : ℕ) (lowest highest : ℤ) 
 
 -- the buffer with the turned table's text at its front
 abbrev pub Turned : List ℕ → List ℕ → List ℕ → ℕ → ℤ → ℤ → List ℕ → List ℕ → Type 0
-Turned text kind height n lowest highest d e = (R : Ready text kind height n lowest highest d) → e ≡ laid (turnedText (R .table)) d
+Turned text kind height n lowest highest d e = (R : ReadyText text kind height n lowest highest d) → e ≡ laid (turnedText (R .table)) d

@@ -1,4 +1,4 @@
--- The text of a table. Document 01, 'The table on paper'. Assumes nothing: these are definitions.
+-- The text of a table. Document 01, 'The table on paper'.
 use Prim.Native.Nat.{ℕ}
 use mathlib.Core.Bool.{cond}
 use mathlib.Core.List.{List, [], _∷_, _++_}

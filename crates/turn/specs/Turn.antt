@@ -1,4 +1,4 @@
--- The turned table: the same position from the other side. Document 01, 'Judging and turning', last paragraph. Assumes nothing.
+-- The turned table: the same position from the other side. Document 01, 'Judging and turning', last paragraph.
 use Prim.Native.Nat.{ℕ}
 use mathlib.Core.Bool.{cond}
 use mathlib.Core.List.{List, map}

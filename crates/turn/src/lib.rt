@@ -5,7 +5,7 @@ ghost use lib.ListN.{length};
 ghost use lib.IntN.{pos, negℤ, natAbs, _+ℤ_};
 ghost use Rattle.field.specs.Field.{written};
 ghost use Rattle.table.specs.Slices.{laid};
-ghost use Rattle.turn.specs.Inside.{turnedAt, Rows, RowsTurned, Ready, Turned};
+ghost use Rattle.turn.specs.Inside.{turnedAt, Rows, RowsTurned, ReadyText, Turned};
 
 // The text, copied to the front of the buffer.
 fn copy(text: &[u8], buffer: &mut [u8])
@@ -67,7 +67,7 @@ pub fn turn(
     highest: i64,
     buffer: &mut [u8],
 )
-    requires { ⌜ Ready (now text) (now kind) (now height) n lowest highest (now buffer) ⌝ }
+    requires { ⌜ ReadyText (now text) (now kind) (now height) n lowest highest (now buffer) ⌝ }
     ensures { λ _. ⌜ Turned (now (text .entry)) (now (kind .entry)) (now (height .entry)) n lowest highest (now (buffer .entry)) (now (buffer .exit)) ⌝ }
 {
     copy(text, buffer);

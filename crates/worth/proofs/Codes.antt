@@ -20,11 +20,6 @@ kind-two k e = ap kindOf e
 pub kind-else : (k : ℕ) → (k ≡ 1 → ⊥) → (k ≡ 2 → ⊥) → kindOf k ≡ CHANCE
 kind-else k p q = simp (ne-eqb k 1 p, ne-eqb k 2 q)
 
-pub kind-code : (k : Kind) → kindOf (codeOf k) ≡ k
-kind-code MAX = refl
-kind-code MIN = refl
-kind-code CHANCE = refl
-
 pub code-inner : (k : Kind) → codeOf k ≡ 0 → ⊥
 code-inner MAX e = omega arith
 code-inner MIN e = omega arith

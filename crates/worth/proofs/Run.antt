@@ -14,7 +14,8 @@ use Rattle.worth.specs.Worth.{Share}
 use Rattle.worth.specs.Heights.{tallest, shortest, summed, heightValue, heightShares, SmallWorths}
 use Rattle.worth.specs.Inside.{kindIn, Beside, Reach, Lays, begin, taken, sealed, takeAll, OkScale, ReadyRun}
 use Rattle.worth.proofs.Bounds.{Each, shortest-one, small-each}
-use Rattle.worth.proofs.Codes.{kind-code, code-inner}
+use Rattle.table.proofs.Runs.{kind-code}
+use Rattle.worth.proofs.Codes.{code-inner}
 
 -- ---- the children of a node, one after another
 

@@ -48,9 +48,6 @@ worth-of-requires c κs = let S = c .before .before .before .before in ready-at 
 worth-low : (W : tie.After-worth-of) → W .worth-of .result ≤ 35184372088832
 worth-low W = let S = W .before .before .before .before .before in low-at (taken (S .before)) (S .scale-of .ensures) (W .worth-of .result) (W .worth-of .ensures)
 
-in-grains-requires : tie.Need-in-grains-requires
-in-grains-requires c κs = let W = c .before in grains-ready (taken (W .before .before .before .before .before .before)) (worth-low W)
-
 returns : tie.Need-returns
 returns c =
     let r = c .before .r .given in
@@ -64,6 +61,9 @@ returns-2 c =
     let G = taken (S .before) in
     ap (λ (z : ℤ). Grains z (summary-of (S .before) .grain)) (grains-at G (worth-low W) (c .in-grains .ensures))
     ∙ answered-at G (S .scale-of .ensures) (W .worth-of .result) (W .worth-of .ensures)
+
+in-grains-requires : tie.Need-in-grains-requires
+in-grains-requires c κs = let W = c .before in grains-ready (taken (W .before .before .before .before .before .before)) (worth-low W)
 
 pub exact-worth-spec : {M : Type 1} → statement M
 exact-worth-spec =

@@ -19,7 +19,7 @@ use Rattle.table.specs.declared.Summary.{Summary}
 use Rattle.table.specs.declared.Reading.the-variants.{Accepted, Refused}
 use Rattle.table.specs.Table.{Table, readText, answer}
 use Rattle.worth.specs.declared.Scale.{Scale}
-use Rattle.rollout.specs.Filled.{risen}
+use Rattle.rollout.specs.Records.{risen}
 use Rattle.engine.specs.declared.Rolled.the-variants.{Done}
 use Rattle.engine.specs.Calls.{rolls}
 use Rattle.engine.specs.Inside.{scaleFor}

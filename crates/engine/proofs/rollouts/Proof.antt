@@ -51,7 +51,7 @@ use denote.Exit.{yes}
 use Rattle.table.specs.Table.{readText}
 use Rattle.table.specs.Slices.{laid}
 use Rattle.rollout.specs.declared.Record.{Record}
-use Rattle.rollout.specs.Filled.{risen, Small, filled}
+use Rattle.rollout.specs.Records.{risen, SmallHeights, filled}
 use Rattle.rollout.proofs.Record as T
 use Rattle.rollout.proofs.fill as fill
 use Rattle.rollout.proofs.fill.Symbol as fill-def
@@ -62,7 +62,7 @@ use Rattle.engine.specs.declared.Outcome.{Outcome}
 use Rattle.engine.specs.Calls.{rollCall, rollReads, rollStore, recorded}
 use Rattle.engine.specs.Inside.{RollsTo}
 use Rattle.engine.proofs.Rolling.{filled-recorded}
-use Rattle.engine.proofs.Lent.{zeros, zeros-long, zeros-typed, lent-ref, lends-out, Whole, lends-in, unlaid, big-lit}
+use Rattle.engine.proofs.Lent.{zeros, zeros-long, zeros-typed, lent-ref, lends-out, LentArray, lends-in, unlaid, big-lit}
 use Rattle.engine.proofs.Rolled as G
 use Rattle.engine.proofs.Rolled.Laws as G′
 use Rattle.engine.proofs.Outcome as O
@@ -311,19 +311,19 @@ module _ {M : Type 1} (𝓤 : URA M) (H : Heap 𝓤) (A : Atoms 𝓤) (W : Given
     abbrev OwnsF : Fml
     OwnsF = fsep Own₂ (fsep InL (fsep InH (fsep (usize .own n (w ∷ [])) (fsep (i64 .own c (wc ∷ [])) ftrue))))
 
-    asks-fill : (n ≤ length ys) × (n ≤ length ls) × (n ≤ length hs) × Small c n ls × Small c n hs → ent 𝓤 (⋆ 𝓤 H A (TokF ∷ ‵ OwnsF ∷ [])) (Fill 𝓤 H A at-mem run .pre to-fill)
+    asks-fill : (n ≤ length ys) × (n ≤ length ls) × (n ≤ length hs) × SmallHeights c n ls × SmallHeights c n hs → ent 𝓤 (⋆ 𝓤 H A (TokF ∷ ‵ OwnsF ∷ [])) (Fill 𝓤 H A at-mem run .pre to-fill)
     asks-fill within = qed W (TokF ∷ ‵ OwnsF ∷ []) ∵ says ! within $ frame ! $ done !
 
   -- what it asks follows from what `roll` told
   within : (g : Outcome) (n : ℕ) (c : ℤ) (ws ls hs : List ℕ) → RollsTo (readText ts) ps (length ys) g vs ws ls hs → n ≡ g .nodes → c ≡ g .base
-      → length ls ≡ length (zeros 1024) → length hs ≡ length (zeros 1024) → (n ≤ length ys) × (n ≤ length ls) × (n ≤ length hs) × Small c n ls × Small c n hs
+      → length ls ≡ length (zeros 1024) → length hs ≡ length (zeros 1024) → (n ≤ length ys) × (n ≤ length ls) × (n ≤ length hs) × SmallHeights c n ls × SmallHeights c n hs
   within g n c ws ls hs told en ec kl kh =
       let k : length (zeros 1024) ≡ 1024 = zeros-long 1024 in (
         omega (arith, en, told .fits),
         omega (arith, en, told .few, kl, k),
         omega (arith, en, told .few, kh, k),
-        subst₂ (λ (z : ℤ) (m : ℕ). Small z m ls) (sym ec) (sym en) (told .small-low),
-        subst₂ (λ (z : ℤ) (m : ℕ). Small z m hs) (sym ec) (sym en) (told .small-high),
+        subst₂ (λ (z : ℤ) (m : ℕ). SmallHeights z m ls) (sym ec) (sym en) (told .small-low),
+        subst₂ (λ (z : ℤ) (m : ℕ). SmallHeights z m hs) (sym ec) (sym en) (told .small-high),
       )
 
   module _ (C : Calls 𝓤 H) (Λ : Loops 𝓤 H) (fm : FmC 𝓤 H (W .laws) C)
@@ -393,9 +393,9 @@ module _ {M : Type 1} (𝓤 : URA M) (H : Heap 𝓤) (A : Atoms 𝓤) (W : Given
         fjoin ! $ move ! (1 ∷ 0 ∷ []) $ fjoin ! $
         -- [what both own; true; the lows; the highs; true; ..]: the arrays are lent again
         move ! (2 ∷ []) $ lft-new ! tt (λ α′. move ! (1 ∷ []) $
-        use1 W (later (some (λ (γ′ : GName). ‵ (ShrSlice (named 1) (α′ ∷ []) u64 .own (lent-ref 𝓤 H A W 1024 room-1024 l₅ (e .1 .1 .1 .1 .0) γ′) (sliceVal (l₅, 0) 1024 ∷ [])) ⊛ ‵ (flent (α′ ∷ []) (Whole 𝓤 H A W 1024 room-1024 l₅ (e .1 .1 .1 .1 .0)))))) (lends-in 𝓤 H A W 1024 room-1024 l₅ (named 1) (α′ ∷ []) (e .1 .1 .1 .1 .0)) $ await ! tt $ pick ! (λ γ′. split ! $
+        use1 W (later (some (λ (γ′ : GName). ‵ (ShrSlice (named 1) (α′ ∷ []) u64 .own (lent-ref 𝓤 H A W 1024 room-1024 l₅ (e .1 .1 .1 .1 .0) γ′) (sliceVal (l₅, 0) 1024 ∷ [])) ⊛ ‵ (flent (α′ ∷ []) (LentArray 𝓤 H A W 1024 room-1024 l₅ (e .1 .1 .1 .1 .0)))))) (lends-in 𝓤 H A W 1024 room-1024 l₅ (named 1) (α′ ∷ []) (e .1 .1 .1 .1 .0)) $ await ! tt $ pick ! (λ γ′. split ! $
         move ! (5 ∷ []) $ lft-new ! tt (λ β′. move ! (1 ∷ []) $
-        use1 W (later (some (λ (δ′ : GName). ‵ (ShrSlice (named 2) (β′ ∷ []) u64 .own (lent-ref 𝓤 H A W 1024 room-1024 l₆ (e .1 .1 .1 .1 .1 .0) δ′) (sliceVal (l₆, 0) 1024 ∷ [])) ⊛ ‵ (flent (β′ ∷ []) (Whole 𝓤 H A W 1024 room-1024 l₆ (e .1 .1 .1 .1 .1 .0)))))) (lends-in 𝓤 H A W 1024 room-1024 l₆ (named 2) (β′ ∷ []) (e .1 .1 .1 .1 .1 .0)) $ await ! tt $ pick ! (λ δ′. split ! $
+        use1 W (later (some (λ (δ′ : GName). ‵ (ShrSlice (named 2) (β′ ∷ []) u64 .own (lent-ref 𝓤 H A W 1024 room-1024 l₆ (e .1 .1 .1 .1 .1 .0) δ′) (sliceVal (l₆, 0) 1024 ∷ [])) ⊛ ‵ (flent (β′ ∷ []) (LentArray 𝓤 H A W 1024 room-1024 l₆ (e .1 .1 .1 .1 .1 .0)))))) (lends-in 𝓤 H A W 1024 room-1024 l₆ (named 2) (β′ ∷ []) (e .1 .1 .1 .1 .1 .0)) $ await ! tt $ pick ! (λ δ′. split ! $
         -- [the highs; their lender's part; β′; the lows; their lender's part; α′; what both own; true; ..]
         move ! (2 ∷ 7 ∷ []) $ join ! $ move ! (5 ∷ 0 ∷ []) $ join ! $ move ! (15 ∷ 0 ∷ []) $ join ! $
         move ! (6 ∷ []) $ drop ! $ move ! (5 ∷ []) $ move ! (2 ∷ 0 ∷ []) $ fjoin ! $ move ! (3 ∷ 0 ∷ []) $ fjoin ! $ move ! (15 ∷ 0 ∷ []) $ fjoin ! $ move ! (1 ∷ 0 ∷ []) $

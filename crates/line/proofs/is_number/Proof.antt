@@ -5,8 +5,8 @@ use borrow.Author.Needs.{needs}
 use lib.Dec.{eqb}
 use mir.Syntax.{w64}
 use mir.Val.{toZ, ofZ}
-use Rattle.line.specs.Line.{holds, toNat}
-use Rattle.line.proofs.Signs.{holds-neg, holds-nat}
+use Rattle.line.specs.Line.{hasNumber, toNat}
+use Rattle.line.proofs.Signs.{has-number-neg, has-number-nat}
 use Rattle.line.proofs.is_number.Statement.{statement}
 use Rattle.line.proofs.is_number.Tie as tie
 
@@ -33,7 +33,7 @@ returns-3 c =
     let z = c .before .before .f .given .0 .0 in
     let back : toZ w64 (ofZ w64 z) ≡ z = search needs in
     let n = c .before .before .before .before .args .n in
-    holds-neg n z (rw back at (c .if1 .taken)) ∙ sym (ap (holds n) (c .before .before .f .given .1))
+    has-number-neg n z (rw back at (c .if1 .taken)) ∙ sym (ap (hasNumber n) (c .before .before .f .given .1))
 
 returns-4 : tie.Need-returns-4
 returns-4 c =
@@ -41,8 +41,8 @@ returns-4 c =
     let back : toZ w64 (ofZ w64 z) ≡ z = search needs in
     let n = c .before .before .before .before .before .args .n in
     ap (λ (m : ℕ). eqb m n) (c .natural .ensures ∙ ap toNat back)
-    ∙ holds-nat n z (rw back at (c .before .if1 .left))
-    ∙ sym (ap (holds n) (c .before .before .before .f .given .1))
+    ∙ has-number-nat n z (rw back at (c .before .if1 .left))
+    ∙ sym (ap (hasNumber n) (c .before .before .before .f .given .1))
 
 pub is-number-spec : {M : Type 1} → statement M
 is-number-spec =

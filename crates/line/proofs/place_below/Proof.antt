@@ -1,13 +1,14 @@
 -- `line::place_below` meets its contract. Assumes nothing.
-use Prim.Native.Nat.{ℕ, _+_, _≤_, _<_}
+use Prim.Native.Nat.{ℕ, _+_, _<_}
 use mathlib.Core.Path.{_≡_, sym, ap, ap₂, _∙_}
-use mathlib.Core.Bool.{Bool, true, false, _||_, cond}
+use mathlib.Core.Bool.{Bool, false, _||_, cond}
 use mathlib.Core.List.{List, []}
 use native.Mathlib.Omega.{arith}
 use borrow.Author.Tests.{leb-false}
 use borrow.Author.Needs.{needs}
 use denote.Ref.{now}
 use lib.Dec.{eqb, leb, ltb}
+use Rattle.field.proofs.Small.{one-or-none}
 use Rattle.line.specs.Line.{chancesOf, atChance, misfilled}
 use Rattle.line.specs.Inside.{pathOf}
 use Rattle.line.proofs.Path.{chances-bounded}
@@ -29,10 +30,6 @@ sum-is c ns = ap₂ _+_ (c .before .chances-on .ensures ns (now (c .before .befo
 
 shallow : (d c : ℕ) → (leb 64 d || ltb 4 c) ≡ false → d < 64
 shallow d c h = leb-false 64 d (or-left (leb 64 d) (ltb 4 c) h)
-
-one-or-none : (b : Bool) → cond b 1 0 ≤ 1
-one-or-none true = omega arith
-one-or-none false = omega arith
 
 add-c : tie.Need-add-c
 add-c c =

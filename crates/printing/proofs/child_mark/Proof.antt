@@ -18,7 +18,7 @@ use Rattle.field.specs.declared.Field.{Field}
 use Rattle.field.specs.declared.Field.the-variants.{Blank, Ill, Number}
 use Rattle.field.proofs.Small.{small}
 use Rattle.line.specs.Line.{toNat, valueOf, countOf}
-use Rattle.line.proofs.Signs.{mag-abs}
+use Rattle.field.proofs.Bits.{mag-abs}
 use Rattle.printing.proofs.child_mark.Statement.{statement}
 use Rattle.printing.proofs.child_mark.Tie as tie
 

@@ -12,14 +12,14 @@ use Rattle.printing.proofs.child_marks.Statement.{statement}
 use Rattle.printing.proofs.child_marks.Tie as tie
 
 abbrev Inv-loop : tie.InvT-loop
-Inv-loop lines node count₀ seen₀ count seen = (count ≤ seen) × (seen ≤ node) × (count ≡ childMarks lines seen)
+Inv-loop lines node count₀ seen₀ count seen = (count ≡ childMarks lines seen) × (count ≤ seen) × (seen ≤ node)
 
 abbrev μ-loop : tie.MeasureT-loop
 μ-loop lines node count₀ seen₀ count seen = node - seen
 
 loop-holds : tie.Need-loop-holds Inv-loop μ-loop
 unfolding childMarks
-loop-holds c = (omega arith, omega arith, refl)
+loop-holds c = (refl, omega arith, omega arith)
 
 add-seen : tie.Need-add-seen Inv-loop μ-loop
 add-seen c = omega arith
@@ -56,7 +56,7 @@ add-count c =
     let i : ℕ = L .loop .seen + 1 in
     let s : List ℕ = now (L .before .before .args .lines) in
     let few = mark-few (c .child-mark .result) (take (25 * i + 25 - 25 * i) (drop (25 * i) s)) (c .child-mark .ensures) in
-    record { fits = omega (arith, few, L .loop .inv .0, L .loop .inv .1, L .before .before .pre .1) }
+    record { fits = omega (arith, few, L .loop .inv .1, L .loop .inv .2, L .before .before .pre .1) }
 
 loop-less : tie.Need-loop-less Inv-loop μ-loop
 loop-less c = omega arith
@@ -68,17 +68,17 @@ loop-again c =
     let i : ℕ = L .loop .seen in
     let t = c .before .before .loop-test .taken in
     let e : c .child-mark .result ≡ childMark (take 25 (drop (25 * (i + 1)) (now (a .lines)))) = c .child-mark .ensures ∙ ap childMark (part-of (now (a .lines)) (25 * (i + 1)) 25) in (
-      omega (arith, mark-few (c .child-mark .result) (take 25 (drop (25 * (i + 1)) (now (a .lines)))) e, L .loop .inv .0),
+      marks-more (now (a .lines)) i (L .loop .count) (c .child-mark .result) (L .loop .inv .0) e,
+      omega (arith, mark-few (c .child-mark .result) (take 25 (drop (25 * (i + 1)) (now (a .lines)))) e, L .loop .inv .1),
       omega (arith, t),
-      marks-more (now (a .lines)) i (L .loop .count) (c .child-mark .result) (L .loop .inv .2) e,
     )
 
 returns : tie.Need-returns Inv-loop μ-loop
 returns c =
     let L = c .before in
     let a = L .before .before .args in
-    let e : L .loop .seen ≡ a .node = omega (arith, L .loop .inv .1, c .loop-test .left) in
-    L .loop .inv .2 ∙ ap (childMarks (now (a .lines))) e
+    let e : L .loop .seen ≡ a .node = omega (arith, L .loop .inv .2, c .loop-test .left) in
+    L .loop .inv .0 ∙ ap (childMarks (now (a .lines))) e
 
 pub child-marks-spec : {M : Type 1} → statement M
 child-marks-spec =

@@ -18,7 +18,7 @@ use Rattle.table.specs.Slices.{laid}
 use Rattle.engine.specs.declared.Bounds.{Bounds}
 use Rattle.engine.specs.declared.Bounded.the-variants.{Found, Refused}
 use Rattle.engine.specs.Calls.{Sought, sought, boundsOf, searchAnswer, searchList}
-use Rattle.printing.specs.Program.{Row, printed, leafRow, rowsOf}
+use Rattle.printing.specs.Program.{WordLine, printed, leafRow, rowsOf}
 use Rattle.printing.specs.Inside.{Lined, playMarks, Narrow, boundRows}
 use Rattle.printing.proofs.Sizes.{refusal-size}
 use Rattle.printing.proofs.Found.{answer-refused, answer-found, refused-low, lined, narrow, rows}
@@ -135,8 +135,8 @@ returns-2 c =
     ∙ ap rowsOf (sym q) in (
       F .put-found .ensures .0,
       (
-        F .put-found .ensures .1 .0 ∙ ap (λ (l : List Row). length (printed l)) same,
-        F .put-found .ensures .1 .1 ∙ ap (λ (l : List Row). sets d 0 (printed l)) same,
+        F .put-found .ensures .1 .0 ∙ ap (λ (l : List WordLine). length (printed l)) same,
+        F .put-found .ensures .1 .1 ∙ ap (λ (l : List WordLine). sets d 0 (printed l)) same,
       ),
     )
 

@@ -1,17 +1,17 @@
 -- `rollout::count` meets its contract. Assumes nothing.
 use Prim.Native.Nat.{ℕ, _-_, _≤_}
-use mathlib.Core.Bool.{Bool, true, false, cond}
 use native.Mathlib.Omega.{arith}
 use borrow.Author.Needs.{needs}
 use denote.Ref.{now}
+use Rattle.field.proofs.Small.{one-or-none}
 use Rattle.table.specs.Tree.{Forest}
-use Rattle.rollout.specs.Inside.{stored, Row}
+use Rattle.rollout.specs.Inside.{stored, Siblings}
 use Rattle.rollout.proofs.Rows.{First, Counting, count-start, count-first, count-turn, count-end}
 use Rattle.rollout.proofs.count.Statement.{statement}
 use Rattle.rollout.proofs.count.Tie as tie
 
 abbrev Inv-loop : tie.InvT-loop
-Inv-loop stop low high c e alpha beta m₀ i₀ m i = (m ≤ i) × ((F : Forest ℕ) → Row stop c e F → Counting stop e alpha beta (stored low high) F m i)
+Inv-loop stop low high c e alpha beta m₀ i₀ m i = (m ≤ i) × ((F : Forest ℕ) → Siblings stop c e F → Counting stop e alpha beta (stored low high) F m i)
 
 abbrev μ-loop : tie.MeasureT-loop
 μ-loop stop low high c e alpha beta m₀ i₀ m i = e - i
@@ -37,15 +37,11 @@ is-candidate-requires c κs =
 one-if-requires : tie.Need-one-if-requires Inv-loop μ-loop
 one-if-requires c κs = search needs
 
-at-most-one : (b : Bool) → cond b 1 0 ≤ 1
-at-most-one true = omega arith
-at-most-one false = omega arith
-
 add-m : tie.Need-add-m Inv-loop μ-loop
 add-m c =
     let i = c .before .before in
     let s = i .before .before .before .before .before in
-    record { fits = omega (arith, c .one-if .ensures, at-most-one (c .before .is-candidate .result), i .before .loop .inv .0, i .loop-test .taken, s .pre .0 .few) }
+    record { fits = omega (arith, c .one-if .ensures, one-or-none (c .before .is-candidate .result), i .before .loop .inv .0, i .loop-test .taken, s .pre .0 .few) }
 
 node-at-requires : tie.Need-node-at-requires Inv-loop μ-loop
 node-at-requires c κs =
@@ -63,7 +59,7 @@ loop-again c =
     let i = c .before .before .before in
     let t = c .before .before .is-candidate in
     let o = c .before .one-if in (
-      omega (arith, i .before .loop .inv .0, o .ensures, at-most-one (t .result), c .node-at .ensures, child i .below),
+      omega (arith, i .before .loop .inv .0, o .ensures, one-or-none (t .result), c .node-at .ensures, child i .below),
       λ F h. count-turn (i .before .loop .inv .1 F h) (i .loop-test .taken) (t .result) (o .result) (c .node-at .result) (t .ensures) (o .ensures) (c .node-at .ensures),
     )
 

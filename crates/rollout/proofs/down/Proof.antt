@@ -7,7 +7,7 @@ use borrow.Author.Needs.{needs}
 use denote.Ref.{now}
 use lib.ListN.{length, drop}
 use Rattle.rollout.specs.Lists.{Store, walkS}
-use Rattle.rollout.specs.Inside.{stored, Ready}
+use Rattle.rollout.specs.Inside.{stored, ReadyNode}
 use Rattle.rollout.proofs.Walks.{Window, Choosing, inner-more, inner-choice}
 use Rattle.rollout.proofs.Paths.{Descent, descent-begin, descent-end, descent-later, descent-turn}
 use Rattle.rollout.proofs.down.Statement.{statement}
@@ -16,7 +16,7 @@ use Rattle.rollout.proofs.down.Tie as tie
 -- at entry c, under `depth` nodes, with `at` policy bytes used, in the window a, b
 abbrev Going : (K S : List ℕ) (α β : ℕ) (st : Store) (P Q : List ℕ) (used c depth at a b : ℕ) → Type 0
 Going K S α β st P Q used c depth at a b =
-    (H : List ℕ) (G : ℕ) (R : Ready K S H G 0 α β st) → Descent K S H G (R .upto) (walkS G α β 0 (drop used P) (R .nodes) st) st P Q c depth at a b
+    (H : List ℕ) (G : ℕ) (R : ReadyNode K S H G 0 α β st) → Descent K S H G (R .upto) (walkS G α β 0 (drop used P) (R .nodes) st) st P Q c depth at a b
 
 abbrev Inv-loop : tie.InvT-loop
 Inv-loop kind stop low high policy path₀ used alpha beta c₀ depth₀ at₀ a₀ b₀ path c depth at a b =
@@ -47,7 +47,7 @@ descent l = let p = start-of l .pre in l .loop .inv .1 (p .heights) (p .grain) (
 ready : (l : tie.At-loop Inv-loop μ-loop)
     → let s = start-of l in
     let a = s .args in
-    Ready (now (a .kind)) (now (a .stop)) (s .pre .heights) (s .pre .grain) (l .loop .c) (l .loop .a) (l .loop .b) (stored (now (a .low)) (now (a .high)))
+    ReadyNode (now (a .kind)) (now (a .stop)) (s .pre .heights) (s .pre .grain) (l .loop .c) (l .loop .a) (l .loop .b) (stored (now (a .low)) (now (a .high)))
 ready l = descent l .ready
 
 kind-at-requires : tie.Need-kind-at-requires Inv-loop μ-loop

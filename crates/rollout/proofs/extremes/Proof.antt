@@ -4,14 +4,14 @@ use native.Mathlib.Omega.{arith}
 use borrow.Author.Needs.{needs}
 use denote.Ref.{now}
 use Rattle.table.specs.Tree.{Forest, kindOf}
-use Rattle.rollout.specs.Inside.{Row}
+use Rattle.rollout.specs.Inside.{Siblings}
 use Rattle.rollout.proofs.Rows.{First, Folding, fold-start, fold-first, fold-turn, fold-end}
 use Rattle.rollout.proofs.extremes.Statement.{statement}
 use Rattle.rollout.proofs.extremes.Tie as tie
 
 abbrev Inv-loop : tie.InvT-loop
 Inv-loop kind stop low high c e l₀ h₀ i₀ l h i =
-    (F : Forest ℕ) → Row stop c e F → Folding (kindOf kind) stop e low F l i × Folding (kindOf kind) stop e high F h i
+    (F : Forest ℕ) → Siblings stop c e F → Folding (kindOf kind) stop e low F l i × Folding (kindOf kind) stop e high F h i
 
 abbrev μ-loop : tie.MeasureT-loop
 μ-loop kind stop low high c e l₀ h₀ i₀ l h i = e - i

@@ -51,7 +51,7 @@ use denote.Triple.Table.{entered}
 use denote.Triple.Walked.{says, needs, Stays, stay-slice, stay-none-slice, stay-none, walkOf, goes-slice, goes-none-slice, goes-none, Walks, ends-at, walked, walk-meets}
 use denote.Exit.{yes}
 use Rattle.rollout.specs.declared.Record.{Record}
-use Rattle.rollout.specs.Filled.{risen, Small, filled}
+use Rattle.rollout.specs.Records.{risen, SmallHeights, filled}
 use Rattle.rollout.proofs.Filling.{filled-none, risen-more, length-risen, sum-small, sum-is, sum-fits, cast-small}
 use Rattle.rollout.proofs.Record as T
 use Rattle.rollout.proofs.Record.Laws as T′
@@ -76,7 +76,7 @@ numbersTy j = sliceTy (tyRef (named j) imm word)
 module _ {M : Type 1} (𝓤 : URA M) (H : Heap 𝓤) (A : Atoms 𝓤) (W : Given 𝓤 H A) (mem : Memory → SProp 𝓤) (run : Routine → Fun 𝓤)
     (κ κ₁ κ₂ : Lft) (q q₁ q₂ : Share) (b o b₁ o₁ b₂ o₂ : ℕ) (γ γ₁ γ₂ : GName) (ys : List Record) (ls hs : List ℕ) (n : ℕ) (base : ℤ)
     (room : Room T.the-row (length ys)) (room₁ : Room u64 (length ls)) (room₂ : Room u64 (length hs)) (n-fits : n < 2 ^ 64) (base-fits : mag base < 2 ^ 63)
-    (n-ys : n ≤ length ys) (n-ls : n ≤ length ls) (n-hs : n ≤ length hs) (small-ls : Small base n ls) (small-hs : Small base n hs) where
+    (n-ys : n ≤ length ys) (n-ls : n ≤ length ls) (n-hs : n ≤ length hs) (small-ls : SmallHeights base n ls) (small-hs : SmallHeights base n hs) where
   abbrev x : List Record → RefT (List Record)
   x l = record { ptr = (b, o); name = γ; now = l }
 
@@ -305,7 +305,7 @@ module _ {M : Type 1} (𝓤 : URA M) (H : Heap 𝓤) (A : Atoms 𝓤) (W : Given
   fill-walks = walked 𝓤 H A fill.ended stayed (fill.clauses 𝓤 H A mem run) (WpFn 𝓤 H (𝓣 .C) (𝓣 .Λ) code.function)
       (λ κs. (slice-vals, (slice-vals, (slice-vals, (uint-vals w64, (sint-vals w64, tt))))))
       (λ κs. (mut-slice-tells (named 0) (κs .0) T.the-row, (shr-slice-tells (named 1) (κs .1 .0) u64, (shr-slice-tells (named 2) (κs .1 .1 .0) u64, (uint-tells w64, (sint-tells w64, tt))))))
-      (λ κs qs bounds a g are. needs 𝓤 ((a .1 .1 .1 .0 ≤ length (now (a .0))) × (a .1 .1 .1 .0 ≤ length (now (a .1 .0))) × (a .1 .1 .1 .0 ≤ length (now (a .1 .1 .0))) × Small (a .1 .1 .1 .1 .0) (a .1 .1 .1 .0) (now (a .1 .0)) × Small (a .1 .1 .1 .1 .0) (a .1 .1 .1 .0) (now (a .1 .1 .0))) _ (λ within.
+      (λ κs qs bounds a g are. needs 𝓤 ((a .1 .1 .1 .0 ≤ length (now (a .0))) × (a .1 .1 .1 .0 ≤ length (now (a .1 .0))) × (a .1 .1 .1 .0 ≤ length (now (a .1 .1 .0))) × SmallHeights (a .1 .1 .1 .1 .0) (a .1 .1 .1 .0) (now (a .1 .0)) × SmallHeights (a .1 .1 .1 .1 .0) (a .1 .1 .1 .0) (now (a .1 .1 .0))) _ (λ within.
       walk 𝓤 H A W mem run (κs .0) (κs .1 .0) (κs .1 .1 .0) (qs .0) (qs .1 .0) (qs .1 .1 .0)
       (a .0 .ptr .0) (a .0 .ptr .1) (a .1 .0 .ptr .0) (a .1 .0 .ptr .1) (a .1 .1 .0 .ptr .0) (a .1 .1 .0 .ptr .1) (a .0 .name) (a .1 .0 .name) (a .1 .1 .0 .name)
       (a .0 .now) (a .1 .0 .now) (a .1 .1 .0 .now) (a .1 .1 .1 .0) (a .1 .1 .1 .1 .0) (are .0 .0 .1) (are .1 .0 .0 .1) (are .1 .1 .0 .0 .1) (are .1 .1 .1 .0 .1) (are .1 .1 .1 .1 .0 .1) (within .0) (within .1) (within .2) (within .3) (within .4) 𝓣))

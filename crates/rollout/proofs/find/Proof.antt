@@ -5,14 +5,14 @@ use borrow.Author.Needs.{needs}
 use denote.Ref.{now}
 use Rattle.table.specs.Tree.{Forest}
 use Rattle.rollout.specs.Lists.{candidatesS}
-use Rattle.rollout.specs.Inside.{stored, Row}
+use Rattle.rollout.specs.Inside.{stored, Siblings}
 use Rattle.rollout.proofs.Rows.{Seeking, seek-start, seek-within, seek-first, seek-found, seek-sub, seek-turn}
 use Rattle.rollout.proofs.find.Statement.{statement}
 use Rattle.rollout.proofs.find.Tie as tie
 
 abbrev Inv-loop : tie.InvT-loop
 Inv-loop stop low high c e alpha beta j left₀ i₀ left i =
-    (F : Forest ℕ) → Row stop c e F → j < candidatesS alpha beta F (stored low high) → Seeking stop e alpha beta (stored low high) F j left i
+    (F : Forest ℕ) → Siblings stop c e F → j < candidatesS alpha beta F (stored low high) → Seeking stop e alpha beta (stored low high) F j left i
 
 abbrev μ-loop : tie.MeasureT-loop
 μ-loop stop low high c e alpha beta j left₀ i₀ left i = e - i

@@ -21,7 +21,7 @@ wide32-requires c κs = search needs
 mul-v : tie.Need-mul-v
 mul-v c =
     let s = c .before .before .before .before .before in
-    record { fits = omega (arith, mul-most (c .wide32 .result) (s .args .grain) 4294967295 16777216 (omega (arith, c .wide32 .ensures .1)) (s .pre .3)) }
+    record { fits = omega (arith, mul-most (c .wide32 .result) (s .args .grain) 4294967295 16777216 (omega (arith, c .wide32 .ensures, c .before .shared-slice-known2 .given (s .args .c))) (s .pre .3)) }
 
 mul-low : tie.Need-mul-low
 mul-low c = search needs
@@ -44,7 +44,7 @@ same-length-2 c = search needs
 returns : tie.Need-returns
 returns c =
     let a = c .before .before .before .before .before .args in
-    let v : c .wide32 .result * a .grain ≡ getD (now (a .height)) (a .c) 0 * a .grain = ap (λ (h : ℕ). h * a .grain) (c .wide32 .ensures .0) in
+    let v : c .wide32 .result * a .grain ≡ getD (now (a .height)) (a .c) 0 * a .grain = ap (λ (h : ℕ). h * a .grain) (c .wide32 .ensures) in
     (ap (set (now (a .low)) (a .c)) v, ap (set (now (a .high)) (a .c)) v)
 
 pub read-leaf-spec : {M : Type 1} → statement M

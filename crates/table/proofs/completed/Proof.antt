@@ -10,30 +10,33 @@ use Rattle.table.proofs.completed.Tie as tie
 first-childless-requires : tie.Need-first-childless-requires
 first-childless-requires c κs = search needs
 
+first-unbalanced-requires : tie.Need-first-unbalanced-requires
+first-unbalanced-requires c κs = search needs
+
 add-t11 : tie.Need-add-t11
 add-t11 c = search needs
 
 returns : tie.Need-returns
-returns c = rw (← c .before .first-childless .ensures, lt-ltb (c .before .first-childless .result) _ (c .if1 .taken))
-
-first-unbalanced-requires : tie.Need-first-unbalanced-requires
-first-unbalanced-requires c κs = search needs
+returns c =
+    let b = c .before .before in
+    rw (← b .first-childless .ensures, lt-ltb (b .first-childless .result) _ (c .if1 .taken))
 
 add-t13 : tie.Need-add-t13
 add-t13 c = search needs
 
 returns-2 : tie.Need-returns-2
 returns-2 c =
-    let b = c .before .before .before in
-    rw (← b .first-childless .ensures, le-ltb (b .first-childless .result) _ (c .before .before .if1 .left), ← c .before .first-unbalanced .ensures, lt-ltb (c .before .first-unbalanced .result) _ (c .if2 .taken))
+    let u = c .before .before in
+    let b = u .before in
+    rw (← b .first-childless .ensures, le-ltb (b .first-childless .result) _ (c .before .if1 .left), ← u .first-unbalanced .ensures, lt-ltb (u .first-unbalanced .result) _ (c .if2 .taken))
 
 power-requires : tie.Need-power-requires
 power-requires c κs = search needs
 
 returns-3 : tie.Need-returns-3
 returns-3 c =
-    let u = c .before .before .before in
-    let b = u .before .before in
+    let u = c .before .before .before .before in
+    let b = u .before in
     let a = b .before .before .before .before .args in
     let back-lo : toZ w64 (ofZ w64 (a .h .lowest)) ≡ a .h .lowest = search needs in
     let back-hi : toZ w64 (ofZ w64 (a .h .highest)) ≡ a .h .highest = search needs in
@@ -42,7 +45,7 @@ returns-3 c =
       back-hi,
       c .before .power .ensures,
       ← b .first-childless .ensures,
-      le-ltb (b .first-childless .result) _ (u .before .if1 .left),
+      le-ltb (b .first-childless .result) _ (c .before .before .before .if1 .left),
       ← u .first-unbalanced .ensures,
       le-ltb (u .first-unbalanced .result) _ (c .before .before .if2 .left),
     )
@@ -52,9 +55,9 @@ completed-spec =
     tie.close
     (tie.spec
     first-childless-requires
+    first-unbalanced-requires
     add-t11
     returns
-    first-unbalanced-requires
     add-t13
     returns-2
     power-requires

@@ -1,7 +1,7 @@
 -- `table::node_lines` meets its contract. Assumes nothing.
 use Prim.Native.Nat.{ℕ, _+_, _-_, _*_, _≤_, _<_, max}
 use mathlib.Core.List.{List}
-use mathlib.Core.Bool.{Bool, true, false, cond}
+use mathlib.Core.Bool.{cond}
 use mathlib.Core.Path.{_≡_, refl, sym, ap, subst, _∙_}
 use native.Mathlib.Omega.{arith}
 use native.Mathlib.Nat.{le-trans}
@@ -14,13 +14,14 @@ use lib.ListN.{length, replicate, drop, take, set, length-take, length-drop}
 use mir.Syntax.{w64}
 use mir.Val.{toZ, ofZ}
 use mir.ValLaws.{toZ-ofZ}
+use Rattle.field.proofs.Bits.{mag-abs}
+use Rattle.field.proofs.Small.{one-or-none}
 use Rattle.line.specs.declared.Line.{Line}
 use Rattle.line.specs.declared.Placing
 use Rattle.line.specs.declared.Placing.{Placing}
 use Rattle.line.specs.Line.{nodeLine, Ranged}
 use Rattle.table.specs.Slices.{heightOf}
 use Rattle.line.specs.Inside.{pathOf, placingShown, Sized, Roomy}
-use Rattle.line.proofs.Signs.{mag-abs}
 use Rattle.table.proofs.Gather.{bounded-zeros, Gathering, Kept, gathering-kept, gathering-none, gathering-more, gathering-as, sized-here, reading-refused, gathered-refused, gathered-done}
 use Rattle.table.proofs.node_lines.Statement.{statement}
 use Rattle.table.proofs.node_lines.Tie as tie
@@ -83,10 +84,6 @@ line-of c = told c .before .before
 
 small-index : (c : tie.After-node-line Inv-loop μ-loop) → turn c .loop .i < 1024
 small-index c = omega (arith, c .before .before .before .before .before .loop-test .taken, turn c .loop .inv .1)
-
-flag-small : (b : Bool) → cond b 1 0 ≤ 1
-flag-small true = omega arith
-flag-small false = omega arith
 
 -- the loop's state after line l at depth d
 abbrev After : tie.After-node-line Inv-loop μ-loop → Line → ℕ → Type 0
@@ -200,7 +197,7 @@ add-leaves c =
     let s = turn N .loop in
     let a = start (turn N) .args in
     let i<n : s .i < a .n = omega (arith, N .before .before .before .before .before .loop-test .taken) in
-    omega (arith, s .inv .0 .few, s .inv .1, c .one-if .ensures, flag-small (eqb (c .before .before .before .before .l .given .0 .0 .kind) 0))
+    omega (arith, s .inv .0 .few, s .inv .1, c .one-if .ensures, one-or-none (eqb (c .before .before .before .before .l .given .0 .0 .kind) 0))
 
 store-requires : tie.Need-store-requires Inv-loop μ-loop
 store-requires c κs =

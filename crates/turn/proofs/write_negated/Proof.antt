@@ -11,6 +11,11 @@ use Rattle.field.proofs.Width.{few-columns}
 use Rattle.turn.proofs.write_negated.Statement.{statement}
 use Rattle.turn.proofs.write_negated.Tie as tie
 
+returns : tie.Need-returns
+returns c =
+    let s = c .before .before .before .before .before in
+    c .before .before .write .ensures ∙ ap (written (now (s .args .buffer)) (s .args .at) 8) (neg-back (s .args .z) (omega arith))
+
 sub-write : tie.Need-sub-write
 sub-write c = neg-fits (c .before .before .args .z) (omega arith)
 
@@ -23,11 +28,6 @@ write-requires c κs =
 
 same-length : tie.Need-same-length
 same-length c = search needs
-
-returns : tie.Need-returns
-returns c =
-    let s = c .before .before .before .before .before in
-    c .before .before .write .ensures ∙ ap (written (now (s .args .buffer)) (s .args .at) 8) (neg-back (s .args .z) (omega arith))
 
 pub write-negated-spec : {M : Type 1} → statement M
 write-negated-spec = tie.close (tie.spec sub-write write-requires same-length returns)

@@ -1,5 +1,5 @@
 -- The lent store, a slice of records, filled from two lists of numbers. Document 01, 'Rollouts': "kept in a lent slice of records, one record
--- for each node". Assumes nothing: these are definitions.
+-- for each node".
 use Prim.Native.Nat.{ℕ, zero, suc, _≤_, _<_}
 use mathlib.Core.List.{List, [], _∷_, _++_, map}
 use lib.IntN.{ℤ, pos, _+ℤ_}
@@ -20,8 +20,8 @@ abbrev pub risen : ℤ → List ℕ → List ℤ
 risen b hs = map (λ (h : ℕ). b +ℤ pos h) hs
 
 -- the first n of them, added to b, stay within 64 bits
-abbrev pub Small : ℤ → ℕ → List ℕ → Type 0
-Small b n hs = (i : ℕ) → i < n → (mag b ≤ 35184372088832) × (getD hs i 0 ≤ 35184372088832)
+abbrev pub SmallHeights : ℤ → ℕ → List ℕ → Type 0
+SmallHeights b n hs = (i : ℕ) → i < n → (mag b ≤ 35184372088832) × (getD hs i 0 ≤ 35184372088832)
 
 -- the first n numbers of the two lists, as records
 unfoldable pub recordsOf : ℕ → List ℤ → List ℤ → List Record
