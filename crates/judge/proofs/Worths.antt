@@ -1,7 +1,6 @@
 -- The worths of the root's children as a list of numbers: the best of them, and those level with it. Assumes nothing.
 use Prim.Native.Nat.{ℕ, zero, suc, _+_, _-_, _≤_, _<_}
 use mathlib.Core.Path.{_≡_, refl, sym, ap, ap₂, _∙_}
-use mathlib.Core.Bool.{Bool, true, false, cond}
 use mathlib.Core.List.{List, [], _∷_}
 use mathlib.Core.Option.{some}
 use native.Mathlib.Omega.{arith}
@@ -10,6 +9,7 @@ use lib.Seq.{length-take-le, getD-take, drop-cons, drop-length}
 use lib.Dec.{ltb}
 use lib.IntN.{ℤ, pos, negsuc}
 use Rattle.line.specs.Line.{toNat}
+use Rattle.field.proofs.Small.{one-or-none}
 use Rattle.table.specs.Tree.{Forest, end, leaf, inner}
 use Rattle.table.specs.Accepted.{Filled}
 use Rattle.worth.specs.Worth.{Share}
@@ -129,10 +129,6 @@ module _ (s : Side) (m : ℕ) (l : List ℕ) (room : m ≤ length l) where
   unfolding bestFrom
   best-end best k e b = sym (b ∙ ap (bestFrom s best) (entry-none m l room k e))
 
-level-low : (b : Bool) → cond b 1 0 ≤ 1
-level-low true = omega arith
-level-low false = omega arith
-
 -- k entries were looked at
 pub record Counting (s : Side) (G best m : ℕ) (l : List ℕ) (count k : ℕ) : Type 0 where
   pub low : count ≤ k
@@ -152,7 +148,7 @@ module _ (s : Side) (G best m : ℕ) (l : List ℕ) (room : m ≤ length l) wher
     count-ahead h = both h .0
 
     pub count-low : k < m → count + levelOne s G best (getD l k 0) ≤ m
-    count-low h = omega (arith, C .low, level-low (ltb (heightLoss s best (getD l k 0)) G))
+    count-low h = omega (arith, C .low, one-or-none (ltb (heightLoss s best (getD l k 0)) G))
 
     pub count-turn : (more : ℕ) → k < m → more ≡ count + levelOne s G best (getD l k 0) → Counting s G best m l more (k + 1)
     unfolding levelsIn
@@ -160,7 +156,7 @@ module _ (s : Side) (G best m : ℕ) (l : List ℕ) (room : m ≤ length l) wher
         let step : levelsIn s G best (take m l) ≡ count + (levelOne s G best (getD l k 0) + levelsIn s G best (drop (k + 1) (take m l))) =
         C .same ∙ ap (λ (d : List ℕ). count + levelsIn s G best d) (entry-on m l room k h) in
         record {
-          low = omega (arith, e, C .low, level-low (ltb (heightLoss s best (getD l k 0)) G));
+          low = omega (arith, e, C .low, one-or-none (ltb (heightLoss s best (getD l k 0)) G));
           upto = omega arith;
           ahead = both h .1;
           same = omega (arith, step, e);
