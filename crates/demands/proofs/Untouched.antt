@@ -7,6 +7,7 @@ use lib.ListN.{length}
 use lib.IntN.{ℤ}
 use Rattle.line.specs.declared.Refusal.{Refusal}
 use Rattle.line.specs.Refusal.{Verdict, refused, fine}
+use Rattle.line.proofs.Numbers.{number-some}
 use Rattle.table.specs.declared.Reading
 use Rattle.table.specs.Table.{Table, readText, answer}
 use Rattle.table.specs.Slices.{laid, fitted}
@@ -20,7 +21,7 @@ use Rattle.engine.specs.declared.Exact.{Exact}
 use Rattle.engine.specs.declared.Exact.the-variants.{Grains, Refused}
 use Rattle.engine.specs.Calls.{exactCall, judgeCall, Sought, sought, searchAnswer, searchList, turnOf, turnAnswer, turnWritten, rolls, rollAnswer, rollList, rollRecords, recorded}
 use Rattle.abi.specs.Numbers.{readCode, numbersOf, worthCode, worthNumbers, judgeCode, judgeNumbers, searchCode, searchNumbers, rollCode, rollNumbers, turnedCode, put}
-use Rattle.demands.specs.Untouched.{Refuses, SlicesKept, ReadUntouched, SearchUntouched, TurnUntouched, RollUntouched, CReadUntouched, CWorthUntouched, CJudgeUntouched, CSearchUntouched, CTurnUntouched, CRollUntouched}
+use Rattle.demands.specs.Untouched.{Refuses, CodesRefuse, SlicesKept, ReadUntouched, SearchUntouched, TurnUntouched, RollUntouched, CReadUntouched, CWorthUntouched, CJudgeUntouched, CSearchUntouched, CTurnUntouched, CRollUntouched}
 
 fitted-none : (a : List ℕ) → fitted [] a ≡ a
 fitted-none [] = refl
@@ -30,6 +31,9 @@ slices-kept : (r : Refusal) (kind stop weight height : List ℕ) → SlicesKept 
 slices-kept r kind stop weight height = (fitted-none kind, fitted-none stop, fitted-none weight, fitted-none height)
 
 -- ---- by the number that is returned; a call that is not refused returns 0
+
+pub codes-refuse : CodesRefuse
+codes-refuse r e = omega (arith, e, number-some r)
 
 read-code : (v : Verdict Table) (numbers : List ℤ) (kind stop weight height : List ℕ) → Refuses (readCode (answer v))
     → (put 0 (numbersOf (answer v)) numbers ≡ numbers) × SlicesKept v kind stop weight height

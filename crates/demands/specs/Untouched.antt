@@ -1,12 +1,12 @@
 -- Demand 1: "A refused call changes no byte of the lists and stores it was lent." Each call's promise says what then stands in everything that it was
 -- lent; this is that it is as it was, where the call is refused. A text is lent for reading alone. proofs/Untouched.antt has the theorems.
-use Prim.Native.Nat.{ℕ}
+use Prim.Native.Nat.{ℕ, _+_, _*_}
 use mathlib.Core.Path.{_≡_}
 use mathlib.Core.List.{List}
 use lib.ListN.{length}
 use lib.IntN.{ℤ}
 use Rattle.line.specs.declared.Refusal.{Refusal}
-use Rattle.line.specs.Refusal.{Verdict}
+use Rattle.line.specs.Refusal.{Verdict, numberOf, lineOf}
 use Rattle.table.specs.declared.Reading
 use Rattle.table.specs.Table.{Table, readText, answer}
 use Rattle.table.specs.Slices.{laid, fitted, kindsOf, stopsOf, weightsOf, heightsOf, decoded}
@@ -53,6 +53,10 @@ RollUntouched =
 -- a number returned by a refused call
 abbrev pub Refuses : ℕ → Type 0
 Refuses code = code ≡ 0 → ⊥
+
+-- that is every refused call: each call returns this number of its refusal
+abbrev pub CodesRefuse : Type 0
+CodesRefuse = (r : Refusal) → Refuses (100 * lineOf r + numberOf r)
 
 abbrev pub CReadUntouched : Type 0
 CReadUntouched =

@@ -5,7 +5,6 @@ pub mod Worked
 pub mod Losses
 pub mod Walk
 pub mod Run
-pub mod Lone
 pub mod Worths
 pub mod Root
 pub mod Answer

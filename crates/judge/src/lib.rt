@@ -3,8 +3,7 @@ ghost use mathlib.Core.Path.{_≡_};
 ghost use Prim.Native.Nat.{_-_, _<_, _≤_};
 ghost use lib.ListN.{length, getD, take};
 ghost use Rattle.line.specs.Line.{toNat};
-ghost use Rattle.table.specs.Tree.{MAX};
-ghost use Rattle.worth.specs.Inside.{beside, ReadyRun, Worthy};
+ghost use Rattle.worth.specs.Inside.{beside};
 ghost use Rattle.judge.specs.Heights.{heightLoss, Ahead};
 ghost use Rattle.judge.specs.Inside.{sideIf, Chain, Played, Under, Listed, better, bestIn, AllAhead, levelOne, levelsIn, WholeLines, WellJudged, Decided, WellDecided};
 use line::Refusal;
@@ -76,26 +75,8 @@ fn level_one(max: bool, best: u64, h: u64, grain: u64) -> u64
     0
 }
 
-// The worth of a root child, by its run of lines, nodes i up to e: one line alone is a leaf, and its worth needs no call of the recursion.
-fn child_worth(
-    run: &[u8],
-    stop: &[u16],
-    weight: &[u8],
-    height: &[u32],
-    i: usize,
-    e: usize,
-    g: Scale,
-) -> u64
-    requires { ⌜ ReadyRun (beside (now stop) (now weight) (now height)) g MAX i e (now run) ⌝ }
-    ensures { λ r. ⌜ Worthy (beside (now (stop .entry)) (now (weight .entry)) (now (height .entry))) g MAX i e (now (run .entry)) r ⌝ }
-{
-    if i + 1 == e {
-        return worth::leaf_worth(height, i, g.grain);
-    }
-    worth::worth_of(run, stop, weight, height, i, e, g)
-}
-
-// The worth of each of the root's children, first to last, to the list's front; it gives their number. Each run is a part of the lines.
+// The worth of each of the root's children, first to last, to the list's front; it gives their number. Each child's run is handed on as a
+// part of the lines.
 fn list_worths(
     lines: &[u8],
     stop: &[u16],
@@ -112,7 +93,7 @@ fn list_worths(
     let mut i: usize = 1;
     while i < n {
         let e = stop_at(stop, i);
-        list[m] = child_worth(&lines[25 * i..25 * e], stop, weight, height, i, e, g);
+        list[m] = worth::worth_of(&lines[25 * i..25 * e], stop, weight, height, i, e, g);
         m += 1;
         i = e;
     }

@@ -1,22 +1,28 @@
--- How large a refusal's number is. Assumes nothing.
+-- A refusal's number is 1 to 14. Assumes nothing.
 use Prim.Native.Nat.{_≤_}
 use native.Mathlib.Omega.{arith}
 use Rattle.line.specs.declared.Refusal.{Refusal}
 use Rattle.line.specs.declared.Refusal.the-variants.{Length, IllWritten, OutOfRange, Misnumbered, UnknownKind, WrongParent, Misfilled, Childless, WrongSum, TooDeep, NoRoom, BadMargin, HasChance, NoChild}
 use Rattle.line.specs.Refusal.{numberOf}
 
+range : (r : Refusal) → (1 ≤ numberOf r) × (numberOf r ≤ 14)
+range Length = (omega arith, omega arith)
+range (IllWritten n) = (omega arith, omega arith)
+range (OutOfRange n) = (omega arith, omega arith)
+range (Misnumbered n) = (omega arith, omega arith)
+range (UnknownKind n) = (omega arith, omega arith)
+range (WrongParent n) = (omega arith, omega arith)
+range (Misfilled n) = (omega arith, omega arith)
+range (Childless n) = (omega arith, omega arith)
+range (WrongSum n) = (omega arith, omega arith)
+range (TooDeep n) = (omega arith, omega arith)
+range NoRoom = (omega arith, omega arith)
+range BadMargin = (omega arith, omega arith)
+range HasChance = (omega arith, omega arith)
+range NoChild = (omega arith, omega arith)
+
+pub number-some : (r : Refusal) → 1 ≤ numberOf r
+number-some r = range r .0
+
 pub number-small : (r : Refusal) → numberOf r ≤ 14
-number-small Length = omega arith
-number-small (IllWritten n) = omega arith
-number-small (OutOfRange n) = omega arith
-number-small (Misnumbered n) = omega arith
-number-small (UnknownKind n) = omega arith
-number-small (WrongParent n) = omega arith
-number-small (Misfilled n) = omega arith
-number-small (Childless n) = omega arith
-number-small (WrongSum n) = omega arith
-number-small (TooDeep n) = omega arith
-number-small NoRoom = omega arith
-number-small BadMargin = omega arith
-number-small HasChance = omega arith
-number-small NoChild = omega arith
+number-small r = range r .1

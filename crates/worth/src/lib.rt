@@ -21,7 +21,7 @@ fn kind_at(run: &[u8], at: usize) -> u8
 }
 
 // A leaf's grains above the lowest end.
-pub fn leaf_worth(height: &[u32], i: usize, grain: u64) -> u64
+fn leaf_worth(height: &[u32], i: usize, grain: u64) -> u64
     requires { ⌜ (i < length (now height)) × (grain ≤ 16777216) ⌝ }
     ensures { λ r. ⌜ r ≡ getD (now (height .entry)) i 0 * grain ⌝ }
 {

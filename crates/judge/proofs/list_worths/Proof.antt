@@ -37,42 +37,42 @@ child c U =
 stop-at-requires : tie.Need-stop-at-requires Inv-loop μ-loop
 stop-at-requires c κs = omega (arith, c .loop-test .taken, start-of c .pre .fits .room .stops)
 
-mul-child-worth : tie.Need-mul-child-worth Inv-loop μ-loop
-mul-child-worth c = record { fits = omega (arith, c .before .loop-test .taken, start-of (c .before) .pre .fits .few) }
+mul-worth-of : tie.Need-mul-worth-of Inv-loop μ-loop
+mul-worth-of c = record { fits = omega (arith, c .before .loop-test .taken, start-of (c .before) .pre .fits .few) }
 
-mul-child-worth-2 : tie.Need-mul-child-worth-2 Inv-loop μ-loop
-mul-child-worth-2 c =
+mul-worth-of-2 : tie.Need-mul-worth-of-2 Inv-loop μ-loop
+mul-worth-of-2 c =
     let U = start-of (c .before) .pre in
     record { fits = omega (arith, c .stop-at .ensures, child (c .before) U .within, U .fits .few) }
 
-sub-child-worth : tie.Need-sub-child-worth Inv-loop μ-loop
-sub-child-worth c = omega (arith, c .stop-at .ensures, child (c .before) (start-of (c .before) .pre) .later)
+sub-worth-of : tie.Need-sub-worth-of Inv-loop μ-loop
+sub-worth-of c = omega (arith, c .stop-at .ensures, child (c .before) (start-of (c .before) .pre) .later)
 
-part-child-worth-start : tie.Need-part-child-worth-start Inv-loop μ-loop
-part-child-worth-start c = omega (arith, c .stop-at .ensures, child (c .before) (start-of (c .before) .pre) .later)
+part-worth-of-start : tie.Need-part-worth-of-start Inv-loop μ-loop
+part-worth-of-start c = omega (arith, c .stop-at .ensures, child (c .before) (start-of (c .before) .pre) .later)
 
-part-child-worth-end : tie.Need-part-child-worth-end Inv-loop μ-loop
-part-child-worth-end c =
+part-worth-of-end : tie.Need-part-worth-of-end Inv-loop μ-loop
+part-worth-of-end c =
     let U = start-of (c .before) .pre in
     omega (arith, c .stop-at .ensures, child (c .before) U .within, U .fits .long)
 
-child-worth-requires : tie.Need-child-worth-requires Inv-loop μ-loop
-child-worth-requires c κs =
+worth-of-requires : tie.Need-worth-of-requires Inv-loop μ-loop
+worth-of-requires c κs =
     let q = c .before .before in
     let s = start-of q in
     let a = s .args in
     part-ready (beside (now (a .stop)) (now (a .weight)) (now (a .height))) (a .g) (a .n) (now (a .lines)) (s .pre .fits) (q .before .loop .i) (q .before .loop .inv .1 (s .pre) .rest) (child q (s .pre)) (c .before .stop-at .result) (c .before .stop-at .ensures)
 
 -- what the child is worth
-worth : (c : tie.After-child-worth Inv-loop μ-loop)
+worth : (c : tie.After-worth-of Inv-loop μ-loop)
     → let q = c .before .before .before in
     let a = start-of q .args in
-    (U : Under (beside (now (a .stop)) (now (a .weight)) (now (a .height))) (a .g) (a .n) (now (a .lines)) (length (now (a .list)))) → c .child-worth .result ≡ child q U .share .worth
+    (U : Under (beside (now (a .stop)) (now (a .weight)) (now (a .height))) (a .g) (a .n) (now (a .lines)) (length (now (a .list)))) → c .worth-of .result ≡ child q U .share .worth
 worth c U =
     let q = c .before .before .before in
     let a = start-of q .args in
     let t = c .before .before .stop-at in
-    part-worth (beside (now (a .stop)) (now (a .weight)) (now (a .height))) (a .g) (a .n) (now (a .lines)) (U .fits) (q .before .loop .i) (q .before .loop .inv .1 U .rest) (child q U) (t .result) (t .ensures) (c .child-worth .result) (c .child-worth .ensures)
+    part-worth (beside (now (a .stop)) (now (a .weight)) (now (a .height))) (a .g) (a .n) (now (a .lines)) (U .fits) (q .before .loop .i) (q .before .loop .inv .1 U .rest) (child q U) (t .result) (t .ensures) (c .worth-of .result) (c .worth-of .ensures)
 
 -- the list has an entry m
 entry : (c : tie.In-loop Inv-loop μ-loop) → (c .before .loop .m < 1024) × (c .before .loop .m < length (c .before .loop .list))
@@ -104,8 +104,8 @@ loop-again c =
     let l = q .before .loop in
     let a = start-of q .args in
     let t = c .before .before .stop-at in (
-      length-set (l .list) (l .m) (c .child-worth .result) ∙ l .inv .0,
-      λ U. list-turn (beside (now (a .stop)) (now (a .weight)) (now (a .height))) (a .g) (a .n) (now (a .lines)) (now (a .list)) (l .list) (l .m) (l .i) U (l .inv .1) (q .loop-test .taken) (c .child-worth .result) (l .m + 1) (t .result) (worth c U) refl (t .ensures),
+      length-set (l .list) (l .m) (c .worth-of .result) ∙ l .inv .0,
+      λ U. list-turn (beside (now (a .stop)) (now (a .weight)) (now (a .height))) (a .g) (a .n) (now (a .lines)) (now (a .list)) (l .list) (l .m) (l .i) U (l .inv .1) (q .loop-test .taken) (c .worth-of .result) (l .m + 1) (t .result) (worth c U) refl (t .ensures),
     )
 
 same-length : tie.Need-same-length Inv-loop μ-loop
@@ -125,12 +125,12 @@ list-worths-spec =
     μ-loop
     loop-holds
     stop-at-requires
-    mul-child-worth
-    mul-child-worth-2
-    sub-child-worth
-    part-child-worth-start
-    part-child-worth-end
-    child-worth-requires
+    mul-worth-of
+    mul-worth-of-2
+    sub-worth-of
+    part-worth-of-start
+    part-worth-of-end
+    worth-of-requires
     mul-list
     slice-write-list
     add-m
