@@ -7,5 +7,6 @@ pub mod Worth
 pub mod Worked
 pub mod Codes
 pub mod Run
+pub mod Lone
 pub mod Text
 pub mod Judged

@@ -111,7 +111,7 @@ fn worth_under(
     seal(k, g.total, a)
 }
 
-// The worth of one node: its run of lines, nodes c up to e.
+// The worth of one node: its run of lines, nodes c up to e. A run of one line is a leaf.
 pub fn worth_of(
     run: &[u8],
     stop: &[u16],
@@ -124,5 +124,8 @@ pub fn worth_of(
     requires { ⌜ ReadyRun (beside (now stop) (now weight) (now height)) g MAX c e (now run) ⌝ }
     ensures { λ r. ⌜ Worthy (beside (now (stop .entry)) (now (weight .entry)) (now (height .entry))) g MAX c e (now (run .entry)) r ⌝ }
 {
+    if c + 1 == e {
+        return leaf_worth(height, c, g.grain);
+    }
     worth_under(1, run, stop, weight, height, c, e, g)
 }
