@@ -1,34 +1,29 @@
 -- Demand 1: what a refused call was lent is as it was. Assumes nothing.
 use Prim.Native.Nat.{ℕ}
-use mathlib.Core.Path.{_≡_, refl}
-use mathlib.Core.List.{List, [], _∷_}
+use mathlib.Core.Path.{_≡_, refl, sym, ap, _∙_}
+use mathlib.Core.List.{List, []}
 use native.Mathlib.Omega.{arith}
 use lib.ListN.{length}
 use lib.IntN.{ℤ}
 use Rattle.line.specs.declared.Refusal.{Refusal}
 use Rattle.line.specs.Refusal.{Verdict, refused, fine}
 use Rattle.line.proofs.Numbers.{number-some}
-use Rattle.table.specs.declared.Reading
 use Rattle.table.specs.Table.{Table, readText, answer}
-use Rattle.table.specs.Slices.{laid, fitted}
+use Rattle.table.specs.Slices.{laid, fitted, kindsOf, stopsOf, weightsOf, heightsOf, decoded}
+use Rattle.table.proofs.Top.{unchanged}
 use Rattle.rollout.specs.declared.Record.{Record}
 use Rattle.judge.specs.declared.Opinion
 use Rattle.judge.specs.declared.Opinion.{Opinion}
-use Rattle.engine.specs.declared.Bounded
-use Rattle.engine.specs.declared.Rolled
-use Rattle.engine.specs.declared.Turned
 use Rattle.engine.specs.declared.Exact.{Exact}
 use Rattle.engine.specs.declared.Exact.the-variants.{Grains, Refused}
 use Rattle.engine.specs.Calls.{exactCall, judgeCall, Sought, sought, searchAnswer, searchList, turnOf, turnAnswer, turnWritten, rolls, rollAnswer, rollList, rollRecords, recorded}
 use Rattle.abi.specs.Numbers.{readCode, numbersOf, worthCode, worthNumbers, judgeCode, judgeNumbers, searchCode, searchNumbers, rollCode, rollNumbers, turnedCode, put}
 use Rattle.demands.specs.Untouched.{Refuses, CodesRefuse, SlicesKept, ReadUntouched, SearchUntouched, TurnUntouched, RollUntouched, CReadUntouched, CWorthUntouched, CJudgeUntouched, CSearchUntouched, CTurnUntouched, CRollUntouched}
 
-fitted-none : (a : List ℕ) → fitted [] a ≡ a
-fitted-none [] = refl
-fitted-none (x ∷ a) = refl
-
 slices-kept : (r : Refusal) (kind stop weight height : List ℕ) → SlicesKept (refused r) kind stop weight height
-slices-kept r kind stop weight height = (fitted-none kind, fitted-none stop, fitted-none weight, fitted-none height)
+slices-kept r kind stop weight height =
+    let kept : (f : Table → List ℕ) (a : List ℕ) → fitted (decoded f (refused r)) a ≡ a = λ f a. sym (unchanged f (refused r) r a refl) in
+    (kept kindsOf kind, kept stopsOf stop, kept weightsOf weight, kept heightsOf height)
 
 -- ---- by the number that is returned; a call that is not refused returns 0
 
@@ -80,33 +75,19 @@ c-turn-untouched s buffer c = turn-code (turnOf (readText s) (length buffer)) bu
 pub c-roll-untouched : CRollUntouched
 c-roll-untouched s p list store numbers c = roll-code p (rolls (readText s) (length list) (length store)) list store numbers c
 
--- ---- by the answer
+-- ---- by the answer: a refusal's number is not 0
 
 pub read-untouched : ReadUntouched
-read-untouched s kind stop weight height r e = go (readText s) e
-  where
-    go : (v : Verdict Table) → answer v ≡ Reading.the-variants.Refused r → SlicesKept v kind stop weight height
-    go (refused x) e = slices-kept x kind stop weight height
-    go (fine t) e = let z : _≡_ {A = ℕ} 0 1 = cc in absurd (omega arith)
-
-nothing-sought : (v : Verdict Sought) (list : List ℕ) (r : Refusal) → searchAnswer v ≡ Bounded.the-variants.Refused r → laid (searchList v) list ≡ list
-nothing-sought (refused x) list r e = refl
-nothing-sought (fine s) list r e = let z : _≡_ {A = ℕ} 0 1 = cc in absurd (omega arith)
+read-untouched s kind stop weight height r e =
+    c-read-untouched s [] kind stop weight height (λ z. codes-refuse r (sym (ap readCode e) ∙ z)) .1
 
 pub search-untouched : SearchUntouched
-search-untouched s m list r e = nothing-sought (sought (readText s) m (length list)) list r e
-
-nothing-turned : (v : Verdict (List ℕ)) (buffer : List ℕ) (r : Refusal) → turnAnswer v ≡ Turned.the-variants.Refused r → laid (turnWritten v) buffer ≡ buffer
-nothing-turned (refused x) buffer r e = refl
-nothing-turned (fine s) buffer r e = let z : _≡_ {A = ℕ} 0 1 = cc in absurd (omega arith)
+search-untouched s m list r e = c-search-untouched s m list [] (λ z. codes-refuse r (sym (ap searchCode e) ∙ z)) .1
 
 pub turn-untouched : TurnUntouched
-turn-untouched s buffer r e = nothing-turned (turnOf (readText s) (length buffer)) buffer r e
-
-nothing-rolled : (p : List ℕ) (v : Verdict Table) (list : List ℕ) (store : List Record) (r : Refusal) → rollAnswer p v ≡ Rolled.the-variants.Refused r
-    → (laid (rollList p v) list ≡ list) × (recorded (rollRecords p v) store ≡ store)
-nothing-rolled p (refused x) list store r e = (refl, refl)
-nothing-rolled p (fine t) list store r e = let z : _≡_ {A = ℕ} 0 1 = cc in absurd (omega arith)
+turn-untouched s buffer r e = c-turn-untouched s buffer (λ z. codes-refuse r (sym (ap turnedCode e) ∙ z))
 
 pub roll-untouched : RollUntouched
-roll-untouched s p list store r e = nothing-rolled p (rolls (readText s) (length list) (length store)) list store r e
+roll-untouched s p list store r e =
+    let k = c-roll-untouched s p list store [] (λ z. codes-refuse r (sym (ap rollCode e) ∙ z)) in
+    (k .1, k .2)
