@@ -10,8 +10,13 @@ use Rattle.line.specs.Refusal.{Verdict, refused, fine, lineOf}
 use Rattle.table.specs.declared.Summary.{Summary}
 use Rattle.table.specs.declared.Reading.the-variants.{Accepted}
 use Rattle.table.specs.Table.{Table, readText, answer, grain}
+use Rattle.table.specs.declared.Play.{Play}
+use Rattle.table.specs.declared.Play.the-variants.{Child, NoPlay}
 use Rattle.table.proofs.Accepted.{answer-accepted, accepted-ranged, accepted-size, accepted-few, accepted-grain, accepted-leaf-lines}
 use Rattle.table.proofs.Places.{refused-line}
+use Rattle.judge.specs.declared.Opinion
+use Rattle.judge.specs.Judge.{Judgement, judge}
+use Rattle.judge.proofs.Judge.{judge-refused}
 use Rattle.engine.specs.declared.Exact.the-variants.{Grains, Refused}
 use Rattle.engine.specs.Calls.{exactCall, judgeAnswer, judgeCall}
 use Rattle.engine.specs.declared.Bounds.{Bounds}
@@ -19,11 +24,6 @@ use Rattle.engine.specs.declared.Rolled
 use Rattle.engine.specs.declared.Rolled.{Rolled}
 use Rattle.engine.proofs.Answered.{Sizes, PlayBelow}
 use Rattle.engine.proofs.RollAnswered.{RollSized}
-use Rattle.judge.specs.declared.Play.{Play}
-use Rattle.judge.specs.declared.Play.the-variants.{Child, NoPlay}
-use Rattle.judge.specs.declared.Opinion
-use Rattle.judge.specs.Judge.{Judgement, judge}
-use Rattle.judge.proofs.Judge.{judge-refused}
 use Rattle.abi.specs.Numbers.{nodeNumber, SmallSummary, SmallBounds, SmallRolled}
 
 pub small : (s : List ℕ) (t : Summary) → answer (readText s) ≡ Accepted t → SmallSummary t

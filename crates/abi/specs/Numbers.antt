@@ -3,12 +3,12 @@ use Prim.Native.Nat.{ℕ, suc, _+_, _*_, _<_, _≤_, _^_}
 use mathlib.Core.List.{List, [], _∷_}
 use lib.ListN.{set}
 use lib.IntN.{ℤ, pos}
+use Rattle.line.specs.Refusal.{numberOf, lineOf}
 use Rattle.table.specs.declared.Summary.{Summary}
 use Rattle.table.specs.declared.Reading.{Reading}
 use Rattle.table.specs.declared.Reading.the-variants.{Accepted, Refused}
-use Rattle.line.specs.Refusal.{numberOf, lineOf}
-use Rattle.judge.specs.declared.Play.{Play}
-use Rattle.judge.specs.declared.Play.the-variants.{Child, NoPlay}
+use Rattle.table.specs.declared.Play.{Play}
+use Rattle.table.specs.declared.Play.the-variants.{Child, NoPlay}
 use Rattle.judge.specs.declared.Judged.{Judged}
 use Rattle.judge.specs.declared.Judged.the-variants.{NoDecision, Loss}
 use Rattle.judge.specs.declared.Opinion

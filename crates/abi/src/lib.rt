@@ -16,9 +16,9 @@ use engine::Rolled;
 use engine::Turned;
 use judge::Judged;
 use judge::Opinion;
-use judge::Play;
 use line::Refusal;
 use rollout::Record;
+use table::Play;
 use table::Reading;
 use table::Summary;
 
@@ -58,7 +58,7 @@ fn refusal_code(r: Refusal) -> u64
 }
 
 // An accepted table: its numbers of nodes, T, the lowest and the highest end, K, G and its number of leaves go to `numbers`, and its
-// nodes to the four slices, as `table::read` has them. A refused one: nothing is written.
+// nodes to the four slices, as `reading::read` has them. A refused one: nothing is written.
 #[no_mangle]
 pub extern "C" fn margin_read(
     text: &[u8],
@@ -75,7 +75,7 @@ pub extern "C" fn margin_read(
     ensures weights { λ _. ⌜ now (weight .exit) ≡ fitted (decoded weightsOf (readText (now (text .entry)))) (now (weight .entry)) ⌝ }
     ensures heights { λ _. ⌜ now (height .exit) ≡ fitted (decoded heightsOf (readText (now (text .entry)))) (now (height .entry)) ⌝ }
 {
-    match table::read(text, kind, stop, weight, height) {
+    match reading::read(text, kind, stop, weight, height) {
         Reading::Refused(r) => refusal_code(r),
         Reading::Accepted(t) => {
             put_table(t, numbers);

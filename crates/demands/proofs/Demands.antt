@@ -17,9 +17,9 @@ use Rattle.line.specs.Line.{toNat}
 use Rattle.line.proofs.Checks.{or-left}
 use Rattle.table.specs.Tree.{leaves}
 use Rattle.table.specs.Table.{Table, tree, readText, grain}
+use Rattle.table.specs.Root.{playOf}
+use Rattle.table.specs.declared.Play.the-variants.{Child}
 use Rattle.worth.specs.Worth.{worthOf}
-use Rattle.judge.specs.Judge.{playOf}
-use Rattle.judge.specs.declared.Play.the-variants.{Child}
 use Rattle.turn.specs.Text.{tableText}
 use Rattle.turn.specs.Turn.{turnTable, turnedText}
 use Rattle.turn.proofs.Tree.{tree-turned, turn-twice}
@@ -41,9 +41,9 @@ use Rattle.engine.specs.declared.Rolled
 use Rattle.engine.specs.declared.Rolled.the-variants.{Done}
 use Rattle.engine.specs.declared.Exact.the-variants.{Grains}
 use Rattle.engine.specs.Calls.{exactCall, badMargin, boundsOf, searchReads, rolls, rollAnswer, rollList, rollCall, turnOf}
-use Rattle.demands.specs.Demands.{childWorth, Promised, SameLines, Mirrors, Answers, Sentence1, Sentence2, GivenText, Sentence3, TurnAnswers, TurningTwice, RolloutsEnd, RollAnswers}
 use Rattle.engine.proofs.Answered.{answered, answers, reads}
 use Rattle.engine.proofs.Turning.{turn-fine}
+use Rattle.demands.specs.Demands.{childWorth, Promised, SameLines, Mirrors, Answers, Sentence1, Sentence2, GivenText, Sentence3, TurnAnswers, TurningTwice, RolloutsEnd, RollAnswers}
 use Rattle.demands.proofs.Utilities.{tree-alike, given-same, given-accepted}
 
 -- ---- the bounds and the play

@@ -1,15 +1,16 @@
 -- The starred positions of document 01, all rows by computation. Assumes nothing.
 use mathlib.Core.Path.{refl}
 use Rattle.field.specs.Field.{strip, digits, whole as wholeField, signed, leading}
+use Rattle.numbers.specs.Integers.{maxZ, minZ, floorZ, ceilZ}
 use Rattle.line.specs.Refusal.{unless, unlessAt}
 use Rattle.line.specs.Line.{climb}
 use Rattle.table.specs.Tree.{run, after as afterRun, forest, weigh, nodesWhere, leaves}
 use Rattle.table.specs.Table.{nodeLines, complete, readText, greatest}
-use Rattle.worth.specs.Worth.{maxZ, minZ, floorZ, largest, smallest, weighted, value, shares}
+use Rattle.worth.specs.Worth.{largest, smallest, weighted, value, shares}
 use Rattle.judge.specs.Judge.{levels}
 use Rattle.turn.specs.Text.{linesText}
 use Rattle.search.specs.Search.{begin, finish, cut, point, lower, upper, beats, update, stop, scan, search, searchRoot}
-use Rattle.search.specs.Whole.{ceilZ, downZ, upZ, gainZ, lossZ, inGrains}
+use Rattle.search.specs.Whole.{downZ, upZ, gainZ, lossZ, inGrains}
 use Rattle.rollout.specs.Rollout.{fresh, lows, highs, candidates, over, walk, roll}
 use Rattle.demands.specs.Rows.{rows, AllTell}
 

@@ -11,9 +11,9 @@ use Rattle.line.proofs.Numbers.{number-some}
 use Rattle.table.specs.Table.{Table, readText, answer}
 use Rattle.table.specs.Slices.{laid, fitted, kindsOf, stopsOf, weightsOf, heightsOf, decoded}
 use Rattle.table.proofs.Top.{unchanged}
-use Rattle.rollout.specs.declared.Record.{Record}
 use Rattle.judge.specs.declared.Opinion
 use Rattle.judge.specs.declared.Opinion.{Opinion}
+use Rattle.rollout.specs.declared.Record.{Record}
 use Rattle.engine.specs.declared.Exact.{Exact}
 use Rattle.engine.specs.declared.Exact.the-variants.{Grains, Refused}
 use Rattle.engine.specs.Calls.{exactCall, judgeCall, Sought, sought, searchAnswer, searchList, turnOf, turnAnswer, turnWritten, rolls, rollAnswer, rollList, rollRecords, recorded}

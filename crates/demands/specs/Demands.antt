@@ -14,7 +14,7 @@ use Rattle.line.specs.Refusal.{Verdict, refused, fine}
 use Rattle.line.specs.Line.{Within}
 use Rattle.table.specs.Tree.{leaves}
 use Rattle.table.specs.Table.{Table, tree, readText}
-use Rattle.judge.specs.declared.Play.the-variants.{Child}
+use Rattle.table.specs.declared.Play.the-variants.{Child}
 use Rattle.search.specs.Whole.{playWorth}
 use Rattle.rollout.specs.Leaves.{Distinct}
 use Rattle.rollout.specs.Whole.{hasChance}

@@ -6,8 +6,8 @@ use Prim.Native.Nat.{ℕ}
 use lib.IntN.{ℤ, pos, negsuc}
 use Rattle.table.specs.Table.{readText}
 use Rattle.table.specs.Examples.{table-a, table-b, turned-b, lone-leaf}
-use Rattle.judge.specs.declared.Play.{Play}
-use Rattle.judge.specs.declared.Play.the-variants.{Child, NoPlay}
+use Rattle.table.specs.declared.Play.{Play}
+use Rattle.table.specs.declared.Play.the-variants.{Child, NoPlay}
 use Rattle.judge.specs.declared.Judged.the-variants.{Loss}
 use Rattle.judge.specs.declared.Opinion.{Opinion}
 use Rattle.judge.specs.declared.Opinion.the-variants.{Given}

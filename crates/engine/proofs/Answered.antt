@@ -14,11 +14,11 @@ use Rattle.line.specs.Refusal.{Verdict, refused, fine, lineOf}
 use Rattle.line.specs.Line.{toNat}
 use Rattle.table.specs.Tree.{leaves}
 use Rattle.table.specs.Table.{Table, readText, tree, grain}
+use Rattle.table.specs.Root.{playOf}
+use Rattle.table.specs.declared.Play.{Play}
+use Rattle.table.specs.declared.Play.the-variants.{Child, NoPlay}
 use Rattle.table.proofs.Accepted.{accepted-size, accepted-grain, accepted-leaves, accepted-leaf-lines}
 use Rattle.table.proofs.Places.{refused-line}
-use Rattle.judge.specs.Judge.{playOf}
-use Rattle.judge.specs.declared.Play.{Play}
-use Rattle.judge.specs.declared.Play.the-variants.{Child, NoPlay}
 use Rattle.search.specs.Search.{nodeOf}
 use Rattle.search.specs.Whole.{searched}
 use Rattle.search.proofs.Demand.{reads-few, play-small}

@@ -10,24 +10,25 @@ use lib.IntN.{ℤ, pos, _+ℤ_, _*ℤ_}
 use lib.Signed.{mag}
 use mir.Syntax.{w64}
 use mir.Val.{toZ, ofZ}
+use Rattle.field.proofs.Bits.{mag-abs}
 use Rattle.line.specs.declared.Line.{Line}
 use Rattle.line.specs.declared.Refusal.{Refusal}
 use Rattle.line.specs.Refusal.{Verdict, refused, fine}
-use Rattle.field.proofs.Bits.{mag-abs}
 use Rattle.table.specs.declared.Summary.{Summary}
 use Rattle.table.specs.declared.Reading.{Reading}
 use Rattle.table.specs.declared.Reading.the-variants.{Accepted, Refused}
 use Rattle.table.specs.Tree.{MAX}
 use Rattle.table.specs.Table.{Table, readText, summary, answer, grain}
 use Rattle.table.specs.Slices.{kindsOf, stopsOf, weightsOf, heightsOf, heightOf, laid, fitted, decoded}
-use Rattle.table.specs.Inside.{Decoded}
-use Rattle.table.proofs.Copied.{fitted-all}
+use Rattle.table.proofs.Laid.{fitted-all}
 use Rattle.table.proofs.Complete.{stops-long}
 use Rattle.table.proofs.Accepted.{answer-accepted, answer-refused, accepted-ranged, accepted-size, accepted-grain}
+use Rattle.table.proofs.Ends.{span-grains}
+use Rattle.reading.specs.Inside.{Decoded}
 use Rattle.worth.specs.declared.Scale.{Scale}
 use Rattle.worth.specs.Inside.{beside, Reach, ReadyRun, Worthy}
 use Rattle.worth.specs.Heights.{heightWorth}
-use Rattle.worth.proofs.Worth.{shift, height-within, span-grains}
+use Rattle.worth.proofs.Worth.{shift, height-within}
 use Rattle.worth.proofs.Judged.{accepted-ready, judged-worth}
 use Rattle.judge.specs.declared.Judged.the-variants.{NoDecision, Loss}
 use Rattle.judge.specs.declared.Opinion

@@ -17,12 +17,12 @@ use Rattle.table.specs.declared.Reading.the-variants.{Accepted}
 use Rattle.table.specs.Tree.{leaves}
 use Rattle.table.specs.Table.{Table, readText, tree, summary, answer, grain}
 use Rattle.table.specs.Slices.{kindsOf, stopsOf, heightsOf, fitted, laid, decoded}
+use Rattle.table.specs.Accepted.{span}
 use Rattle.table.proofs.Accepted.{answer-accepted, accepted-size, accepted-leaves}
-use Rattle.worth.proofs.Worth.{span-grains}
+use Rattle.table.proofs.Ends.{span-grains}
 use Rattle.rollout.specs.Lists.{AtEnds}
 use Rattle.rollout.specs.declared.Record.{Record}
 use Rattle.rollout.specs.Rollout.{Pair}
-use Rattle.table.specs.Accepted.{span}
 use Rattle.rollout.specs.Records.{lowsOf, highsOf, risen, recordsOf, filled}
 use Rattle.rollout.specs.Inside.{stored, ReadyRoll, WellRolled}
 use Rattle.rollout.proofs.Given.{Given, accepted-roll-ready, accepted-rolled}

@@ -1,5 +1,5 @@
 -- What the search of an accepted text gives. Assumes nothing.
-use Prim.Native.Nat.{ℕ, _*_, _≤_, _<_}
+use Prim.Native.Nat.{ℕ, _≤_, _<_}
 use mathlib.Core.Path.{_≡_, refl, sym, ap, _∙_}
 use mathlib.Core.Bool.{true, false}
 use mathlib.Core.List.{List}
@@ -16,9 +16,9 @@ use Rattle.table.specs.declared.Summary.{Summary}
 use Rattle.table.specs.Tree.{leaves}
 use Rattle.table.specs.Table.{Table, readText, tree, summary, grain}
 use Rattle.table.specs.Slices.{laid}
+use Rattle.table.specs.Root.{playOf}
 use Rattle.table.proofs.Accepted.{accepted-leaves}
-use Rattle.worth.proofs.Worth.{span-grains}
-use Rattle.judge.specs.Judge.{playOf}
+use Rattle.table.proofs.Ends.{span-grains}
 use Rattle.search.specs.declared.Rule.{Rule}
 use Rattle.search.specs.declared.Found.{Found}
 use Rattle.search.specs.Heights.{heightSearched}

@@ -11,12 +11,13 @@ use Rattle.line.specs.Refusal.{Verdict, refused, fine, unless, next, numberOf, 
 use Rattle.line.specs.Line.{toNat}
 use Rattle.table.specs.Tree.{leaves}
 use Rattle.table.specs.Table.{Table, tree, grain}
+use Rattle.table.specs.Root.{playOf}
 use Rattle.worth.specs.Worth.{worthOf}
 use Rattle.judge.specs.declared.Judged.{Judged}
 use Rattle.judge.specs.declared.Judged.the-variants.{NoDecision, Loss}
 use Rattle.judge.specs.declared.Opinion
 use Rattle.judge.specs.declared.Opinion.{Opinion}
-use Rattle.judge.specs.Judge.{Judgement, noDecision, judged, judge, playOf}
+use Rattle.judge.specs.Judge.{Judgement, noDecision, judged, judge}
 use Rattle.turn.specs.Turn.{turnedText}
 use Rattle.search.specs.Search.{Seen, nodeOf}
 use Rattle.search.specs.Whole.{searched}

@@ -4,17 +4,17 @@ ghost use Prim.Native.Nat.{_≤_};
 ghost use lib.ListN.{length, replicate};
 ghost use lib.IntN.{pos, _+ℤ_, _*ℤ_};
 ghost use lib.Signed.{mag};
-ghost use Rattle.judge.specs.Judge.{playOf};
+ghost use Rattle.table.specs.Root.{playOf};
 ghost use Rattle.table.specs.Table.{readText};
 ghost use Rattle.engine.specs.Calls.{exactCall, judgeCall, badMargin, searchCall, searchReads, rollCall, rollReads, rollStore, recorded, turnCall, turnBytes};
 ghost use Rattle.table.specs.Slices.{laid};
 ghost use Rattle.search.specs.Inside.{playAt};
 ghost use Rattle.engine.specs.Inside.{Spread, scaleFor, ruleFor, Started, RollsTo};
 use judge::Opinion;
-use judge::Play;
 use line::Refusal;
 use rollout::Record;
 use search::Rule;
+use table::Play;
 use table::Reading;
 use table::Summary;
 use worth::Scale;
@@ -87,7 +87,7 @@ pub fn exact_worth(text: &[u8]) -> Exact
     let mut stop = [0u16; 1024];
     let mut weight = [0u8; 1024];
     let mut height = [0u32; 1024];
-    match table::decode(text, &mut kind, &mut stop, &mut weight, &mut height) {
+    match reading::decode(text, &mut kind, &mut stop, &mut weight, &mut height) {
         Reading::Refused(r) => Exact::Refused(r),
         Reading::Accepted(t) => {
             let g = scale_of(t);
@@ -105,7 +105,7 @@ pub fn judge_play(text: &[u8], number: i64) -> Opinion
     let mut stop = [0u16; 1024];
     let mut weight = [0u8; 1024];
     let mut height = [0u32; 1024];
-    match table::decode(text, &mut kind, &mut stop, &mut weight, &mut height) {
+    match reading::decode(text, &mut kind, &mut stop, &mut weight, &mut height) {
         Reading::Refused(r) => Opinion::Refused(r),
         Reading::Accepted(t) => {
             let g = scale_of(t);
@@ -152,7 +152,7 @@ pub fn search_table(text: &[u8], margin: i64, leaves: &mut [u16]) -> Bounded
     let mut stop = [0u16; 1024];
     let mut weight = [0u8; 1024];
     let mut height = [0u32; 1024];
-    match table::decode(text, &mut kind, &mut stop, &mut weight, &mut height) {
+    match reading::decode(text, &mut kind, &mut stop, &mut weight, &mut height) {
         Reading::Refused(r) => Bounded::Refused(r),
         Reading::Accepted(t) => {
             if is_bad_margin(margin) {
@@ -186,7 +186,7 @@ pub fn turn_table(text: &[u8], buffer: &mut [u8]) -> Turned
     let mut stop = [0u16; 1024];
     let mut weight = [0u8; 1024];
     let mut height = [0u32; 1024];
-    match table::decode(text, &mut kind, &mut stop, &mut weight, &mut height) {
+    match reading::decode(text, &mut kind, &mut stop, &mut weight, &mut height) {
         Reading::Refused(r) => Turned::Refused(r),
         Reading::Accepted(t) => {
             if buffer.len() < text.len() {
@@ -226,7 +226,7 @@ fn roll(
     let mut stop = [0u16; 1024];
     let mut weight = [0u8; 1024];
     let mut height = [0u32; 1024];
-    match table::decode(text, &mut kind, &mut stop, &mut weight, &mut height) {
+    match reading::decode(text, &mut kind, &mut stop, &mut weight, &mut height) {
         Reading::Refused(r) => Outcome {
             answer: Rolled::Refused(r),
             nodes: 0,

@@ -9,12 +9,12 @@ use native.Mathlib.Omega.{arith}
 use lib.Dec.{T as Holds, eqb, ltb, lit<, nltb→le}
 use lib.ListN.{length, take, drop, length-take}
 use lib.IntN.{ℤ, pos, natAbs}
-use Rattle.field.proofs.Bits.{abs-neg}
 use Rattle.field.specs.Field.{strip, digits, whole, plain, minus, signed, fieldOf}
 use Rattle.field.specs.declared.Whole.{Whole}
 use Rattle.field.specs.declared.Whole.the-variants.{Digits, Wrong}
 use Rattle.field.specs.declared.Field.{Field}
 use Rattle.field.specs.declared.Field.the-variants.{Blank, Ill, Number}
+use Rattle.field.proofs.Bits.{abs-neg}
 
 -- by cases on a test
 pub choose : {A : Type 0} {x y : A} (P : A → Type 0) (b : Bool) → (Holds b → P x) → (Holds (not b) → P y) → P (cond b x y)

@@ -9,8 +9,9 @@ use Rattle.line.proofs.Signs.{true-ne-false}
 use Rattle.table.specs.Table.{Table, readText}
 use Rattle.table.specs.Slices.{heightTree}
 use Rattle.table.proofs.Accepted.{heights-rooted, heights-filled}
+use Rattle.table.proofs.Ends.{rooted-some}
 use Rattle.worth.specs.Inside.{beside, Reach}
-use Rattle.worth.proofs.Worth.{rooted-some, heights-small}
+use Rattle.worth.proofs.Worth.{heights-small}
 use Rattle.worth.proofs.Text.{accepted-lays}
 use Rattle.worth.proofs.Judged.{scaleOf, lentOf, accepted-ready}
 use Rattle.judge.specs.declared.Opinion.{Opinion}

@@ -10,11 +10,11 @@ use borrow.Author.Tests.{lt-ltb}
 use lib.ListN.{getElem?}
 use Rattle.table.specs.Tree.{Kind, MAX, MIN, CHANCE, Forest, end, leaf, inner}
 use Rattle.table.specs.Accepted.{Filled}
+use Rattle.table.specs.Root.{Side, AtM, AtN, undecided, decided, sideOf, rootOf, children}
 use Rattle.worth.specs.Worth.{Share}
 use Rattle.worth.specs.Heights.{tallest, shortest, heightValue, heightShares, firstHeight}
 use Rattle.worth.proofs.Bounds.{Each}
 use Rattle.worth.proofs.Shift.{Some, some-shares}
-use Rattle.judge.specs.Judge.{Side, AtM, AtN, undecided, decided, sideOf, rootOf, children}
 use Rattle.judge.specs.Heights.{heightLoss, heightLevels, Ahead}
 
 -- a root is decided or not

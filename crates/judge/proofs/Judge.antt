@@ -18,6 +18,7 @@ use Rattle.table.specs.Tree.{Forest, end, leaf, inner, isChance}
 use Rattle.table.specs.Table.{Table, tree, readText, greatest, grain}
 use Rattle.table.specs.Slices.{heightTree}
 use Rattle.table.specs.Accepted.{one, Filled, Balanced, Proper}
+use Rattle.table.specs.Root.{Side, Root, undecided, decided, rootOf, children, nodes, numbered}
 use Rattle.table.proofs.Heights.{above, mapForest, heights-map}
 use Rattle.table.proofs.Accepted.{accepted-ranged, accepted-proper, accepted-filled, accepted-balanced, heights-filled}
 use Rattle.worth.specs.Worth.{Share, shares, worthOf}
@@ -25,7 +26,7 @@ use Rattle.worth.specs.Heights.{heightShares, heightWorth, raised}
 use Rattle.worth.proofs.Bounds.{Each}
 use Rattle.worth.proofs.Shift.{shares-shift}
 use Rattle.worth.proofs.Worth.{shift}
-use Rattle.judge.specs.Judge.{Side, Root, undecided, decided, rootOf, children, nodes, numbered, childWorths, lossAt, levels, noDecision, judged, judgeChild, judgeAt, judge}
+use Rattle.judge.specs.Judge.{childWorths, lossAt, levels, noDecision, judged, judgeChild, judgeAt, judge}
 use Rattle.judge.specs.Heights.{heightWorths, heightLoss, heightLevels, heightJudgeChild, heightJudgeAt, heightJudge, Ahead}
 use Rattle.judge.proofs.Best.{Met, none-lost, met-level, best-ahead, best-met}
 use Rattle.judge.proofs.Shift.{mapped, numbered-map, numbered-each, loss-shift, levels-shift, judge-shift}

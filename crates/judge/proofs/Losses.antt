@@ -4,7 +4,7 @@ use mathlib.Core.Path.{_≡_, sym, ap, subst, _∙_}
 use mathlib.Core.Bool.{Bool, true, false, cond}
 use native.Mathlib.Omega.{arith}
 use borrow.Author.Tests.{lt-ltb, le-ltb}
-use Rattle.judge.specs.Judge.{Side}
+use Rattle.table.specs.Root.{Side}
 use Rattle.judge.specs.Heights.{heightLoss, Ahead}
 use Rattle.judge.specs.Inside.{sideIf, better, levelOne}
 

@@ -10,12 +10,12 @@ use Rattle.table.specs.Tree.{Forest, end, leaf, inner}
 use Rattle.table.specs.Table.{Table, readText}
 use Rattle.table.specs.Accepted.{Rooted}
 use Rattle.table.specs.Slices.{Slices, Spans, stopsOf, slicesOf, fitted, heightTree}
+use Rattle.table.specs.declared.Play.{Play}
+use Rattle.table.specs.Root.{children, nodes, numbered, childNode, playOf}
 use Rattle.table.proofs.Accepted.{accepted-spans, heights-rooted}
 use Rattle.table.proofs.Spans.{spans-le}
 use Rattle.table.proofs.Complete.{stops-long}
-use Rattle.table.proofs.Copied.{fitted-at, fitted-long}
-use Rattle.judge.specs.declared.Play.{Play}
-use Rattle.judge.specs.Judge.{children, nodes, numbered, childNode, playOf}
+use Rattle.table.proofs.Laid.{fitted-at, fitted-long}
 use Rattle.judge.specs.Inside.{Chained, Chain, Played}
 use Rattle.judge.proofs.Judge.{nodes-heights}
 use Rattle.judge.proofs.Walk.{chained-le}

@@ -13,14 +13,15 @@ use Rattle.line.specs.Line.{letterCode, toNat}
 use Rattle.table.specs.Tree.{MAX, MIN, CHANCE, Forest, end, leaf, inner}
 use Rattle.table.specs.Accepted.{Filled, Rooted}
 use Rattle.table.specs.Slices.{laid}
+use Rattle.table.specs.declared.Play.{Play}
+use Rattle.table.specs.declared.Play.the-variants.{Child, NoPlay}
+use Rattle.table.specs.Root.{Side, AtM, AtN, Root, undecided, decided, rootOf, children, numbered, playOf}
 use Rattle.worth.specs.declared.Scale.{Scale}
 use Rattle.worth.specs.Worth.{Share}
 use Rattle.worth.specs.Heights.{heightValue, heightShares, firstHeight, SmallWorths}
 use Rattle.worth.specs.Inside.{kindIn, Beside, Lays}
 use Rattle.worth.proofs.Run.{lays-le}
-use Rattle.judge.specs.declared.Play.{Play}
-use Rattle.judge.specs.declared.Play.the-variants.{Child, NoPlay}
-use Rattle.judge.specs.Judge.{Side, AtM, AtN, Root, undecided, decided, rootOf, children, numbered, noDecision, judged, playOf}
+use Rattle.judge.specs.Judge.{noDecision, judged}
 use Rattle.judge.specs.Heights.{heightLoss, heightLevels, heightJudgeChild, heightJudgeAt, Ahead}
 use Rattle.judge.specs.Inside.{Chained, Chain, heightsIn, Here, Room, Under, Listed, bestIn, AllAhead, levelsIn, forestJudge, Decided}
 use Rattle.judge.proofs.Best.{no-decision, best-ahead}

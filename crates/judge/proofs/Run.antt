@@ -10,7 +10,7 @@ use Rattle.line.proofs.Signs.{true-ne-false}
 use Rattle.table.specs.Tree.{MAX, Forest, end, leaf, inner, isEnd}
 use Rattle.table.specs.Accepted.{Filled}
 use Rattle.table.specs.Slices.{laid}
-use Rattle.table.proofs.Gather.{laid-more}
+use Rattle.table.proofs.Laid.{laid-more}
 use Rattle.worth.specs.declared.Scale.{Scale}
 use Rattle.worth.specs.Worth.{Share}
 use Rattle.worth.specs.Heights.{tallest, heightValue, heightShares, SmallWorths}

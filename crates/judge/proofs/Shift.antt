@@ -8,12 +8,13 @@ use native.Mathlib.Omega.{arith}
 use lib.ListN.{getElem?}
 use lib.IntN.{ℤ, pos, negsuc, _+ℤ_, _-ℤ_}
 use lib.Signed.{ltZ}
+use Rattle.numbers.proofs.Signs.{plus, minus, parts, is-unique, is-minus}
+use Rattle.numbers.proofs.Above.{lift}
+use Rattle.table.specs.Root.{Side, AtM, AtN, Root, undecided, decided, numbered}
 use Rattle.worth.specs.Worth.{Share}
 use Rattle.worth.specs.Heights.{raised}
-use Rattle.worth.proofs.Signs.{plus, minus, parts, is-unique, is-minus}
 use Rattle.worth.proofs.Bounds.{Each}
-use Rattle.worth.proofs.Shift.{lift}
-use Rattle.judge.specs.Judge.{Side, AtM, AtN, Root, undecided, decided, numbered, lossAt, levels, judgeChild, judgeAt}
+use Rattle.judge.specs.Judge.{lossAt, levels, judgeChild, judgeAt}
 use Rattle.judge.specs.Heights.{heightLoss, heightLevels, heightJudgeChild, heightJudgeAt, Ahead}
 
 -- ---- entries by number

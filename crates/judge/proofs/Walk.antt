@@ -7,7 +7,7 @@ use native.Mathlib.Omega.{arith}
 use lib.ListN.{getD, getElem?}
 use lib.IntN.{ℤ, pos, negsuc}
 use Rattle.line.specs.Line.{toNat}
-use Rattle.judge.specs.Judge.{numbered}
+use Rattle.table.specs.Root.{numbered}
 use Rattle.judge.specs.Inside.{Chained, Chain}
 
 module _ {A : Type 0} where

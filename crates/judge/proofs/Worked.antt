@@ -4,13 +4,14 @@ use mathlib.Core.Path.{_≡_, refl}
 use mathlib.Core.List.{List, [], _∷_, _++_, map}
 use lib.IntN.{ℤ, pos, negsuc}
 use Rattle.field.specs.Field.{strip, digits, whole, signed}
+use Rattle.numbers.specs.Integers.{maxZ, minZ, floorZ}
 use Rattle.line.specs.declared.Refusal.the-variants.{NoChild}
 use Rattle.line.specs.Refusal.{Verdict, refused, fine, unless, unlessAt, next}
 use Rattle.line.specs.Line.{climb}
 use Rattle.table.specs.Tree.{run, after, forest, weigh, nodesWhere}
 use Rattle.table.specs.Examples.{max-root, b-head, chance, b3, b4, table-b, turned-b, lone-leaf}
 use Rattle.table.specs.Table.{Table, nodeLines, complete, readText, greatest}
-use Rattle.worth.specs.Worth.{maxZ, minZ, floorZ, largest, smallest, weighted, value, shares}
+use Rattle.worth.specs.Worth.{largest, smallest, weighted, value, shares}
 use Rattle.judge.specs.Judge.{levels, Judgement, noDecision, judged, judge}
 
 -- the judgements of the root children of these numbers

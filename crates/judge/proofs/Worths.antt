@@ -8,15 +8,15 @@ use lib.ListN.{length, getD, getElem?, take, drop}
 use lib.Seq.{length-take-le, getD-take, drop-cons, drop-length}
 use lib.Dec.{ltb}
 use lib.IntN.{ℤ, pos, negsuc}
-use Rattle.line.specs.Line.{toNat}
 use Rattle.field.proofs.Small.{one-or-none}
+use Rattle.line.specs.Line.{toNat}
 use Rattle.table.specs.Tree.{Forest, end, leaf, inner}
 use Rattle.table.specs.Accepted.{Filled}
+use Rattle.table.specs.Root.{Side, AtM, AtN, decided, rootOf, children, numbered}
 use Rattle.worth.specs.Worth.{Share}
 use Rattle.worth.specs.Heights.{tallest, shortest, heightValue, heightShares, firstHeight}
 use Rattle.worth.proofs.Bounds.{Each}
 use Rattle.worth.proofs.Shift.{Some, some-shares}
-use Rattle.judge.specs.Judge.{Side, AtM, AtN, decided, rootOf, children, numbered}
 use Rattle.judge.specs.Heights.{heightLoss, heightLevels, Ahead}
 use Rattle.judge.specs.Inside.{heightsIn, better, bestFrom, bestIn, AllAhead, levelOne, levelsIn}
 use Rattle.judge.proofs.Best.{no-decision, kindAt, kind-side}

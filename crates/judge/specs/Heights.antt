@@ -10,9 +10,10 @@ use Rattle.line.specs.Refusal.{Verdict, refused, fine}
 use Rattle.table.specs.Tree.{Forest, end, leaf, inner}
 use Rattle.table.specs.Table.{Table, grain}
 use Rattle.table.specs.Slices.{heightTree}
+use Rattle.table.specs.Root.{Side, AtM, AtN, Root, undecided, decided, rootOf, children, numbered}
 use Rattle.worth.specs.Worth.{Share}
 use Rattle.worth.specs.Heights.{heightShares, heightWorth}
-use Rattle.judge.specs.Judge.{Side, AtM, AtN, Root, undecided, decided, rootOf, children, numbered, Judgement, noDecision, judged}
+use Rattle.judge.specs.Judge.{Judgement, noDecision, judged}
 
 -- the root's children with their worths
 abbrev pub heightWorths : Table → List (Share ℕ)

@@ -10,16 +10,17 @@ use Rattle.line.specs.Refusal.{Verdict, refused, fine}
 use Rattle.table.specs.Tree.{MAX, Forest}
 use Rattle.table.specs.Accepted.{Filled, Rooted}
 use Rattle.table.specs.Slices.{laid}
+use Rattle.table.specs.declared.Play.{Play}
+use Rattle.table.specs.Root.{Side, AtM, AtN, decided, rootOf, children, numbered, playOf}
 use Rattle.worth.specs.declared.Scale.{Scale}
 use Rattle.worth.specs.Worth.{Share}
 use Rattle.worth.specs.Heights.{heightShares, firstHeight, SmallWorths}
 use Rattle.worth.specs.Inside.{Beside, Reach, Lays, OkScale, ReadyRun}
-use Rattle.judge.specs.declared.Play.{Play}
 use Rattle.judge.specs.declared.Judged.{Judged}
 use Rattle.judge.specs.declared.Judged.the-variants.{NoDecision, Loss}
 use Rattle.judge.specs.declared.Opinion.{Opinion}
 use Rattle.judge.specs.declared.Opinion.the-variants.{Given, Refused}
-use Rattle.judge.specs.Judge.{Side, AtM, AtN, decided, rootOf, children, numbered, Judgement, noDecision, judged, playOf}
+use Rattle.judge.specs.Judge.{Judgement, noDecision, judged}
 use Rattle.judge.specs.Heights.{heightLoss, heightJudgeAt, Ahead}
 
 abbrev pub sideIf : Bool → Side

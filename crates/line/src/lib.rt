@@ -5,8 +5,7 @@ ghost use mathlib.Core.List.{List};
 ghost use Prim.Native.Nat.{ℕ, _+_, _<_, _≤_};
 ghost use lib.ListN.{length};
 ghost use Rattle.line.specs.Refusal.{numberOf, lineOf};
-ghost use Rattle.line.specs.Line.{isIll, isBlank, hasNumber, outside, valueOf, toNat, headingOf, illHeading, wideHeading, entryOf, letterCode, climb, ancestors, chancesOf, atChance, lineSaid, placeOf, illEntry, misfilled, wideEntry, nodeLine};
-ghost use Rattle.line.specs.Line.{header as headerOf};
+ghost use Rattle.line.specs.Line.{isIll, isBlank, hasNumber, outside, valueOf, toNat, headingOf, illHeading, wideHeading, entryOf, letterCode, climb, ancestors, chancesOf, atChance, lineSaid, placeOf, illEntry, misfilled, wideEntry, nodeLine, header as headerOf};
 ghost use Rattle.line.specs.Inside.{headShown, pathOf, aboveShown, placingShown, placingOf, Upto, Roomy, Bounded};
 use field::Field;
 

@@ -20,11 +20,11 @@ use Rattle.line.proofs.Signs.{true-ne-false}
 use Rattle.table.specs.Tree.{Forest, end, leaf, inner}
 use Rattle.table.specs.Table.{Table, prefix, nodeLines, tree, count, readText, grain}
 use Rattle.table.specs.Accepted.{flat, one, Rooted}
+use Rattle.table.specs.Root.{children, nodes, numbered}
 use Rattle.table.proofs.Grown.{next-fine, prefix-fine}
 use Rattle.table.proofs.Runs.{size, Numbered, flat-length}
 use Rattle.table.proofs.Known.{read-numbered}
 use Rattle.table.proofs.Accepted.{checked, accepted-size, accepted-flat, accepted-rooted}
-use Rattle.judge.specs.Judge.{children, nodes, numbered}
 use Rattle.worth.specs.Worth.{shares, value}
 use Rattle.search.specs.Whole.{worthAt, playWorth}
 use Rattle.printing.specs.Program.{place}

@@ -5,8 +5,8 @@ use mathlib.Core.List.{List, [], _∷_, _++_}
 use native.Mathlib.Omega.{arith}
 use lib.ListN.{length, take, drop, length-take}
 use lib.Seq.{sets, sets-eq, take-nil, drop-nil, take-append-le}
-use Rattle.table.specs.Slices.{laid, fitted}
 use Rattle.field.proofs.Reading.{from-on}
+use Rattle.table.specs.Slices.{laid, fitted}
 
 -- as many as there are
 take-least : (xs : List ℕ) (n : ℕ) → take (min (length xs) n) xs ≡ take n xs

@@ -1,5 +1,5 @@
 -- What the search's answer tells of its table: the numbers fit their columns, and the play has its line. Assumes nothing.
-use Prim.Native.Nat.{ℕ, _+_, _^_, _≤_, _<_}
+use Prim.Native.Nat.{ℕ, _^_, _≤_, _<_}
 use mathlib.Core.Path.{_≡_, refl, sym, ap, ap₂, subst, _∙_}
 use mathlib.Core.Bool.{Bool, true, false, cond}
 use mathlib.Core.List.{List, [], _∷_, _++_, map}
@@ -10,20 +10,19 @@ use lib.Dec.{ltb}
 use lib.ListN.{length, take, drop}
 use lib.Seq.{take-append-seam}
 use lib.IntN.{ℤ, pos, natAbs, _+ℤ_, _*ℤ_}
+use Rattle.field.proofs.Bits.{mag-abs, abs-mag}
 use Rattle.line.specs.declared.Refusal.{Refusal}
 use Rattle.line.specs.declared.Refusal.the-variants.{NoRoom, BadMargin}
 use Rattle.line.specs.Refusal.{Verdict, refused, fine, unless, lineOf}
 use Rattle.line.specs.Line.{toNat}
 use Rattle.line.proofs.Fine.{unless-fine}
-use Rattle.field.proofs.Bits.{mag-abs, abs-mag}
 use Rattle.table.specs.Tree.{leaves}
 use Rattle.table.specs.Table.{Table, readText, tree, grain}
 use Rattle.table.specs.Slices.{laid}
+use Rattle.table.specs.Root.{children, nodes, numbered, playOf}
 use Rattle.table.proofs.Places.{refused-line}
 use Rattle.table.proofs.Accepted.{accepted-ranged, accepted-size, accepted-grain, accepted-leaves, accepted-leaf-lines}
-use Rattle.worth.proofs.Worth.{span-grains}
-use Rattle.judge.specs.Judge.{children, nodes, numbered}
-use Rattle.judge.specs.Judge.{playOf}
+use Rattle.table.proofs.Ends.{span-grains}
 use Rattle.search.specs.Search.{Seen, nodeOf}
 use Rattle.search.specs.Whole.{searched}
 use Rattle.search.proofs.Demand.{heights-hold, heights-order, shifted, play-near, play-small, reads-few}

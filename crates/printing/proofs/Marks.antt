@@ -7,8 +7,8 @@ use native.Mathlib.Numerals.{add-one}
 use lib.Dec.{eqb}
 use lib.ListN.{length, take, drop, length-drop}
 use lib.Seq.{length-take-le}
-use Rattle.field.proofs.Small.{one-or-none}
 use Rattle.field.specs.Field.{fieldOf}
+use Rattle.field.proofs.Small.{one-or-none}
 use Rattle.field.proofs.Reading.{part-of}
 use Rattle.line.specs.Line.{countOf}
 use Rattle.printing.specs.Inside.{childMark, childMarks}

@@ -4,15 +4,15 @@ use mathlib.Core.Path.{_≡_, refl}
 use mathlib.Core.List.{List, [], _∷_, _++_}
 use lib.ListN.{take, drop}
 use Rattle.field.specs.Field.{strip, digits, whole as wholeField, signed, leading}
+use Rattle.numbers.specs.Integers.{maxZ, minZ, floorZ, ceilZ}
 use Rattle.line.specs.Refusal.{unless, unlessAt}
 use Rattle.line.specs.Line.{climb}
 use Rattle.table.specs.Tree.{run, after as afterRun, forest, weigh, nodesWhere, leaves}
 use Rattle.table.specs.Examples.{table-b}
 use Rattle.table.specs.Table.{nodeLines, complete, readText, greatest}
-use Rattle.worth.specs.Worth.{maxZ, minZ, floorZ}
-use Rattle.judge.specs.Judge.{nodes}
+use Rattle.table.specs.Root.{nodes}
 use Rattle.search.specs.Search.{begin, finish, cut, point, lower, upper, beats, update, stop, scan, search, searchRoot}
-use Rattle.search.specs.Whole.{ceilZ, downZ, upZ, gainZ, lossZ, inGrains}
+use Rattle.search.specs.Whole.{downZ, upZ, gainZ, lossZ, inGrains}
 use Rattle.printing.specs.Program.{printed, place, outputOf}
 
 -- "            12"

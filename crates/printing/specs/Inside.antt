@@ -9,8 +9,8 @@ use Rattle.field.specs.Field.{fieldOf}
 use Rattle.line.specs.declared.Refusal.{Refusal}
 use Rattle.line.specs.Refusal.{numberOf, lineOf}
 use Rattle.line.specs.Line.{countOf}
-use Rattle.judge.specs.declared.Play.{Play}
-use Rattle.judge.specs.declared.Play.the-variants.{Child, NoPlay}
+use Rattle.table.specs.declared.Play.{Play}
+use Rattle.table.specs.declared.Play.the-variants.{Child, NoPlay}
 use Rattle.engine.specs.declared.Bounds.{Bounds}
 use Rattle.printing.specs.Program.{WordLine, Low, High, Grain, Play as PlayWord, Leaves, Refuse, Line}
 

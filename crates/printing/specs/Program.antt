@@ -11,7 +11,7 @@ use Rattle.field.specs.declared.Field.the-variants.{Blank, Ill, Number}
 use Rattle.field.specs.Field.{fieldOf, textOf, justified}
 use Rattle.line.specs.Refusal.{Verdict, refused, fine, numberOf, lineOf}
 use Rattle.table.specs.Table.{tree, readText, grain}
-use Rattle.judge.specs.Judge.{children, nodes}
+use Rattle.table.specs.Root.{children, nodes}
 use Rattle.search.specs.Search.{nodeOf}
 use Rattle.engine.specs.Calls.{Sought, sought}
 

@@ -15,8 +15,8 @@ ghost use Rattle.printing.specs.Inside.{childMark, childMarks, Lined, pl
 use engine::Bounded;
 use engine::Bounds;
 use field::Field;
-use judge::Play;
 use line::Refusal;
+use table::Play;
 
 // ---- the input
 

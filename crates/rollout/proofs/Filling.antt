@@ -11,9 +11,9 @@ use mir.Val.{SFits, toZ, ofZ}
 use mir.ValLaws.{toZ-ofZ}
 use lib.Signed.{mag}
 use lib.ListN.{length, getD, set, length-map}
+use lib.IntN.{ℤ, pos, _+ℤ_}
 use Rattle.line.proofs.Signs.{mag-add}
 use Rattle.rollout.specs.declared.Record.{Record}
-use lib.IntN.{ℤ, pos, _+ℤ_}
 use Rattle.rollout.specs.Records.{risen, recordsOf, filled}
 
 pub filled-none : (ls hs : List ℤ) (st : List Record) → st ≡ filled 0 ls hs st

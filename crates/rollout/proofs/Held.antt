@@ -5,6 +5,7 @@ use mathlib.Core.Bool.{Bool}
 use mathlib.Core.List.{List, [], _∷_, _++_, map}
 use borrow.Author.Tests.{le-leb}
 use lib.IntN.{ℤ, pos, _+ℤ_, _*ℤ_}
+use Rattle.numbers.proofs.Above.{leaf-shift}
 use Rattle.line.specs.declared.Head.{Head}
 use Rattle.line.specs.Line.{Within}
 use Rattle.table.specs.Tree.{Kind, Forest, end, leaf, inner, isChance}
@@ -12,7 +13,7 @@ use Rattle.table.specs.Accepted.{one, Filled, Balanced, Proper}
 use Rattle.table.proofs.Heights.{above as height, height-back, mapForest, map-proper}
 use Rattle.worth.specs.Worth.{value, shares, firstWorth}
 use Rattle.worth.specs.Heights.{heightValue, heightShares}
-use Rattle.worth.proofs.Shift.{leaf-shift, shares-shift}
+use Rattle.worth.proofs.Shift.{shares-shift}
 use Rattle.search.specs.Heights.{grained}
 use Rattle.rollout.specs.Rollout.{Kept, none, tip, knot, Pair, fresh, records, over}
 use Rattle.rollout.specs.Heights.{natural}

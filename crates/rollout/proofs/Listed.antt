@@ -1,5 +1,5 @@
 -- Rollouts of an accepted table over two lists by node number, walk by walk: what the code's loop keeps. Assumes nothing.
-use Prim.Native.Nat.{ℕ, zero, suc, _+_, _*_, _-_, min, max, _≤_, _<_}
+use Prim.Native.Nat.{ℕ, zero, suc, _*_, _-_, min, max, _≤_, _<_}
 use mathlib.Core.Path.{_≡_, refl, sym, ap, ap₂, _∙_, subst, subst₂}
 use mathlib.Core.Bool.{true, false}
 use mathlib.Core.List.{List, [], _∷_, _++_, map, append-nil, append-assoc}
@@ -13,7 +13,7 @@ use Rattle.table.specs.Slices.{heightTree}
 use Rattle.table.specs.Accepted.{span}
 use Rattle.table.proofs.Runs.{Numbered}
 use Rattle.table.proofs.Accepted.{accepted-leaves, heights-leaves, heights-proper, heights-rooted}
-use Rattle.worth.proofs.Worth.{rooted-some}
+use Rattle.table.proofs.Ends.{rooted-some}
 use Rattle.search.specs.Heights.{grained}
 use Rattle.rollout.specs.Rollout.{Kept, records, lows, firstOr, candidate, walk, roll}
 use Rattle.rollout.specs.Whole.{rolled, rolledWorth, rolledStore}

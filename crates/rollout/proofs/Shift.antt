@@ -9,6 +9,8 @@ use borrow.Author.Tests.{le-leb, lt-leb}
 use lib.Dec.{ltb, leb}
 use lib.IntN.{ℤ, pos, _+ℤ_, _*ℤ_, +ℤ-idr}
 use lib.Signed.{ltZ, leZ}
+use Rattle.numbers.proofs.Signs.{plus, minus, parts, is-le}
+use Rattle.numbers.proofs.Above.{lift, leaf-shift, max-shift, min-shift}
 use Rattle.line.specs.declared.Head.{Head}
 use Rattle.line.specs.Line.{Within}
 use Rattle.line.specs.Refusal.{fine}
@@ -18,8 +20,6 @@ use Rattle.table.specs.Slices.{heightTree}
 use Rattle.table.specs.Accepted.{span, Proper}
 use Rattle.table.proofs.Heights.{above as height, height-back, mapForest, heights-map}
 use Rattle.table.proofs.Accepted.{accepted-ranged, accepted-proper}
-use Rattle.worth.proofs.Signs.{plus, minus, parts, is-le}
-use Rattle.worth.proofs.Shift.{lift, leaf-shift, max-shift, min-shift}
 use Rattle.search.specs.Whole.{inGrains}
 use Rattle.search.specs.Heights.{grained}
 use Rattle.search.proofs.Shift.{less-natural, less-whole}

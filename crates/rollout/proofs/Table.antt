@@ -15,15 +15,15 @@ use Rattle.table.specs.Slices.{heightTree, slicesOf}
 use Rattle.table.specs.Accepted.{span, Proper}
 use Rattle.table.proofs.Heights.{above as height, heights-map}
 use Rattle.table.proofs.Accepted.{heights-rooted, heights-proper, heights-filled, accepted-spans}
+use Rattle.table.proofs.Runs.{size, Numbered}
+use Rattle.table.proofs.Ends.{rooted-some}
 use Rattle.worth.specs.Worth.{Share}
 use Rattle.worth.specs.Heights.{heightShares, firstHeight, heightWorth}
-use Rattle.worth.proofs.Worth.{rooted-some}
 use Rattle.search.specs.Heights.{grained}
 use Rattle.rollout.specs.Rollout.{Kept, fresh, firstOr, roll}
 use Rattle.rollout.specs.Whole.{hasChance}
 use Rattle.rollout.specs.Heights.{natural, heightRolled}
 use Rattle.rollout.specs.Leaves.{leafNodes, Picks, nothing, this, Distinct}
-use Rattle.table.proofs.Runs.{size, Numbered}
 use Rattle.rollout.specs.Sound.{SomeNode, Sound}
 use Rattle.rollout.proofs.Rolls.{exacts, unread, Rolls, rootLow, rootHigh, roll-rolls, roll-ends, rolls-picks}
 use Rattle.rollout.proofs.Fresh.{fresh-some, fresh-sound, fresh-exacts, grained-nodes, map-nodes, nodes-length, all-unread, none-unread}

@@ -4,12 +4,12 @@ use mathlib.Core.Path.{_≡_, refl}
 use mathlib.Core.List.{List, [], _∷_}
 use lib.IntN.{ℤ, pos}
 use Rattle.field.specs.Field.{strip, digits, whole, signed}
+use Rattle.numbers.specs.Integers.{maxZ, minZ}
 use Rattle.line.specs.Refusal.{Verdict, fine, unless, unlessAt, next}
 use Rattle.line.specs.Line.{climb}
 use Rattle.table.specs.Tree.{run, after, forest, weigh, nodesWhere, leaves}
 use Rattle.table.specs.Examples.{table-a}
 use Rattle.table.specs.Table.{Table, nodeLines, complete, readText, greatest}
-use Rattle.worth.specs.Worth.{maxZ, minZ}
 use Rattle.search.specs.Whole.{inGrains}
 use Rattle.rollout.specs.Rollout.{fresh, lows, highs, over, candidates, walk, roll}
 use Rattle.rollout.specs.Whole.{rolled, rolledWorth}

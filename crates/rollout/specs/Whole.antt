@@ -5,8 +5,8 @@ use mathlib.Core.List.{List}
 use lib.Dec.{eqb}
 use lib.IntN.{ℤ, pos, _*ℤ_}
 use lib.Signed.{ltZ}
+use Rattle.numbers.specs.Integers.{maxZ, minZ}
 use Rattle.table.specs.Table.{Table, tree, grain, greatest}
-use Rattle.worth.specs.Worth.{maxZ, minZ}
 use Rattle.search.specs.Whole.{inGrains}
 use Rattle.rollout.specs.Rollout.{Order, Pair, Rolled, lows, firstOr, records, rollouts}
 

@@ -8,11 +8,11 @@ ghost use Rattle.rollout.specs.Rollout.{spend, joined, candidate};
 ghost use Rattle.rollout.specs.Heights.{natural};
 ghost use Rattle.rollout.specs.Records.{SmallHeights, risen, filled};
 ghost use Rattle.rollout.specs.Inside.{stored, Children, Counted, Choice, Named, Chosen, Extreme, Updated, ReadyDown, WentDown, Climb, Climbed, ReadyWalk, Walked, ReadyRoll, WellRolled};
+use numbers::index;
+use numbers::max_of;
 use search::kind_at;
 use search::min_of;
 use search::wide32;
-use table::index;
-use table::max_of;
 
 // Where a walk ends: the leaf, how many inner nodes lead to it, and how many policy bytes are used.
 struct Step {

@@ -9,13 +9,13 @@ use borrow.Author.Tests.{ltb-true, ltb-false, ne-eqb}
 use lib.Dec.{ltb}
 use Rattle.table.specs.Tree.{Kind, MAX, MIN, CHANCE, Forest, end, leaf, inner, isEnd, weigh}
 use Rattle.table.specs.Slices.{Slices, Spans}
+use Rattle.table.proofs.Spans.{spans-le}
 use Rattle.search.specs.declared.Rule.{Rule}
 use Rattle.search.specs.declared.State.{State}
 use Rattle.search.specs.Search as alg
 use Rattle.search.specs.Search.{Play, noPlay, child, Seen, scan, update, prefer, beats, begin, cut, finish, point, lower, upper, stop, nodeOf}
 use Rattle.search.specs.Heights.{natural, grained, frameOf, heightRules}
 use Rattle.search.specs.Inside.{Answer, start, alphaFor, betaFor, preferred, after, stops, cutLow, cutHigh, join, over, Fit, OkRule, OkBounds, OkKind, playAt}
-use Rattle.table.proofs.Spans.{spans-le}
 use Rattle.search.proofs.Steps.{seenUnder, seenAfter}
 use Rattle.search.proofs.Forest.{stopOf, Within, alpha-ok, beta-ok, start-ok, start-kind, after-ok, after-kind, over-within}
 

@@ -7,12 +7,12 @@ use lib.ListN.{length, set}
 use Rattle.table.specs.Tree.{MAX, Forest, end, leaf, inner, weigh, leaves}
 use Rattle.table.specs.Slices.{Slices, Spans, laid}
 use Rattle.table.specs.Accepted.{Rooted}
+use Rattle.table.proofs.Spans.{spans-le}
 use Rattle.search.specs.declared.Rule.{Rule}
 use Rattle.search.specs.declared.Found.{Found}
 use Rattle.search.specs.Search.{Seen, noPlay, searchRoot, search, point}
 use Rattle.search.specs.Heights.{natural, grained, heightRules}
 use Rattle.search.specs.Inside.{Answer, start, first, putFrom, Gives, Fit, OkRule, ReadyRoot, Shows, Searched, playAt}
-use Rattle.table.proofs.Spans.{spans-le}
 use Rattle.search.proofs.Forest.{stopOf, leaves-split, start-ok, start-kind, first-few}
 use Rattle.search.proofs.Rules.{ReadyNode, NodeSearched}
 use Rattle.search.proofs.Bridge.{Agrees, begin-lift, plays-start, bridge}

@@ -13,11 +13,12 @@ use Rattle.line.specs.Line.{Within}
 use Rattle.table.specs.Tree.{Kind, Forest, end, leaf, inner, isChance, leaves}
 use Rattle.table.specs.Slices.{Slices, Spans}
 use Rattle.table.specs.Accepted.{one, Filled, Balanced, Proper}
+use Rattle.table.specs.Root.{children, rootOf}
 use Rattle.table.proofs.Heights.{above, mapForest, map-end, map-filled}
 use Rattle.table.proofs.Spans.{spans-le}
+use Rattle.table.proofs.Ends.{utility-shift}
 use Rattle.worth.specs.Heights.{SmallWorths}
-use Rattle.worth.proofs.Shift.{utility-shift, node-shift, shares-shift}
-use Rattle.judge.specs.Judge.{children, rootOf}
+use Rattle.worth.proofs.Shift.{node-shift, shares-shift}
 use Rattle.search.specs.Search.{Frame}
 use Rattle.search.specs.Whole.{inGrains, worthAt}
 use Rattle.search.specs.Heights.{grained}
@@ -82,7 +83,7 @@ module _ (T G K S : ℕ) (h : Head) (positive : 0 < T) where
   pub grains-shift : (d c : ℕ) (u : Bool) (f : Forest ℤ) → Proper T K (Within h) d c u f → inGrains G f ≡ shift base (grained G (lowered f))
   unfolding inGrains shift grained
   grains-shift d c u end p = refl
-  grains-shift d c u (leaf n w v rest) p = rw (utility-shift T G h positive v (p .1), grains-shift d c u rest (p .4)) refl
+  grains-shift d c u (leaf n w v rest) p = rw (utility-shift G h v (p .1), grains-shift d c u rest (p .4)) refl
   grains-shift d c u (inner n w k under rest) p =
       rw (grains-shift (suc d) (c + one k) (isChance k) under (p .3), grains-shift d c u rest (p .4)) refl
 
@@ -90,7 +91,7 @@ module _ (T G K S : ℕ) (h : Head) (positive : 0 < T) where
       → (b : ℕ) → Rising b (lowered f) → (m v : ℕ) → Child (plain S T) m v (grained G (lowered f)) → worthAt T G m f ≡ some (base +ℤ pos v)
   unfolding worthAt grained
   child-worth d c u (leaf n w x rest) p fl bl s b r m v here-leaf =
-      cond-here (eqb n n) _ _ (eq-eqb n n refl) ∙ ap some (utility-shift T G h positive x (p .1))
+      cond-here (eqb n n) _ _ (eq-eqb n n refl) ∙ ap some (utility-shift G h x (p .1))
   child-worth d c u (leaf n w x rest) p fl bl s b r m v (next-leaf i) =
       let past : n < m = child-from (plain S T) G m v (suc n) (lowered rest) (r .1) i in
       cond-past (eqb n m) _ _ (ne-eqb n m (λ e. omega arith)) ∙ child-worth d c u rest (p .4) fl bl (s .1) (suc n) (r .1) m v i

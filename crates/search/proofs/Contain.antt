@@ -5,7 +5,7 @@ use native.Mathlib.Nat.{le-div-iff-mul-le, div-le-of-le-mul, mul-le-mul-left, mu
 use native.Mathlib.Omega.{arith}
 use Rattle.field.proofs.Small.{choose}
 use Rattle.table.specs.Tree.{Kind, MAX, MIN, CHANCE, Forest, end, leaf, inner, weigh}
-use Rattle.worth.specs.Inside.{taken, sealed}
+use Rattle.table.specs.Inside.{taken, sealed}
 use Rattle.search.specs.Search.{Frame, Seen, State, Rules, begin, lower, upper, update, finish, cut, stop, point, scan}
 use Rattle.search.specs.Heights.{natural}
 use Rattle.search.proofs.Steps.{seenUnder, seenAfter}

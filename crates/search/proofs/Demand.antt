@@ -9,19 +9,20 @@ use native.Mathlib.Omega.{arith}
 use lib.ListN.{length}
 use lib.IntN.{ℤ, pos, _+ℤ_, _*ℤ_, +ℤ-assoc}
 use lib.Signed.{leZ}
+use Rattle.numbers.proofs.Signs.{plus, minus, parts, is-unique, is-eq}
+use Rattle.numbers.proofs.Above.{lift, le-above}
 use Rattle.line.specs.Refusal.{fine}
 use Rattle.table.specs.Tree.{MAX, Forest, isEnd, leaves}
 use Rattle.table.specs.Table.{Table, tree, readText, greatest, grain}
 use Rattle.table.specs.Slices.{Spans, heightTree, slicesOf}
 use Rattle.table.specs.Accepted.{span, Filled, Balanced, Proper, Rooted}
+use Rattle.table.specs.Root.{Side, AtM, AtN, Root, undecided, decided, children, rootOf}
 use Rattle.table.proofs.Heights.{above, mapForest, heights-map}
 use Rattle.table.proofs.Accepted.{accepted-ranged, accepted-proper, accepted-filled, accepted-balanced, accepted-spans, heights-rooted, heights-proper, heights-filled, heights-balanced}
+use Rattle.table.proofs.Ends.{top}
 use Rattle.worth.specs.Worth.{worthOf}
 use Rattle.worth.specs.Heights.{heightWorth, SmallWorths}
-use Rattle.worth.proofs.Signs.{plus, minus, parts, is-unique, is-eq}
-use Rattle.worth.proofs.Shift.{lift}
-use Rattle.worth.proofs.Worth.{le-above, heights-small, shift as worth-shift, top}
-use Rattle.judge.specs.Judge.{Side, AtM, AtN, Root, undecided, decided, children, rootOf}
+use Rattle.worth.proofs.Worth.{heights-small, shift as worth-shift}
 use Rattle.search.specs.Search.{Play, noPlay, child, Seen, nodeOf}
 use Rattle.search.specs.Heights.{grained, frameOf, heightRules, heightSearched}
 use Rattle.search.specs.Whole.{whole, inGrains, ends, rules, searched, playWorth}

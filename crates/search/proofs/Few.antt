@@ -7,12 +7,12 @@ use lib.ListN.{length, getD, length-append}
 use Rattle.field.proofs.Small.{choose}
 use Rattle.table.specs.Tree.{Kind, Forest, end, leaf, inner, leaves}
 use Rattle.table.specs.Slices.{Slices, Spans}
-use Rattle.judge.specs.Judge.{children}
+use Rattle.table.specs.Root.{children}
+use Rattle.table.proofs.Spans.{spans-le}
 use Rattle.search.specs.Search.{Frame, Seen, State, Arith, Rules, begin, finish, cut, point, lower, upper, update, stop, scan, search, searchRoot}
 use Rattle.search.specs.Heights.{grained}
 use Rattle.search.proofs.Steps.{seenUnder, seenAfter}
 use Rattle.search.proofs.Heights.{Child, here-leaf, here-inner, next-leaf, next-inner}
-use Rattle.table.proofs.Spans.{spans-le}
 
 -- ---- the leaves read
 

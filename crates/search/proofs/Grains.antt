@@ -4,10 +4,10 @@ use mathlib.Core.Path.{_≡_, refl, sym, ap, _∙_}
 use mathlib.Core.Bool.{Bool}
 use native.Mathlib.Nat.{mul-le-mul-right, dvd-mul-left-of-dvd, dvd-zero, le-refl, add-zero}
 use native.Mathlib.Omega.{arith}
+use Rattle.numbers.proofs.Powers.{power-dvd, power-more}
 use Rattle.line.specs.Line.{Weighs}
 use Rattle.table.specs.Tree.{Kind, MAX, MIN, CHANCE, Forest, end, leaf, inner, isChance, weigh}
 use Rattle.table.specs.Accepted.{one, Sums, Balanced, Proper}
-use Rattle.worth.proofs.Even.{power-dvd, power-more}
 use Rattle.search.specs.Search.{Frame}
 use Rattle.search.specs.Heights.{grained, frameOf}
 use Rattle.search.proofs.Heights.{Sound, Within, grade, Fit, Pays, Positive}

@@ -3,7 +3,7 @@ use Prim.Native.Nat.{ℕ, _*_, _≤_, _<_, _∣_}
 use mathlib.Core.Path.{_≡_}
 use lib.IntN.{ℤ, pos, _+ℤ_}
 use Rattle.table.specs.Tree.{Kind, MAX, MIN, CHANCE, Forest, end, leaf, inner, weigh}
-use Rattle.worth.specs.Inside.{taken, sealed}
+use Rattle.table.specs.Inside.{taken, sealed}
 use Rattle.search.specs.Search.{Frame}
 
 -- ---- the worth, where each node has a frame: equation (1) child by child, as worth's `takeAll` has it

@@ -14,7 +14,7 @@ use lib.Signed.{ltZ}
 use Rattle.line.proofs.Signs.{true-ne-false}
 use Rattle.table.specs.Tree.{Kind, MAX, MIN, CHANCE, Forest, end, leaf, inner, isEnd}
 use Rattle.table.specs.Accepted.{Filled}
-use Rattle.judge.specs.Judge.{Side, AtM, AtN, Root, undecided, decided, sideOf, rootOf, children}
+use Rattle.table.specs.Root.{Side, AtM, AtN, Root, undecided, decided, sideOf, rootOf, children}
 use Rattle.search.specs.Search.{Frame, Play, noPlay, child, Seen, State, Arith, Rules, begin, finish, cut, point, beats, better, prefer, update, stop, scan, search, searchRoot, nodeOf}
 use Rattle.search.specs.Entered.{Entered, asEntered, entered, enteredRoot, worse, FirstBest}
 use Rattle.search.specs.Whole.{inGrains}

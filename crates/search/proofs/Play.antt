@@ -8,7 +8,7 @@ use native.Mathlib.Omega.{arith}
 use lib.Dec.{T as Holds, ltb→lt, nltb→le}
 use Rattle.field.proofs.Small.{choose}
 use Rattle.table.specs.Tree.{Kind, MAX, MIN, CHANCE, Forest, end, leaf, inner}
-use Rattle.worth.specs.Inside.{sealed}
+use Rattle.table.specs.Inside.{sealed}
 use Rattle.search.specs.Search.{Frame, Play, noPlay, child, Seen, State, Rules, begin, lower, upper, beats, prefer, update, finish, cut, stop, point, scan, search}
 use Rattle.search.specs.Heights.{natural}
 use Rattle.search.proofs.Steps.{seenUnder, seenAfter}

@@ -14,9 +14,9 @@ use Rattle.table.specs.Table.{Table, readText, greatest, leafLines, grain}
 use Rattle.table.specs.Slices.{Slices, heightOf, kindsOf, stopsOf, weightsOf, heightsOf, fitted, heightTree}
 use Rattle.table.specs.Accepted.{span, Filled, Balanced, Proper}
 use Rattle.table.proofs.Accepted.{accepted-ranged, accepted-size, accepted-grain, accepted-lent, heights-rooted, heights-proper, heights-filled, heights-balanced, heights-leaves}
-use Rattle.worth.proofs.Worth.{span-grains}
 use Rattle.table.proofs.Complete.{stops-long}
-use Rattle.table.proofs.Copied.{fitted-long}
+use Rattle.table.proofs.Laid.{fitted-long}
+use Rattle.table.proofs.Ends.{span-grains}
 use Rattle.search.specs.declared.Rule.{Rule}
 use Rattle.search.specs.declared.Found.{Found}
 use Rattle.search.specs.Heights.{heightSearched}

@@ -6,9 +6,9 @@ use mathlib.Core.List.{[]}
 use native.Mathlib.Nat.{dvd-sub, mul-div-le, lt-mul-div-succ, mul-sub, mul-le-mul-left, le-trans}
 use native.Mathlib.Omega.{arith}
 use lib.IntN.{ℤ, pos, _+ℤ_, _-ℤ_, _*ℤ_}
+use Rattle.numbers.specs.Integers.{floorZ}
+use Rattle.numbers.proofs.Signs.{Is, is-unique, is-eq, is-minus, is-mul, is-floor}
 use Rattle.table.specs.Tree.{Kind, MAX, MIN, CHANCE, Forest, end, leaf, inner, isEnd, weigh}
-use Rattle.worth.specs.Worth.{floorZ}
-use Rattle.worth.proofs.Signs.{Is, is-unique, is-eq, is-minus, is-mul, is-floor}
 use Rattle.search.specs.Search.{Frame, Seen, State, Rules, begin, point, lower, upper, update, stop}
 use Rattle.search.specs.Whole.{whole}
 use Rattle.search.specs.Heights.{natural}

@@ -8,9 +8,9 @@ use native.Mathlib.Nat.{le-refl}
 use native.Mathlib.Omega.{arith}
 use Rattle.table.specs.Tree.{Kind, MAX, MIN, CHANCE, Forest, end, leaf, inner}
 use Rattle.table.specs.Accepted.{Filled, Balanced, Proper, Rooted}
+use Rattle.table.specs.Root.{Root, undecided, decided, AtM, AtN, rootOf, children}
 use Rattle.worth.specs.Heights.{heightValue, heightShares, firstHeight, SmallWorths}
 use Rattle.worth.proofs.Bounds.{small}
-use Rattle.judge.specs.Judge.{Root, undecided, decided, AtM, AtN, rootOf, children}
 use Rattle.search.specs.Search.{Play, noPlay, child, Seen, Rules, point, search, searchRoot, nodeOf}
 use Rattle.search.specs.Heights.{natural, grained, frameOf, heightRules}
 use Rattle.search.proofs.Heights.{worth, Child, Within, Fit}

@@ -8,17 +8,17 @@ use native.Mathlib.Omega.{arith}
 use lib.Dec.{T as Holds, leb, ltb, leb→le, le→leb, nleb→lt, lt→ltb, ltb→lt, not-T}
 use lib.IntN.{ℤ, pos, negsuc, negℤ, _+ℤ_, _-ℤ_, _*ℤ_}
 use lib.Signed.{ltZ, leZ}
+use Rattle.numbers.specs.Integers.{maxZ, minZ, floorZ, ceilZ}
+use Rattle.numbers.proofs.Signs.{same-test, Is, is-eq, is-add, is-neg, is-minus, is-mul, is-le, is-max, is-min, is-floor}
 use Rattle.table.specs.Tree.{Kind, MAX, MIN, CHANCE, Forest, end, leaf, inner, isEnd, weigh}
 use Rattle.search.specs.Search.{Frame, Play, noPlay, child, Seen, State, Rules, begin, lower, upper, beats, better, update, finish, cut, stop, point, scan, search, searchRoot}
-use Rattle.worth.specs.Worth.{maxZ, minZ, floorZ}
-use Rattle.search.specs.Whole.{whole, ceilZ, downZ, upZ, gainZ, lossZ}
+use Rattle.search.specs.Whole.{whole, downZ, upZ, gainZ, lossZ}
 use Rattle.search.specs.Heights.{natural, ceil}
 use Rattle.search.proofs.Steps.{seenUnder, seenAfter}
 use Rattle.search.proofs.Heights.{Sound, Within, Pays, Positive, shift, total}
 use Rattle.search.proofs.Contain.{contained, Holding, hold-point, hold-under}
 use Rattle.search.proofs.Width.{ceil-le, drop-top}
 use Rattle.search.proofs.Safe.{share-fits, Safe, safe-begin, safe-lower, safe-upper, safe-update}
-use Rattle.worth.proofs.Signs.{same-test, Is, is-eq, is-add, is-neg, is-minus, is-mul, is-le, is-max, is-min, is-floor}
 
 -- m - n is the quotient of a - b by w, rounded up
 is-ceil : (w : ℕ) (z : ℤ) (a b m n : ℕ) → 0 < w → Is z a b → a + w * n ≤ w * m + b → w * m + b < a + w * n + w → Is (ceilZ z w) m n

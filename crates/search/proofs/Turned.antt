@@ -6,6 +6,8 @@ use mathlib.Core.List.{List, _++_}
 use native.Mathlib.Nat.{le-refl, le-trans, mul-sub}
 use native.Mathlib.Omega.{arith}
 use lib.IntN.{ℤ, pos, negsuc, negℤ, _+ℤ_, _-ℤ_, _*ℤ_}
+use Rattle.numbers.proofs.Signs.{Is, plus, minus, parts, is-unique, is-eq, is-neg, is-minus}
+use Rattle.numbers.proofs.Above.{is-times, lift}
 use Rattle.line.specs.declared.Head.{Head}
 use Rattle.line.specs.Refusal.{fine}
 use Rattle.line.specs.Line.{toNat, Within}
@@ -15,15 +17,14 @@ use Rattle.table.specs.Slices.{heightTree}
 use Rattle.table.specs.Accepted.{span, one, flat, Proper}
 use Rattle.table.proofs.Heights.{above, mapForest, height-back, heights-map}
 use Rattle.table.proofs.Accepted.{accepted-flat, accepted-ranged, accepted-proper, heights-proper, heights-balanced}
-use Rattle.worth.proofs.Signs.{Is, plus, minus, parts, is-unique, is-eq, is-neg, is-minus}
-use Rattle.worth.proofs.Shift.{is-times, lift}
+use Rattle.table.proofs.Ends.{top}
 use Rattle.worth.specs.Worth.{worthOf}
 use Rattle.worth.specs.Heights.{heightWorth}
-use Rattle.worth.proofs.Worth.{top, shift as worth-shift}
+use Rattle.worth.proofs.Worth.{shift as worth-shift}
+use Rattle.turn.specs.Turn.{turnKind, turnHead, turnTree}
 use Rattle.search.specs.Search.{Play, noPlay, child, Seen, searchRoot, nodeOf}
 use Rattle.search.specs.Whole.{searched}
 use Rattle.search.specs.Heights.{natural, grained, frameOf, heightRules, heightSearched}
-use Rattle.turn.specs.Turn.{turnKind, turnHead, turnTree}
 use Rattle.search.specs.Turned.{Turns}
 use Rattle.search.proofs.Worths.{plain}
 use Rattle.search.proofs.Grains.{within}

@@ -6,7 +6,7 @@ use mathlib.Core.List.{List, [], _∷_, _++_, List·Memᴰ}
 use lib.IntN.{ℤ}
 use Rattle.table.specs.Tree.{Kind, Forest, end, leaf, inner}
 use Rattle.table.specs.Table.{Table, tree, grain}
-use Rattle.judge.specs.Judge.{Side, AtM, AtN}
+use Rattle.table.specs.Root.{Side, AtM, AtN}
 use Rattle.search.specs.Search.{Frame, Seen, State, Arith, Rules, begin, point, update, stop, enter, scan}
 use Rattle.search.specs.Whole.{whole, inGrains, rules}
 

@@ -4,9 +4,9 @@ use mathlib.Core.Path.{_≡_}
 use mathlib.Core.Bool.{false}
 use mathlib.Core.List.{[]}
 use lib.IntN.{ℤ, pos, _-ℤ_, _*ℤ_}
+use Rattle.numbers.specs.Integers.{floorZ}
 use Rattle.table.specs.Tree.{Kind, MAX, MIN, CHANCE, Forest, end, leaf, inner}
 use Rattle.table.specs.Table.{Table, tree, grain}
-use Rattle.worth.specs.Worth.{floorZ}
 use Rattle.search.specs.Search.{Frame, Seen, State, Arith, Rules, begin, point, update, stop, enter, scan}
 use Rattle.search.specs.Whole.{whole, inGrains, rules}
 

@@ -3,17 +3,14 @@ use Prim.Native.Nat.{ℕ}
 use mathlib.Core.Bool.{cond}
 use mathlib.Core.Option.{Option, none, some}
 use lib.Dec.{eqb}
-use lib.IntN.{ℤ, pos, negℤ, _+ℤ_, _-ℤ_, _*ℤ_}
+use lib.IntN.{ℤ, pos, _+ℤ_, _-ℤ_, _*ℤ_}
 use lib.Signed.{ltZ, leZ}
+use Rattle.numbers.specs.Integers.{maxZ, minZ, floorZ, ceilZ}
 use Rattle.table.specs.Tree.{Forest, end, leaf, inner}
 use Rattle.table.specs.Table.{Table, tree, grain}
-use Rattle.worth.specs.Worth.{maxZ, minZ, floorZ, shares, value}
-use Rattle.judge.specs.Judge.{children}
+use Rattle.table.specs.Root.{children}
+use Rattle.worth.specs.Worth.{shares, value}
 use Rattle.search.specs.Search.{Frame, Arith, Rules, Seen, searchRoot}
-
--- z divided by n, rounded up
-unfoldable pub ceilZ : (z : ℤ) (n : ℕ) → ℤ
-ceilZ z n = negℤ (floorZ (negℤ z) n)
 
 -- Line 9, from α(p(n)) and U(p(n)): "rounded outward: the new alpha down". π is w / T, and U(n) of a node not yet searched is v_max.
 unfoldable pub downZ : (e : Frame ℤ) (w : ℕ) (α U : ℤ) → ℤ

@@ -4,8 +4,8 @@ ghost use Prim.Native.Nat.{_+_, _-_, _*_, _<_, _≤_, min};
 ghost use lib.ListN.{length, getD};
 ghost use Rattle.table.specs.Tree.{MAX, MIN, CHANCE};
 ghost use Rattle.search.specs.Inside.{slices, start, alphaFor, betaFor, preferred, afterMax, afterMin, afterChance, stops, LeafAt, OkRule, OkBounds, ReadyChildren, Told, ReadyRoot, Searched};
-use table::index;
-use table::max_of;
+use numbers::index;
+use numbers::max_of;
 
 // The margin, the grains between the ends, the total of the weights, and the grains in a point.
 pub struct Rule {

@@ -8,24 +8,24 @@ use borrow.Author.Tests.{eqb-true}
 use lib.ListN.{length, getD, take, drop, length-map}
 use lib.Dec.{eqb}
 use lib.IntN.{pos, _+ℤ_}
+use Rattle.numbers.proofs.Powers.{power-small}
 use Rattle.line.specs.declared.Head.{Head}
 use Rattle.line.specs.declared.Line.{Line}
 use Rattle.line.specs.declared.Refusal.{Refusal}
 use Rattle.line.specs.declared.Refusal.the-variants.{Length}
 use Rattle.line.specs.Refusal.{Verdict, refused, fine, next}
+use Rattle.line.specs.Line.{header, headingOf, Ranged, Within}
+use Rattle.line.proofs.Signs.{true-ne-false}
+use Rattle.line.proofs.Fine.{header-ranged}
 use Rattle.table.specs.declared.Summary.{Summary}
 use Rattle.table.specs.declared.Reading.the-variants.{Accepted, Refused}
 use Rattle.table.specs.Tree.{Kind, Forest, end, leaf, inner, isChance, isEnd, weigh, nodesWhere, childless, unbalanced, leaves}
-use Rattle.line.specs.Line.{header, headingOf, Ranged, Within}
 use Rattle.table.specs.Table.{Table, badLength, nodeLines, tree, complete, count, readText, greatest, leafLines, grain, summary, answer}
 use Rattle.table.specs.Slices.{heightOf, kindsOf, stopsOf, weightsOf, heightsOf, fitted, Slices, Spans, heightTree, slicesOf}
 use Rattle.table.specs.Accepted.{span, flat, Sums, Filled, Balanced, Proper, Rooted}
-use Rattle.line.proofs.Signs.{true-ne-false}
-use Rattle.line.proofs.Fine.{header-ranged}
 use Rattle.table.proofs.Grown.{fine-refused, next-fine}
 use Rattle.table.proofs.Heights.{above, height-back, height-span, map-leaves, map-filled, map-balanced, map-rooted, map-proper, heights-map}
-use Rattle.table.proofs.Powers.{power-small}
-use Rattle.table.proofs.Copied.{fitted-all}
+use Rattle.table.proofs.Laid.{fitted-all}
 use Rattle.table.proofs.Complete.{stops-long, completed, spans}
 use Rattle.table.proofs.Top.{good-length}
 use Rattle.table.proofs.Known.{read-length, read-few, read-flat, read-rooted, read-proper, read-leaves, read-spans}

@@ -10,12 +10,12 @@ use lib.Dec.{eqb}
 use lib.IntN.{ℤ, pos, negsuc, subℕ, _+ℤ_, _-ℤ_, +ℤ-comm, -ℤ-+ℤ-cancel}
 use lib.Signed.{ltZ}
 use Rattle.line.specs.declared.Line.{Line}
-use Rattle.table.specs.Tree.{Forest, end, leaf, inner, isChance, isEnd, kindOf, run, after, forest, weigh, leaves}
 use Rattle.line.specs.Line.{toNat}
+use Rattle.line.proofs.Signs.{true-ne-false}
+use Rattle.table.specs.Tree.{Forest, end, leaf, inner, isChance, isEnd, kindOf, run, after, forest, weigh, leaves}
 use Rattle.table.specs.Table.{Table, tree}
 use Rattle.table.specs.Slices.{heightOf, heightTree}
 use Rattle.table.specs.Accepted.{one, Filled, Balanced, Proper, Rooted}
-use Rattle.line.proofs.Signs.{true-ne-false}
 
 -- ---- differences of integers
 

@@ -10,12 +10,12 @@ use Rattle.line.specs.declared.Line.{Line}
 use Rattle.line.specs.declared.Refusal.{Refusal}
 use Rattle.line.specs.declared.Refusal.the-variants.{Childless, WrongSum}
 use Rattle.line.specs.Refusal.{Verdict, refused, fine, Check, unless, unlessAt, next, lineOf}
-use Rattle.table.specs.Tree.{Kind, Forest, end, leaf, inner, nodesWhere, childless, unbalanced}
 use Rattle.line.specs.Line.{Step, Placed, ancestors, stepped, stepsOf, placed, letterCode, entryOf, headingOf, headOf, header, headerChecks, lineChecks, nodeLine}
+use Rattle.line.proofs.Fine.{unlessAt-fine}
+use Rattle.table.specs.Tree.{Kind, Forest, end, leaf, inner, nodesWhere, childless, unbalanced}
 use Rattle.table.specs.Table.{Table, prefix, nodeLines, tree, complete, badLength, count, linesOf, readText}
 use Rattle.table.proofs.Runs.{size, Numbered}
 use Rattle.table.proofs.Top.{good-length, read-length, read-header}
-use Rattle.line.proofs.Fine.{unlessAt-fine}
 use Rattle.table.proofs.Known.{read-numbered, read-size}
 
 -- ---- checks

@@ -1,5 +1,6 @@
 pub mod Tree
 pub mod Table
+pub mod Root
 pub mod Slices
 pub mod Accepted
 pub mod Inside

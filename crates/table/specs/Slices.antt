@@ -8,8 +8,8 @@ use lib.Dec.{eqb}
 use lib.IntN.{ℤ, _-ℤ_}
 use Rattle.line.specs.declared.Line.{Line}
 use Rattle.line.specs.Refusal.{Verdict, refused, fine}
-use Rattle.table.specs.Tree.{Forest, end, leaf, inner, codeOf, run, forest}
 use Rattle.line.specs.Line.{toNat}
+use Rattle.table.specs.Tree.{Forest, end, leaf, inner, codeOf, run, forest}
 use Rattle.table.specs.Table.{Table}
 
 -- how many points a leaf stands above the lowest end

@@ -7,13 +7,13 @@ use lib.Dec.{eqb, ltb}
 use lib.IntN.{ℤ}
 use Rattle.line.specs.declared.Head.{Head}
 use Rattle.line.specs.declared.Line.{Line}
-use Rattle.table.specs.declared.Summary.{Summary}
 use Rattle.line.specs.declared.Refusal.the-variants.{Length, Childless, WrongSum}
+use Rattle.line.specs.Refusal.{Verdict, refused, fine, unlessAt, next}
+use Rattle.line.specs.Line.{header, Step, Placed, nodeLine}
+use Rattle.table.specs.declared.Summary.{Summary}
 use Rattle.table.specs.declared.Reading.{Reading}
 use Rattle.table.specs.declared.Reading.the-variants.{Accepted, Refused}
-use Rattle.line.specs.Refusal.{Verdict, refused, fine, unlessAt, next}
 use Rattle.table.specs.Tree.{Forest, forest, childless, unbalanced}
-use Rattle.line.specs.Line.{header, Step, Placed, nodeLine}
 
 -- an accepted table: its header and its node lines
 pub record Table : Type 0 where

@@ -23,7 +23,7 @@ use Rattle.table.specs.Accepted.{flat, one, Proper}
 use Rattle.table.proofs.Runs.{size, Numbered}
 use Rattle.table.proofs.Known.{read-numbered, read-size}
 use Rattle.table.proofs.Accepted.{checked, accepted-ranged, accepted-size, accepted-flat, accepted-proper, whole-height}
-use Rattle.table.proofs.Copied.{fitted-all, fitted-long}
+use Rattle.table.proofs.Laid.{fitted-all, fitted-long}
 use Rattle.turn.specs.Text.{tableText}
 use Rattle.turn.specs.Turn.{turnedText}
 use Rattle.turn.specs.Inside.{Fits, Lined, ReadyText, Turned}

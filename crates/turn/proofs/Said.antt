@@ -9,10 +9,10 @@ use lib.Dec.{eqb, eqb·suc-zero, lit<}
 use lib.ListN.{length, getD}
 use lib.IntN.{ℤ, pos, negsuc, natAbs}
 use lib.Signed.{ltZ}
-use Rattle.field.proofs.Bits.{abs-mag}
 use Rattle.field.specs.Field.{fieldOf}
 use Rattle.field.specs.declared.Field.{Field}
 use Rattle.field.specs.declared.Field.the-variants.{Blank, Ill, Number}
+use Rattle.field.proofs.Bits.{abs-mag}
 use Rattle.field.proofs.Small.{small}
 use Rattle.line.specs.declared.Head.{Head}
 use Rattle.line.specs.declared.Line.{Line}

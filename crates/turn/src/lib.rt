@@ -57,7 +57,7 @@ fn turn_lines(kind: &[u8], height: &[u32], n: usize, lowest: i64, buffer: &mut [
     }
 }
 
-// Turns an accepted table's text, whose slices `table::read` decoded, at the front of the buffer.
+// Turns an accepted table's text, whose slices `reading::decode` filled, at the front of the buffer.
 pub fn turn(
     text: &[u8],
     kind: &[u8],

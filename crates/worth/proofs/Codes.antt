@@ -7,7 +7,7 @@ use native.Mathlib.Omega.{arith}
 use borrow.Author.Tests.{ne-eqb}
 use lib.Dec.{eqb}
 use Rattle.table.specs.Tree.{Kind, MAX, MIN, CHANCE, codeOf, kindOf}
-use Rattle.worth.specs.Inside.{begin}
+use Rattle.table.specs.Inside.{begin}
 
 -- ---- kinds
 

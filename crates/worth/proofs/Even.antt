@@ -1,11 +1,10 @@
 -- Worths over heights: no division by T leaves a remainder. Assumes nothing.
-use Prim.Native.Nat.{ℕ, zero, suc, _+_, _*_, _-_, _/_, _^_, _≤_, _<_, _∣_}
+use Prim.Native.Nat.{ℕ, suc, _+_, _*_, _/_, _^_, _<_, _∣_}
 use mathlib.Core.Path.{_≡_, sym}
 use mathlib.Core.Bool.{Bool, true}
 use mathlib.Core.List.{List, [], _∷_}
-use native.Mathlib.Nat.{dvd-trans, dvd-refl, dvd-zero, dvd-add, dvd-mul-right, dvd-mul-left-of-dvd, dvd-of-mul-dvd-mul-left, mul-div-cancel', add-zero, add-suc, pow-succ'}
-use native.Mathlib.Numerals.{add-one}
-use native.Mathlib.Omega.{arith}
+use native.Mathlib.Nat.{dvd-trans, dvd-zero, dvd-add, dvd-mul-right, dvd-mul-left-of-dvd, dvd-of-mul-dvd-mul-left, mul-div-cancel', add-zero}
+use Rattle.numbers.proofs.Powers.{power-dvd, power-more}
 use Rattle.line.proofs.Signs.{true-ne-false}
 use Rattle.table.specs.Tree.{Kind, MAX, MIN, CHANCE, Forest, end, leaf, inner, isChance}
 use Rattle.table.specs.Accepted.{one, Proper}
@@ -25,17 +24,6 @@ share-whole T g s h = mul-div-cancel' T (dvd-trans T (dvd-mul-right T g) h)
 
 share-dvd : (T g s : ℕ) → 0 < T → T * g ∣ s → g ∣ s / T
 share-dvd T g s p h = dvd-of-mul-dvd-mul-left g p (rw (share-whole T g s h) h)
-
--- powers
-power-add : (T c j : ℕ) → T ^ c ∣ T ^ (c + j)
-power-add T c zero = rw (add-zero c) (dvd-refl (T ^ c))
-power-add T c (suc j) = rw (add-suc c j, pow-succ' T (c + j)) (dvd-mul-left-of-dvd (T ^ c) (power-add T c j) T)
-
-pub power-dvd : (T c K : ℕ) → c ≤ K → T ^ c ∣ T ^ K
-power-dvd T c K h = let e : c + (K - c) ≡ K = omega arith in rw e at (power-add T c (K - c))
-
-pub power-more : (T c : ℕ) → T ^ (c + 1) ≡ T * T ^ c
-power-more T c = rw (add-one c, pow-succ' T c)
 
 -- one node, from its children: one C more stands above them where it is a C
 value-dvd : (T c : ℕ) (k : Kind) (xs : List (Share ℕ)) → 0 < T → Each (λ (x : ℕ). T ^ (c + one k) ∣ x) xs → T ^ c ∣ heightValue T k xs

@@ -13,11 +13,12 @@ use Rattle.table.specs.Accepted.{span, Rooted}
 use Rattle.table.specs.Slices.{heightOf, stopsOf, weightsOf, heightsOf, fitted, heightTree}
 use Rattle.table.proofs.Accepted.{accepted-ranged, accepted-size, accepted-grain, heights-rooted, heights-filled}
 use Rattle.table.proofs.Complete.{stops-long}
-use Rattle.table.proofs.Copied.{fitted-long}
+use Rattle.table.proofs.Laid.{fitted-long}
+use Rattle.table.proofs.Ends.{rooted-some, span-grains}
 use Rattle.worth.specs.declared.Scale.{Scale}
 use Rattle.worth.specs.Heights.{tallest, heightValue, heightShares, firstHeight, heightWorth}
 use Rattle.worth.specs.Inside.{Beside, beside, Reach, OkScale, ReadyRun, Worthy}
-use Rattle.worth.proofs.Worth.{rooted-some, heights-small, span-grains}
+use Rattle.worth.proofs.Worth.{heights-small}
 use Rattle.worth.proofs.Text.{accepted-lays}
 
 -- the numbers of a table

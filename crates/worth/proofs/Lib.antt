@@ -1,8 +1,6 @@
-pub mod Signs
 pub mod Bounds
 pub mod Even
 pub mod Shift
-pub mod Span
 pub mod Worth
 pub mod Worked
 pub mod Codes

@@ -9,12 +9,13 @@ use lib.ListN.{length, getD, take, drop, length-drop}
 use lib.Seq.{length-take-le, take-nil, take-take, drop-drop}
 use Rattle.table.specs.Tree.{Kind, MAX, MIN, CHANCE, Forest, end, leaf, inner, kindOf, isChance, isEnd}
 use Rattle.table.specs.Accepted.{Filled}
+use Rattle.table.specs.Inside.{begin, taken, sealed}
+use Rattle.table.proofs.Runs.{kind-code}
 use Rattle.worth.specs.declared.Scale.{Scale}
 use Rattle.worth.specs.Worth.{Share}
 use Rattle.worth.specs.Heights.{tallest, shortest, summed, heightValue, heightShares, SmallWorths}
-use Rattle.worth.specs.Inside.{kindIn, Beside, Reach, Lays, begin, taken, sealed, takeAll, OkScale, ReadyRun}
+use Rattle.worth.specs.Inside.{kindIn, Beside, Reach, Lays, takeAll, OkScale, ReadyRun}
 use Rattle.worth.proofs.Bounds.{Each, shortest-one, small-each}
-use Rattle.table.proofs.Runs.{kind-code}
 use Rattle.worth.proofs.Codes.{code-inner}
 
 -- ---- the children of a node, one after another

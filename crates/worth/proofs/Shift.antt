@@ -1,39 +1,24 @@
 -- The worth over the integers is the lowest end in grains and the worth over heights. Assumes nothing.
-use Prim.Native.Nat.{ℕ, suc, _+_, _*_, _/_, min, max, _<_}
+use Prim.Native.Nat.{ℕ, suc, _+_, _*_, _/_, _<_}
 use mathlib.Core.Path.{_≡_, refl, sym, ap, ap₂, _∙_}
 use mathlib.Core.Bool.{Bool, true, false}
 use mathlib.Core.List.{List, [], _∷_, map}
 use native.Mathlib.Nat.{lt-mul-div-succ, mul-div-le}
 use native.Mathlib.Omega.{arith}
-use lib.IntN.{ℤ, pos, _+ℤ_, _*ℤ_, *ℤ-comm}
+use lib.IntN.{ℤ, pos, _+ℤ_, _*ℤ_}
+use Rattle.numbers.specs.Integers.{maxZ, minZ, floorZ}
+use Rattle.numbers.proofs.Signs.{Is, plus, minus, parts, is-unique, is-eq, is-add, is-mul, is-floor}
+use Rattle.numbers.proofs.Above.{lift, lifted, at-height, max-shift, min-shift}
 use Rattle.line.specs.declared.Head.{Head}
 use Rattle.line.specs.Line.{Within}
 use Rattle.line.proofs.Signs.{true-ne-false}
 use Rattle.table.specs.Tree.{Kind, MAX, MIN, CHANCE, Forest, end, leaf, inner, isChance, isEnd, weigh}
 use Rattle.table.specs.Accepted.{one, Sums, Filled, Balanced, Proper}
-use Rattle.table.proofs.Heights.{above, height-back, mapForest, map-end, map-weigh}
-use Rattle.worth.specs.Worth.{Share, maxZ, minZ, floorZ, largest, smallest, weighted, value, shares, firstWorth, Exact}
+use Rattle.table.proofs.Heights.{above, mapForest, map-end, map-weigh}
+use Rattle.table.proofs.Ends.{utility-shift}
+use Rattle.worth.specs.Worth.{Share, largest, smallest, weighted, value, shares, firstWorth, Exact}
 use Rattle.worth.specs.Heights.{tallest, shortest, summed, heightValue, heightShares, firstHeight, raised, ExactHeights}
-use Rattle.worth.proofs.Signs.{Is, plus, minus, parts, is-unique, is-eq, is-add, is-mul, is-max, is-min, is-floor}
 use Rattle.worth.proofs.Bounds.{weights, weights-shares}
-
--- ---- integers as differences
-
-pub is-times : (G : ℕ) (z : ℤ) (a b : ℕ) → Is z a b → Is (z *ℤ pos G) (G * a) (G * b)
-is-times G z a b p = rw (*ℤ-comm z (pos G)) (is-mul G z a b p)
-
-pub lift : (z : ℤ) (a b h : ℕ) → Is z a b → Is (z +ℤ pos h) (a + h) b
-lift z a b h p = is-eq (z +ℤ pos h) (a + h) (b + 0) (a + h) b (is-add z (pos h) a b h 0 p (omega arith)) (omega arith)
-
--- a leaf
-pub leaf-shift : (lo : ℤ) (h G : ℕ) → (lo +ℤ pos h) *ℤ pos G ≡ lo *ℤ pos G +ℤ pos (h * G)
-leaf-shift lo h G =
-    let a : ℕ = plus lo in
-    let b : ℕ = minus lo in
-    is-unique ((lo +ℤ pos h) *ℤ pos G) (lo *ℤ pos G +ℤ pos (h * G)) (G * (a + h)) (G * b)
-    (is-times G (lo +ℤ pos h) (a + h) b (lift lo a b h (parts lo)))
-    (is-eq (lo *ℤ pos G +ℤ pos (h * G)) (G * a + h * G) (G * b) (G * (a + h)) (G * b)
-    (lift (lo *ℤ pos G) (G * a) (G * b) (h * G) (is-times G lo a b (parts lo))) (omega arith))
 
 -- a list that is not empty
 abbrev pub Some : List (Share ℕ) → Type 0
@@ -41,19 +26,6 @@ Some [] = ⊥
 Some (x ∷ xs) = Unit {0}
 
 module _ (b : ℤ) where
-  lifted : (h : ℕ) → Is (b +ℤ pos h) (plus b + h) (minus b)
-  lifted h = lift b (plus b) (minus b) h (parts b)
-
-  -- a number that lies h above b
-  at-height : (z : ℤ) (p q h : ℕ) → Is z p q → p + minus b ≡ plus b + h + q → z ≡ b +ℤ pos h
-  at-height z p q h i e = is-unique z (b +ℤ pos h) (plus b + h) (minus b) (is-eq z p q (plus b + h) (minus b) i e) (lifted h)
-
-  pub max-shift : (x y : ℕ) → maxZ (b +ℤ pos x) (b +ℤ pos y) ≡ b +ℤ pos (max x y)
-  max-shift x y = at-height (maxZ (b +ℤ pos x) (b +ℤ pos y)) _ _ (max x y) (is-max (b +ℤ pos x) (b +ℤ pos y) _ _ _ _ (lifted x) (lifted y)) (omega arith)
-
-  pub min-shift : (x y : ℕ) → minZ (b +ℤ pos x) (b +ℤ pos y) ≡ b +ℤ pos (min x y)
-  min-shift x y = at-height (minZ (b +ℤ pos x) (b +ℤ pos y)) _ _ (min x y) (is-min (b +ℤ pos x) (b +ℤ pos y) _ _ _ _ (lifted x) (lifted y)) (omega arith)
-
   -- ---- one node
 
   largest-shift : (xs : List (Share ℕ)) → Some xs → largest (map (raised b) xs) ≡ b +ℤ pos (tallest xs)
@@ -61,14 +33,14 @@ module _ (b : ℤ) where
   largest-shift [] s = absurd s
   largest-shift (x ∷ []) s = refl
   largest-shift (x ∷ y ∷ ys) s =
-      ap (maxZ (b +ℤ pos (x .worth))) (largest-shift (y ∷ ys) tt) ∙ max-shift (x .worth) (tallest (y ∷ ys))
+      ap (maxZ (b +ℤ pos (x .worth))) (largest-shift (y ∷ ys) tt) ∙ max-shift b (x .worth) (tallest (y ∷ ys))
 
   smallest-shift : (xs : List (Share ℕ)) → Some xs → smallest (map (raised b) xs) ≡ b +ℤ pos (shortest xs)
   unfolding smallest shortest
   smallest-shift [] s = absurd s
   smallest-shift (x ∷ []) s = refl
   smallest-shift (x ∷ y ∷ ys) s =
-      ap (minZ (b +ℤ pos (x .worth))) (smallest-shift (y ∷ ys) tt) ∙ min-shift (x .worth) (shortest (y ∷ ys))
+      ap (minZ (b +ℤ pos (x .worth))) (smallest-shift (y ∷ ys) tt) ∙ min-shift b (x .worth) (shortest (y ∷ ys))
 
   weighted-is : (p q : ℕ) → Is b p q → (xs : List (Share ℕ)) → Is (weighted (map (raised b) xs)) (weights xs * p + summed xs) (weights xs * q)
   unfolding weighted weights summed
@@ -91,7 +63,7 @@ module _ (b : ℤ) where
       let p : ℕ = plus b in
       let q : ℕ = minus b in
       let s : ℕ = summed xs in
-      at-height (floorZ (weighted (map (raised b) xs)) T) (p + s / T) q (s / T)
+      at-height b (floorZ (weighted (map (raised b) xs)) T) (p + s / T) q (s / T)
       (is-floor T (weighted (map (raised b) xs)) (T * p + s) (T * q) (p + s / T) q some (weighted-full T xs e)
       (omega (arith, mul-div-le s T)) (omega (arith, lt-mul-div-succ s some)))
       refl
@@ -109,7 +81,7 @@ module _ (b : ℤ) where
       let p : ℕ = plus b in
       let q : ℕ = minus b in
       is-unique (pos T *ℤ (b +ℤ pos v)) (weighted (map (raised b) xs)) (T * (p + v)) (T * q)
-      (is-mul T (b +ℤ pos v) (p + v) q (lifted v))
+      (is-mul T (b +ℤ pos v) (p + v) q (lifted b v))
       (is-eq (weighted (map (raised b) xs)) (T * p + summed xs) (T * q) (T * (p + v)) (T * q) (weighted-full T xs e) (omega arith))
 
   pub first-shift : (xs : List (Share ℕ)) → Some xs → firstWorth (map (raised b) xs) ≡ b +ℤ pos (firstHeight xs)
@@ -144,16 +116,12 @@ module _ (T G : ℕ) (h : Head) (some : 0 < T) where
       ap (value T k) ih
       ∙ value-shift base T k (heightShares T G (lowered F)) some (some-shares T G (lowered F) (map-end (above (h .lowest)) F ∙ f)) (full k F b)
 
-  pub utility-shift : (v : ℤ) → Within h v → v *ℤ pos G ≡ base +ℤ pos (above (h .lowest) v * G)
-  utility-shift v w =
-      ap (λ (z : ℤ). z *ℤ pos G) (sym (height-back (h .lowest) v (w .0))) ∙ leaf-shift (h .lowest) (above (h .lowest) v) G
-
   module _ (K : ℕ) where
     pub shares-shift : (d c : ℕ) (u : Bool) (F : Forest ℤ) → Proper T K (Within h) d c u F → Filled F → Balanced T F → Shifts F
     unfolding shares heightShares
     shares-shift d c u end p f b = refl
     shares-shift d c u (leaf n w v rest) p f b =
-        ap₂ (λ (x : ℤ) (r : List (Share ℤ)). record { weight = w; worth = x } ∷ r) (utility-shift v (p .1)) (shares-shift d c u rest (p .4) f b)
+        ap₂ (λ (x : ℤ) (r : List (Share ℤ)). record { weight = w; worth = x } ∷ r) (utility-shift G h v (p .1)) (shares-shift d c u rest (p .4) f b)
     shares-shift d c u (inner n w k under rest) p f b =
         ap₂ (λ (x : ℤ) (r : List (Share ℤ)). record { weight = w; worth = x } ∷ r)
         (node-shift k under (shares-shift (suc d) (c + one k) (isChance k) under (p .3) (f .1) (b .1)) (f .0) (b .0))

@@ -14,7 +14,7 @@ use Rattle.table.specs.Tree.{Forest, end, leaf, inner}
 use Rattle.table.specs.Table.{Table, nodeLines, count, readText}
 use Rattle.table.specs.Slices.{kindsOf, stopsOf, weightsOf, heightsOf, fitted, Slices, Spans, heightTree}
 use Rattle.table.proofs.Accepted.{checked, accepted-lent}
-use Rattle.table.proofs.Copied.{fitted-at}
+use Rattle.table.proofs.Laid.{fitted-at}
 use Rattle.table.proofs.Grown.{lines-first}
 use Rattle.table.proofs.Spans.{spans-le}
 use Rattle.worth.specs.Inside.{kindIn, beside, Reach, Lays}

@@ -3,12 +3,13 @@ use Prim.Native.Nat.{ℕ}
 use mathlib.Core.Path.{_≡_, refl}
 use lib.IntN.{ℤ, pos, negsuc}
 use Rattle.field.specs.Field.{strip, digits, whole, signed}
+use Rattle.numbers.specs.Integers.{maxZ, minZ, floorZ}
 use Rattle.line.specs.Refusal.{Verdict, fine, unless, unlessAt, next}
 use Rattle.line.specs.Line.{climb}
 use Rattle.table.specs.Tree.{run, after, forest, weigh, nodesWhere}
 use Rattle.table.specs.Examples.{table-a, table-b, turned-b, lone-leaf}
 use Rattle.table.specs.Table.{Table, nodeLines, complete, readText, greatest, grain}
-use Rattle.worth.specs.Worth.{maxZ, minZ, floorZ, largest, smallest, weighted, value, shares, worthOf}
+use Rattle.worth.specs.Worth.{largest, smallest, weighted, value, shares, worthOf}
 
 -- G and the worth
 found : Table → Verdict (ℕ × ℤ)

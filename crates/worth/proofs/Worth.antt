@@ -1,43 +1,28 @@
 -- The worth of every accepted table: exact, within the ends, and the lowest end with the worth over heights. Assumes nothing.
-use Prim.Native.Nat.{ℕ, _+_, _*_, _≤_}
-use mathlib.Core.Path.{_≡_, refl, sym, ap, ap₂, _∙_}
+use Prim.Native.Nat.{ℕ, _*_, _≤_}
+use mathlib.Core.Path.{_≡_, sym, ap, ap₂, _∙_}
 use mathlib.Core.Bool.{true, false}
 use mathlib.Core.List.{List, [], _∷_, map}
-use native.Mathlib.Nat.{mul-le-mul}
 use native.Mathlib.Omega.{arith}
-use borrow.Author.Tests.{le-leb}
 use lib.IntN.{ℤ, pos, _+ℤ_, _*ℤ_, +ℤ-idr}
 use lib.Signed.{leZ}
+use Rattle.numbers.proofs.Above.{le-above}
 use Rattle.line.specs.Refusal.{fine}
-use Rattle.table.specs.Tree.{Forest, end, leaf, inner, isEnd}
 use Rattle.table.specs.Table.{Table, tree, readText, greatest, grain}
 use Rattle.table.specs.Slices.{heightTree}
-use Rattle.table.specs.Accepted.{span, Rooted}
-use Rattle.table.proofs.Heights.{height-back, heights-map}
-use Rattle.table.proofs.Accepted.{accepted-ranged, accepted-grain, accepted-proper, accepted-filled, accepted-balanced, heights-rooted, heights-proper, heights-balanced}
+use Rattle.table.specs.Accepted.{span}
+use Rattle.table.proofs.Heights.{heights-map}
+use Rattle.table.proofs.Accepted.{accepted-ranged, accepted-proper, accepted-filled, accepted-balanced, heights-rooted, heights-proper, heights-balanced}
+use Rattle.table.proofs.Ends.{rooted-some, top}
 use Rattle.worth.specs.Worth.{Share, shares, worthOf, firstWorth, Exact}
 use Rattle.worth.specs.Heights.{heightShares, firstHeight, heightWorth, raised, ExactHeights, SmallWorths}
-use Rattle.worth.proofs.Signs.{plus, minus, parts, is-le}
 use Rattle.worth.proofs.Bounds.{Each, small, small-each}
 use Rattle.worth.proofs.Even.{exact-heights}
-use Rattle.worth.proofs.Shift.{lift, leaf-shift, first-shift, some-shares, shares-shift, exact-shift}
-use Rattle.worth.proofs.Span.{accepted-span}
-
-pub rooted-some : (F : Forest ℕ) → Rooted F → isEnd F ≡ false
-rooted-some end r = absurd r
-rooted-some (leaf n w v rest) r = refl
-rooted-some (inner n w k under rest) r = refl
+use Rattle.worth.proofs.Shift.{first-shift, some-shares, shares-shift, exact-shift}
 
 first-each : (P : ℕ → Type 0) (xs : List (Share ℕ)) → P 0 → Each P xs → P (firstHeight xs)
 first-each P [] z e = z
 first-each P (x ∷ xs) z e = e .0
-
--- more above b
-pub le-above : (b : ℤ) (x y : ℕ) → x ≤ y → leZ (b +ℤ pos x) (b +ℤ pos y) ≡ true
-le-above b x y h =
-    let p : ℕ = plus b in
-    let q : ℕ = minus b in
-    is-le (b +ℤ pos x) (b +ℤ pos y) (p + x) q (p + y) q (lift b p q x (parts b)) (lift b p q y (parts b)) ∙ le-leb (p + x + q) (p + y + q) (omega arith)
 
 module _ (s : List ℕ) (t : Table) (h : readText s ≡ fine t) where
   -- ---- over heights
@@ -51,13 +36,6 @@ module _ (s : List ℕ) (t : Table) (h : readText s ≡ fine t) where
   pub heights-small : SmallWorths (t .head .total) (grain t) (span (t .head) * grain t) (heightTree t)
   heights-small =
       small (t .head .total) (grain t) (greatest (t .lines)) (span (t .head)) 0 0 false (heightTree t) (heights-proper s t h) (heights-balanced s t h)
-
-  pub span-grains : span (t .head) * grain t ≤ 2000000 * 16777216
-  span-grains = mul-le-mul (accepted-span s t h) (accepted-grain s t h)
-
-  -- no sum under a C is greater than this
-  pub sum-grains : t .head .total * (span (t .head) * grain t) ≤ 64 * (2000000 * 16777216)
-  sum-grains = mul-le-mul (accepted-ranged s t h .total) span-grains
 
   pub height-within : heightWorth t ≤ span (t .head) * grain t
   height-within =
@@ -84,15 +62,9 @@ module _ (s : List ℕ) (t : Table) (h : readText s ≡ fine t) where
       exact-shift (t .head .total) (grain t) (t .head) (accepted-ranged s t h .some) (greatest (t .lines)) 0 0 false (tree t) (accepted-proper s t h)
       (accepted-filled s t h) (accepted-balanced s t h) (rw (heights-map t) at heights-exact)
 
-  -- the highest end in grains
-  pub top : t .head .highest *ℤ pos (grain t) ≡ t .head .lowest *ℤ pos (grain t) +ℤ pos (span (t .head) * grain t)
-  top =
-      ap (λ (z : ℤ). z *ℤ pos (grain t)) (sym (height-back (t .head .lowest) (t .head .highest) (accepted-ranged s t h .order)))
-      ∙ leaf-shift (t .head .lowest) (span (t .head)) (grain t)
-
   pub within : (leZ (t .head .lowest *ℤ pos (grain t)) (worthOf t) ≡ true) × (leZ (worthOf t) (t .head .highest *ℤ pos (grain t)) ≡ true)
   within =
       let b : ℤ = t .head .lowest *ℤ pos (grain t) in (
         ap (λ (z : ℤ). leZ b z) shift ∙ ap (λ (z : ℤ). leZ z (b +ℤ pos (heightWorth t))) (sym (+ℤ-idr b)) ∙ le-above b 0 (heightWorth t) (omega arith),
-        ap₂ leZ shift top ∙ le-above b (heightWorth t) (span (t .head) * grain t) height-within,
+        ap₂ leZ shift (top s t h) ∙ le-above b (heightWorth t) (span (t .head) * grain t) height-within,
       )

@@ -1,12 +1,13 @@
 -- The worth by a run of lines: how the lines, and the slices beside them, hold nodes, and what the code computes with.
-use Prim.Native.Nat.{ℕ, _+_, _-_, _*_, _/_, _≤_, _<_, min, max}
+use Prim.Native.Nat.{ℕ, _+_, _-_, _*_, _≤_, _<_}
 use mathlib.Core.Path.{_≡_}
 use mathlib.Core.Bool.{true, false}
 use mathlib.Core.List.{List, [], _∷_}
 use lib.ListN.{length, getD, take, drop}
 use Rattle.line.specs.Line.{letterCode}
-use Rattle.table.specs.Tree.{Kind, MAX, MIN, CHANCE, Forest, end, leaf, inner, codeOf, isChance, isEnd}
+use Rattle.table.specs.Tree.{Kind, Forest, end, leaf, inner, codeOf, isChance, isEnd}
 use Rattle.table.specs.Accepted.{Filled}
+use Rattle.table.specs.Inside.{taken}
 use Rattle.worth.specs.declared.Scale.{Scale}
 use Rattle.worth.specs.Worth.{Share}
 use Rattle.worth.specs.Heights.{heightValue, heightShares, summed, SmallWorths}
@@ -44,22 +45,6 @@ Lays S c e s (inner n w k under rest) =
     × (getD (S .weights) c 0 ≡ w)
     × Lays S (c + 1) (getD (S .stops) c 0) (take (25 * (getD (S .stops) c 0 - (c + 1))) (drop 25 s)) under
     × Lays S (getD (S .stops) c 0) e (drop (25 * (getD (S .stops) c 0 - c)) s) rest
-
--- Equation (1) child by child: what stands before the first child, after one more, and at the end. `top` is the greatest height.
-abbrev pub begin : ℕ → Kind → ℕ
-begin top MAX = 0
-begin top MIN = top
-begin top CHANCE = 0
-
-abbrev pub taken : Kind → ℕ → ℕ → ℕ → ℕ
-taken MAX a w h = max a h
-taken MIN a w h = min a h
-taken CHANCE a w h = a + w * h
-
-abbrev pub sealed : ℕ → Kind → ℕ → ℕ
-sealed T MAX a = a
-sealed T MIN a = a
-sealed T CHANCE a = a / T
 
 unfoldable pub takeAll : Kind → ℕ → List (Share ℕ) → ℕ
 takeAll k a [] = a

@@ -1,25 +1,12 @@
 -- The worth of a table: equation (1) of document 000, in whole grains. Document 01, 'Grains'.
-use Prim.Native.Nat.{ℕ, suc, _+_, _-_, _/_}
-use mathlib.Core.Bool.{true, cond}
+use Prim.Native.Nat.{ℕ}
+use mathlib.Core.Bool.{true}
 use mathlib.Core.List.{List, [], _∷_}
 use mathlib.Core.Path.{_≡_}
-use lib.IntN.{ℤ, pos, negsuc, negℤ, _+ℤ_, _*ℤ_}
-use lib.Signed.{leZ}
+use lib.IntN.{ℤ, pos, _+ℤ_, _*ℤ_}
+use Rattle.numbers.specs.Integers.{maxZ, minZ, floorZ}
 use Rattle.table.specs.Tree.{Kind, MAX, MIN, CHANCE, Forest, end, leaf, inner, isChance}
 use Rattle.table.specs.Table.{Table, tree, grain}
-
--- the greater and the lesser of two, for the maximum and the minimum of equation (1)
-unfoldable pub maxZ : ℤ → ℤ → ℤ
-maxZ a b = cond (leZ a b) b a
-
-unfoldable pub minZ : ℤ → ℤ → ℤ
-minZ a b = cond (leZ a b) a b
-
--- A number divided by d, rounded down. Below zero, at minus n + 1, it is minus the quotient of n + 1 rounded up. `Exact` below says that
--- nothing is rounded.
-unfoldable pub floorZ : ℤ → ℕ → ℤ
-floorZ (pos n) d = pos (n / d)
-floorZ (negsuc n) d = negℤ (pos ((suc n + (d - 1)) / d))
 
 -- a child of a node, as its parent sees it: its weight where the parent is a C, and its worth
 pub record Share (A : Type 0) : Type 0 where

@@ -3,7 +3,8 @@ ghost use mathlib.Core.Path.{_≡_};
 ghost use Prim.Native.Nat.{_+_, _*_, _<_, _≤_};
 ghost use lib.ListN.{length, getD, take, drop};
 ghost use Rattle.table.specs.Tree.{MAX, CHANCE, kindOf};
-ghost use Rattle.worth.specs.Inside.{kindIn, beside, begin, taken, sealed, ReadyRun, Worthy};
+ghost use Rattle.worth.specs.Inside.{kindIn, beside, ReadyRun, Worthy};
+ghost use Rattle.table.specs.Inside.{begin, taken, sealed};
 
 // A table's total and grain count, and the highest end's grains above the lowest.
 pub struct Scale {

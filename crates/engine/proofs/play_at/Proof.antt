@@ -2,7 +2,7 @@
 use mathlib.Core.Path.{ap, sym, refl}
 use borrow.Author.Tests.{ne-eqb}
 use Prim.Native.Nat.{ℕ}
-use Rattle.judge.specs.Judge.{playOf}
+use Rattle.table.specs.Root.{playOf}
 use Rattle.search.specs.Inside.{playAt}
 use Rattle.engine.proofs.play_at.Statement.{statement}
 use Rattle.engine.proofs.play_at.Tie as tie

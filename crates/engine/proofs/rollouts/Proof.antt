@@ -3,7 +3,7 @@
 -- The text and the policy list are Copy: a copy of what each owns goes to `roll`. The borrows of the store and of the leaf list are given up for good.
 -- Assumes nothing.
 use mathlib.Core.Path.{_≡_, refl, sym, ap₂, subst₂, _∙_}
-use Prim.Native.Nat.{ℕ, _≤_, _<_}
+use Prim.Native.Nat.{ℕ, _≤_}
 use mathlib.Core.List.{[], _∷_, List}
 use native.Mathlib.Omega.{arith}
 use lib.Dec.{lit<}

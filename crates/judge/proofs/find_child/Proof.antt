@@ -8,7 +8,7 @@ use denote.Ref.{now}
 use mir.Syntax.{w64}
 use mir.ValLaws.{toZ-ofZ}
 use Rattle.line.specs.Line.{toNat}
-use Rattle.judge.specs.Judge.{numbered, playOf}
+use Rattle.table.specs.Root.{numbered, playOf}
 use Rattle.judge.proofs.Walk.{nth, numbered-nth, WalkingAll, walk-start, walk-on, walk-turn, walk-found, walk-none}
 use Rattle.judge.proofs.find_child.Statement.{statement}
 use Rattle.judge.proofs.find_child.Tie as tie

@@ -11,8 +11,8 @@ use mir.Syntax.{w64}
 use mir.Val.{toZ, ofZ}
 use mir.ValLaws.{toZ-ofZ}
 use Rattle.line.specs.Line.{toNat}
+use Rattle.table.specs.Root.{numbered, playOf}
 use Rattle.worth.specs.Inside.{beside}
-use Rattle.judge.specs.Judge.{numbered, playOf}
 use Rattle.judge.specs.Inside.{sideIf, Decided}
 use Rattle.judge.proofs.Root.{height, chain-of, under-of, list-some, list-room, entry-of, best-of, ahead-of, level-of, Found, found, found-ahead, well-none, well-lost}
 use Rattle.judge.proofs.judge_root.Statement.{statement}

@@ -5,8 +5,8 @@ use borrow.Author.Needs.{needs}
 use denote.Ref.{now}
 use mir.Syntax.{w64}
 use mir.ValLaws.{toZ-ofZ}
+use Rattle.table.specs.Root.{AtM, AtN}
 use Rattle.worth.specs.Inside.{beside}
-use Rattle.judge.specs.Judge.{AtM, AtN}
 use Rattle.judge.specs.Inside.{forestJudge, WholeLines, Decided}
 use Rattle.judge.proofs.Root.{root-line, root-m, root-n, root-else, whole-undecided}
 use Rattle.judge.proofs.judge_table.Statement.{statement}

@@ -5,9 +5,9 @@ use native.Mathlib.Omega.{arith}
 use denote.Ref.{now}
 use lib.ListN.{drop-of-length-le}
 use lib.Seq.{drop-cons}
+use borrow.Author.Needs.{needs}
 use Rattle.rollout.specs.Rollout.{pick}
 use Rattle.rollout.specs.Lists.{candidatesS}
-use borrow.Author.Needs.{needs}
 use Rattle.rollout.proofs.choice.Statement.{statement}
 use Rattle.rollout.proofs.choice.Tie as tie
 

@@ -5,8 +5,8 @@ use native.Mathlib.Omega.{arith}
 use denote.Ref.{now}
 use lib.ListN.{drop, drop-of-length-le}
 use lib.Seq.{drop-cons}
-use Rattle.rollout.specs.Rollout.{spend}
 use borrow.Author.Needs.{needs}
+use Rattle.rollout.specs.Rollout.{spend}
 use Rattle.rollout.proofs.consume.Statement.{statement}
 use Rattle.rollout.proofs.consume.Tie as tie
 

@@ -4,8 +4,8 @@ use mathlib.Core.Path.{_≡_, ap}
 use native.Mathlib.Omega.{arith}
 use denote.Ref.{now}
 use lib.ListN.{getD, set}
-use Rattle.worth.proofs.Codes.{mul-most}
 use borrow.Author.Needs.{needs}
+use Rattle.worth.proofs.Codes.{mul-most}
 use Rattle.rollout.proofs.read_leaf.Statement.{statement}
 use Rattle.rollout.proofs.read_leaf.Tie as tie
 

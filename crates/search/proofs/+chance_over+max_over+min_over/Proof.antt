@@ -10,8 +10,7 @@ use lib.ListN.{length, getD}
 use Rattle.table.specs.Tree.{MAX, MIN, CHANCE}
 use Rattle.search.specs.Inside.{slices, start, alphaFor, betaFor}
 use Rattle.search.proofs.Forest.{step, fit-weight, alpha-ok, beta-ok}
-use Rattle.search.proofs.Rules.{within, NodeSearched, searched-same, searched-window, searched-leaf, searched-inner, chance-state, Going, going-start}
-use Rattle.search.proofs.Rules.{Child, child-of, child-asks, child-three, child-leaf, Turn, turn-same, turn-less, turn-margin, turn-last, turn-cut, turn-on}
+use Rattle.search.proofs.Rules.{within, NodeSearched, searched-same, searched-window, searched-leaf, searched-inner, chance-state, Going, going-start, Child, child-of, child-asks, child-three, child-leaf, Turn, turn-same, turn-less, turn-margin, turn-last, turn-cut, turn-on}
 use Rattle.search.proofs.chance_over.Reads as chance-over
 use Rattle.search.proofs.chance_over.Kinds as chance-over-kinds
 use Rattle.search.proofs.+chance_over+max_over+min_over.Lts-chance_over as chance-over-lts

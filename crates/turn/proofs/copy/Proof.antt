@@ -7,7 +7,7 @@ use denote.Ref.{now}
 use lib.ListN.{length}
 use lib.Seq.{take-all}
 use Rattle.table.specs.Slices.{laid}
-use Rattle.table.proofs.Copied.{Copying, copying-none, copying-more}
+use Rattle.reading.proofs.Copied.{Copying, copying-none, copying-more}
 use Rattle.turn.proofs.copy.Statement.{statement}
 use Rattle.turn.proofs.copy.Tie as tie
 

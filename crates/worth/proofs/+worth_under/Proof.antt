@@ -4,11 +4,11 @@ use mathlib.Core.Path.{_≡_, sym, _∙_}
 use mathlib.Core.Logic.{⊎-elim}
 use native.Mathlib.Omega.{arith}
 use lib.ListN.{take, drop}
+use borrow.Fn.Kinds.{In}
+use borrow.Fn.PlainCycle.{Measures, is, falls, and}
 use Rattle.table.specs.Tree.{kindOf}
 use Rattle.worth.specs.Inside.{beside, ReadyRun}
 use Rattle.worth.proofs.Run.{Child, GoingAll, going-start, going-end, Next, next-of, Turn, turn-of, child-of, leaf-of, turn-fits, turn-on}
-use borrow.Fn.Kinds.{In}
-use borrow.Fn.PlainCycle.{Measures, is, falls, and}
 use Rattle.worth.proofs.worth_under.Reads as worth-under
 use Rattle.worth.proofs.worth_under.Kinds as worth-under-kinds
 use Rattle.worth.proofs.+worth_under.Lts-worth_under as worth-under-lts

@@ -1,0 +1,365 @@
+// A table's text: refused with the number and the line of document 01, or decoded into number slices.
+ghost use mathlib.Core.Path.{_≡_};
+ghost use mathlib.Core.List.{[]};
+ghost use Prim.Native.Nat.{_+_, _*_, _-_, _<_, _≤_, _^_};
+ghost use lib.ListN.{length, set, drop, take};
+ghost use lib.Signed.{mag};
+ghost use Rattle.line.specs.Line.{Ranged};
+ghost use Rattle.line.specs.Inside.{Sized};
+ghost use Rattle.table.specs.Table.{nodeLines, linesOf, badLength, readText, answer};
+ghost use Rattle.table.specs.Slices.{heightOf, laid, fitted, kindsOf, stopsOf, weightsOf, heightsOf, decoded};
+ghost use Rattle.reading.specs.Inside.{Roomed, Gathered, stopIn, stopsFrom, HasStops, firstOr, scanFrom, bareAt, Has, weighAt, oddAt, completeAt, Decoded};
+use line::Head;
+use line::HeadRead;
+use line::Line;
+use line::Placing;
+use line::Refusal;
+use numbers::index;
+use numbers::max_of;
+use numbers::wide8;
+use table::Reading;
+use table::Summary;
+
+// All node lines: the greatest number of C on a path, and the number of leaves.
+pub enum Lines {
+    Fine(u64, usize),
+    Refused(Refusal),
+}
+
+// How many points a leaf stands above the lowest end.
+fn height_of(l: Line, lowest: i64) -> u32
+    requires { ⌜ (mag (l .utility) ≤ 1000000) × (mag lowest ≤ 1000000) ⌝ }
+    ensures { λ r. ⌜ r ≡ heightOf lowest l ⌝ }
+{
+    if l.kind == 0 {
+        return line::natural(l.utility - lowest) as u32;
+    }
+    0
+}
+
+// The decoded line of node i, stored.
+fn store(
+    l: Line,
+    i: usize,
+    lowest: i64,
+    kind: &mut [u8],
+    up: &mut [u16],
+    weight: &mut [u8],
+    height: &mut [u32],
+)
+    requires { ⌜ Roomed i (now kind) (now up) (now weight) (now height) × Sized l × (mag lowest ≤ 1000000) ⌝ }
+    ensures kinds { λ _. ⌜ now (kind .exit) ≡ set (now (kind .entry)) i (l .kind) ⌝ }
+    ensures ups { λ _. ⌜ now (up .exit) ≡ set (now (up .entry)) i (l .parent) ⌝ }
+    ensures weights { λ _. ⌜ now (weight .exit) ≡ set (now (weight .entry)) i (l .weight) ⌝ }
+    ensures heights { λ _. ⌜ now (height .exit) ≡ set (now (height .entry)) i (heightOf lowest l) ⌝ }
+{
+    kind[i] = l.kind;
+    up[i] = l.parent as u16;
+    weight[i] = l.weight as u8;
+    height[i] = height_of(l, lowest);
+}
+
+// All n node lines from the top, decoded into the slices; `up` holds the parents.
+fn node_lines(
+    text: &[u8],
+    n: usize,
+    h: Head,
+    kind: &mut [u8],
+    up: &mut [u16],
+    weight: &mut [u8],
+    height: &mut [u32],
+) -> Lines
+    requires { ⌜ Roomed 1023 (now kind) (now up) (now weight) (now height) × (n ≤ 1024) × (25 * n + 25 ≡ length (now text)) × Ranged h ⌝ }
+    ensures { λ r. ⌜ Gathered (h .lowest) (nodeLines h n 0 [] (drop 25 (now (text .entry)))) r (now (kind .entry)) (now (up .entry)) (now (weight .entry)) (now (height .entry)) (now (kind .exit)) (now (up .exit)) (now (weight .exit)) (now (height .exit)) ⌝ }
+{
+    let mut nodes = [0u64; 64];
+    let mut kinds = [0u8; 64];
+    let mut chances = [0u64; 64];
+    let mut depth: usize = 0;
+    let mut most: u64 = 0;
+    let mut leaves: u64 = 0;
+    let mut i: usize = 0;
+    while i < n {
+        let at = 25 * i + 25;
+        match line::node_line(&text[at..at + 25], i, h, &nodes, &kinds, &chances, depth) {
+            Placing::Refused(r) => {
+                return Lines::Refused(r);
+            }
+            Placing::At(l, d) => {
+                nodes[d] = i as u64;
+                kinds[d] = l.kind;
+                chances[d] = l.chances;
+                depth = d + 1;
+                most = max_of(most, l.chances);
+                leaves = leaves + line::one_if(l.kind == 0);
+                store(l, i, h.lowest, kind, up, weight, height);
+            }
+        }
+        i += 1;
+    }
+    Lines::Fine(most, leaves as usize)
+}
+
+// One past the run of node i, from child to child: the entries of the later nodes are there, and `next` is that of node i + 1, so that on a
+// path no entry is waited for that was just written.
+fn run_end(up: &[u16], stop: &[u16], i: usize, n: usize, next: usize) -> usize
+    requires { ⌜ (i < n) × (n ≤ length (now up)) × (n ≤ length (now stop)) × (n ≤ 1024) × HasStops (take n (now up)) (now stop) (i + 1) × (i + 1 < n → next ≡ stopIn (take n (now up)) (i + 1)) ⌝ }
+    ensures { λ r. ⌜ r ≡ stopIn (take n (now (up .entry))) i ⌝ }
+{
+    let c = i + 1;
+    if n <= c {
+        return c;
+    }
+    if index(up[c]) < i {
+        return c;
+    }
+    let mut j = next;
+    while j < n {
+        if index(up[j]) < i {
+            return j;
+        }
+        j = index(stop[j]);
+    }
+    j
+}
+
+// One past the run of each of n nodes, the last node first.
+fn stops(up: &[u16], n: usize, stop: &mut [u16])
+    requires { ⌜ (n ≤ length (now up)) × (n ≤ length (now stop)) × (n ≤ 1024) ⌝ }
+    ensures { λ _. ⌜ now (stop .exit) ≡ laid (stopsFrom 0 (take n (now (up .entry)))) (now (stop .entry)) ⌝ }
+{
+    let mut i = n;
+    let mut e = n;
+    while 0 < i {
+        i -= 1;
+        e = run_end(up, stop, i, n, e);
+        stop[i] = e as u16;
+    }
+}
+
+// The first node of kind M, N or C whose run is itself alone, or n.
+fn first_childless(kind: &[u8], stop: &[u16], n: usize) -> usize
+    requires { ⌜ (n ≤ length (now kind)) × (n ≤ length (now stop)) × (n ≤ 1024) ⌝ }
+    ensures { λ r. ⌜ r ≡ firstOr n (scanFrom (bareAt (now (kind .entry)) (now (stop .entry))) 0 n) ⌝ }
+{
+    let mut i = 0;
+    while i < n {
+        if (kind[i] != 0) & (index(stop[i]) == i + 1) {
+            return i;
+        }
+        i += 1;
+    }
+    n
+}
+
+// The weights of the children in the entries from c up to e, from child to child.
+fn sum_weights(kind: &[u8], stop: &[u16], weight: &[u8], c: usize, e: usize) -> u64
+    requires { ⌜ (e ≤ length (now stop)) × (e ≤ length (now weight)) × (e ≤ 1024) × Has (now kind) (now stop) (now weight) c e ⌝ }
+    ensures { λ r. ⌜ r ≡ weighAt (now (stop .entry)) (now (weight .entry)) 1024 c e ⌝ }
+{
+    let mut sum: u64 = 0;
+    let mut j = c;
+    while j < e {
+        sum = sum + wide8(weight[j]);
+        j = index(stop[j]);
+    }
+    sum
+}
+
+// Whether node i is a C whose children's weights do not sum to the total.
+fn is_unbalanced(kind: &[u8], stop: &[u16], weight: &[u8], n: usize, total: u64, i: usize) -> bool
+    requires { ⌜ (i < n) × (n ≤ length (now kind)) × (n ≤ length (now stop)) × (n ≤ length (now weight)) × (n ≤ 1024) × Has (now kind) (now stop) (now weight) 0 n ⌝ }
+    ensures { λ r. ⌜ r ≡ oddAt (now (kind .entry)) (now (stop .entry)) (now (weight .entry)) total i ⌝ }
+{
+    if kind[i] != 3 {
+        return false;
+    }
+    sum_weights(kind, stop, weight, i + 1, index(stop[i])) != total
+}
+
+// The first such node, or n.
+fn first_unbalanced(kind: &[u8], stop: &[u16], weight: &[u8], n: usize, total: u64) -> usize
+    requires { ⌜ (n ≤ length (now kind)) × (n ≤ length (now stop)) × (n ≤ length (now weight)) × (n ≤ 1024) × Has (now kind) (now stop) (now weight) 0 n ⌝ }
+    ensures { λ r. ⌜ r ≡ firstOr n (scanFrom (oddAt (now (kind .entry)) (now (stop .entry)) (now (weight .entry)) total) 0 n) ⌝ }
+{
+    let mut i = 0;
+    while i < n {
+        if is_unbalanced(kind, stop, weight, n, total, i) {
+            return i;
+        }
+        i += 1;
+    }
+    n
+}
+
+// base to the power k.
+fn power(base: u64, k: u64) -> u64
+    requires { ⌜ (base ≤ 64) × (k ≤ 4) ⌝ }
+    ensures { λ r. ⌜ r ≡ base ^ k ⌝ }
+{
+    let mut p: u64 = 1;
+    let mut j: u64 = 0;
+    while j < k {
+        p = p * base;
+        j += 1;
+    }
+    p
+}
+
+// A table whose node lines are decoded: 8, then 9, then accepted.
+fn completed(
+    h: Head,
+    most: u64,
+    leaves: usize,
+    kind: &[u8],
+    stop: &[u16],
+    weight: &[u8],
+    n: usize,
+) -> Reading
+    requires { ⌜ (n ≤ length (now kind)) × (n ≤ length (now stop)) × (n ≤ length (now weight)) × (n ≤ 1024) × (h .total ≤ 64) × (most ≤ 4) × Has (now kind) (now stop) (now weight) 0 n ⌝ }
+    ensures { λ r. ⌜ r ≡ completeAt (now (kind .entry)) (now (stop .entry)) (now (weight .entry)) n h most leaves ⌝ }
+{
+    let bare = first_childless(kind, stop, n);
+    let odd = first_unbalanced(kind, stop, weight, n, h.total);
+    if bare < n {
+        return Reading::Refused(Refusal::Childless(bare + 1));
+    }
+    if odd < n {
+        return Reading::Refused(Refusal::WrongSum(odd + 1));
+    }
+    Reading::Accepted(Summary {
+        nodes: n,
+        total: h.total,
+        lowest: h.lowest,
+        highest: h.highest,
+        chances: most,
+        grain: power(h.total, most),
+        leaves: leaves,
+    })
+}
+
+// The first n entries, or as many as there is room for, copied: once for each width.
+fn keep8(n: usize, from: &[u8], to: &mut [u8])
+    requires { ⌜ n ≤ length (now from) ⌝ }
+    ensures { λ _. ⌜ now (to .exit) ≡ fitted (take n (now (from .entry))) (now (to .entry)) ⌝ }
+{
+    let mut i = 0;
+    while i < n {
+        if to.len() <= i {
+            return;
+        }
+        to[i] = from[i];
+        i += 1;
+    }
+}
+
+fn keep16(n: usize, from: &[u16], to: &mut [u16])
+    requires { ⌜ n ≤ length (now from) ⌝ }
+    ensures { λ _. ⌜ now (to .exit) ≡ fitted (take n (now (from .entry))) (now (to .entry)) ⌝ }
+{
+    let mut i = 0;
+    while i < n {
+        if to.len() <= i {
+            return;
+        }
+        to[i] = from[i];
+        i += 1;
+    }
+}
+
+fn keep32(n: usize, from: &[u32], to: &mut [u32])
+    requires { ⌜ n ≤ length (now from) ⌝ }
+    ensures { λ _. ⌜ now (to .exit) ≡ fitted (take n (now (from .entry))) (now (to .entry)) ⌝ }
+{
+    let mut i = 0;
+    while i < n {
+        if to.len() <= i {
+            return;
+        }
+        to[i] = from[i];
+        i += 1;
+    }
+}
+
+// The node lines of a table whose header was read, then 8 and 9.
+fn decode_lines(
+    text: &[u8],
+    n: usize,
+    h: Head,
+    kind: &mut [u8],
+    stop: &mut [u16],
+    weight: &mut [u8],
+    height: &mut [u32],
+) -> Reading
+    requires { ⌜ Roomed 1023 (now kind) (now stop) (now weight) (now height) × (0 < n) × (n ≤ 1024) × (25 * n + 25 ≡ length (now text)) × Ranged h ⌝ }
+    ensures { λ r. ⌜ Decoded (linesOf h n (drop 25 (now (text .entry)))) r (now (kind .entry)) (now (stop .entry)) (now (weight .entry)) (now (height .entry)) (now (kind .exit)) (now (stop .exit)) (now (weight .exit)) (now (height .exit)) ⌝ }
+{
+    let mut up = [0u16; 1024];
+    match node_lines(text, n, h, kind, &mut up, weight, height) {
+        Lines::Refused(r) => Reading::Refused(r),
+        Lines::Fine(most, leaves) => {
+            stops(&up, n, stop);
+            completed(h, most, leaves, kind, stop, weight, n)
+        }
+    }
+}
+
+fn is_bad_length(n: usize) -> bool
+    ensures { λ r. ⌜ r ≡ badLength n ⌝ }
+{
+    (n % 25 != 0) | (n < 50) | (25625 < n)
+}
+
+// Reads any text into slices of 1,024 entries or more, for a caller to whom they are its own: a refused table may leave something in them.
+pub fn decode(
+    text: &[u8],
+    kind: &mut [u8],
+    stop: &mut [u16],
+    weight: &mut [u8],
+    height: &mut [u32],
+) -> Reading
+    requires { ⌜ Roomed 1023 (now kind) (now stop) (now weight) (now height) ⌝ }
+    ensures { λ r. ⌜ Decoded (readText (now (text .entry))) r (now (kind .entry)) (now (stop .entry)) (now (weight .entry)) (now (height .entry)) (now (kind .exit)) (now (stop .exit)) (now (weight .exit)) (now (height .exit)) ⌝ }
+{
+    if is_bad_length(text.len()) {
+        return Reading::Refused(Refusal::Length);
+    }
+    let n = text.len() / 25 - 1;
+    match line::header(&text[0..25], n) {
+        HeadRead::Refused(r) => Reading::Refused(r),
+        HeadRead::Fine(h) => decode_lines(text, n, h, kind, stop, weight, height),
+    }
+}
+
+// Reads any text. An accepted table's nodes are decoded into the four slices, by node number: kind (0 for L, 1 for M, 2 for N,
+// 3 for C), one past the node's run, weight (0 where there is none), and for a leaf its points above the lowest end (0 for the others).
+// A slice that is too short gets as many entries as it has room for; 1,024 are always enough. A refused table writes nothing.
+pub fn read(
+    text: &[u8],
+    kind: &mut [u8],
+    stop: &mut [u16],
+    weight: &mut [u8],
+    height: &mut [u32],
+) -> Reading
+    ensures answers { λ r. ⌜ r ≡ answer (readText (now (text .entry))) ⌝ }
+    ensures kinds { λ _. ⌜ now (kind .exit) ≡ fitted (decoded kindsOf (readText (now (text .entry)))) (now (kind .entry)) ⌝ }
+    ensures stops { λ _. ⌜ now (stop .exit) ≡ fitted (decoded stopsOf (readText (now (text .entry)))) (now (stop .entry)) ⌝ }
+    ensures weights { λ _. ⌜ now (weight .exit) ≡ fitted (decoded weightsOf (readText (now (text .entry)))) (now (weight .entry)) ⌝ }
+    ensures heights { λ _. ⌜ now (height .exit) ≡ fitted (decoded heightsOf (readText (now (text .entry)))) (now (height .entry)) ⌝ }
+{
+    let mut k = [0u8; 1024];
+    let mut s = [0u16; 1024];
+    let mut w = [0u8; 1024];
+    let mut g = [0u32; 1024];
+    match decode(text, &mut k, &mut s, &mut w, &mut g) {
+        Reading::Refused(r) => Reading::Refused(r),
+        Reading::Accepted(t) => {
+            let n = t.nodes;
+            keep8(n, &k, kind);
+            keep16(n, &s, stop);
+            keep8(n, &w, weight);
+            keep32(n, &g, height);
+            Reading::Accepted(t)
+        }
+    }
+}
