@@ -20,6 +20,7 @@ use Rattle.table.specs.Slices.{kindsOf, stopsOf, heightsOf, fitted, laid, decod
 use Rattle.table.specs.Accepted.{span}
 use Rattle.table.proofs.Accepted.{answer-accepted, accepted-size, accepted-leaves}
 use Rattle.table.proofs.Ends.{span-grains}
+use Rattle.scale.specs.Inside.{scaleFor}
 use Rattle.rollout.specs.Lists.{AtEnds}
 use Rattle.rollout.specs.declared.Record.{Record}
 use Rattle.rollout.specs.Rollout.{Pair}
@@ -28,7 +29,7 @@ use Rattle.rollout.specs.Inside.{stored, ReadyRoll, WellRolled}
 use Rattle.rollout.proofs.Given.{Given, accepted-roll-ready, accepted-rolled}
 use Rattle.engine.specs.declared.Rolled.the-variants.{Done, Refused}
 use Rattle.engine.specs.Calls.{rolls, rollAnswer, rollList, rollRecords, rollCall, rollReads, rollStore, recordOf, recorded}
-use Rattle.engine.specs.Inside.{scaleFor, Started, RollsTo}
+use Rattle.engine.specs.Inside.{Started, RollsTo}
 
 -- ---- the call's own refusals
 

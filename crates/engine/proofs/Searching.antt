@@ -19,6 +19,8 @@ use Rattle.table.specs.Slices.{laid}
 use Rattle.table.specs.Root.{playOf}
 use Rattle.table.proofs.Accepted.{accepted-leaves}
 use Rattle.table.proofs.Ends.{span-grains}
+use Rattle.scale.specs.Inside.{scaleFor}
+use Rattle.scale.proofs.Taken.{zeros, zeros-enough, Taken, of-table}
 use Rattle.search.specs.declared.Rule.{Rule}
 use Rattle.search.specs.declared.Found.{Found}
 use Rattle.search.specs.Heights.{heightSearched}
@@ -28,8 +30,7 @@ use Rattle.search.proofs.Ready.{accepted-search-ready, accepted-searched}
 use Rattle.search.proofs.Demand.{heights-hold, heights-order, shifted}
 use Rattle.engine.specs.declared.Bounded.the-variants.{Found as Given}
 use Rattle.engine.specs.Calls.{badMargin, sought, searchAnswer, searchList, searchCall, searchReads}
-use Rattle.engine.specs.Inside.{scaleFor, ruleFor}
-use Rattle.engine.proofs.Known.{zeros, zeros-enough, Taken, of-table}
+use Rattle.engine.specs.Inside.{ruleFor}
 
 -- ---- the search's own refusals
 

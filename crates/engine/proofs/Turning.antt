@@ -14,6 +14,7 @@ use Rattle.table.specs.declared.Summary.{Summary}
 use Rattle.table.specs.Table.{Table, readText}
 use Rattle.table.specs.Slices.{laid}
 use Rattle.table.proofs.Places.{refused-line}
+use Rattle.scale.proofs.Taken.{zeros, zeros-enough, Taken, of-table}
 use Rattle.turn.specs.Turn.{turnedText}
 use Rattle.turn.specs.Inside.{ReadyText, Turned}
 use Rattle.turn.proofs.Canonical.{canonical}
@@ -21,7 +22,6 @@ use Rattle.turn.proofs.Accepted.{turned-length}
 use Rattle.turn.proofs.Ready.{accepted-turns, accepted-turned}
 use Rattle.engine.specs.declared.Turned.the-variants.{Written, Refused}
 use Rattle.engine.specs.Calls.{turnOf, turnAnswer, turnCall}
-use Rattle.engine.proofs.Known.{zeros, zeros-enough, Taken, of-table}
 
 pub turn-short : (s : List ℕ) (t : Table) (room : ℕ) → readText s ≡ fine t → room < length s → turnOf (readText s) room ≡ refused NoRoom
 unfolding unless

@@ -1,32 +1,20 @@
 -- What the contracts of private functions cite; no public promise names these.
-use Prim.Native.Nat.{ℕ, _*_, _≤_, _<_}
+use Prim.Native.Nat.{ℕ, _≤_, _<_}
 use mathlib.Core.List.{List}
 use mathlib.Core.Path.{_≡_}
-use lib.IntN.{ℤ, _-ℤ_}
+use lib.IntN.{ℤ}
 use lib.ListN.{length, getD, take}
-use lib.Signed.{mag}
 use Rattle.line.specs.Line.{toNat}
 use Rattle.line.specs.Refusal.{Verdict}
-use Rattle.table.specs.declared.Summary.{Summary}
 use Rattle.table.specs.Table.{Table}
 use Rattle.table.specs.Slices.{laid}
-use Rattle.worth.specs.declared.Scale.{Scale}
+use Rattle.scale.specs.declared.Scale.{Scale}
 use Rattle.search.specs.declared.Rule.{Rule}
 use Rattle.rollout.specs.Records.{lowsOf, highsOf, risen, SmallHeights}
 use Rattle.engine.specs.declared.Outcome.{Outcome}
 use Rattle.engine.specs.Calls.{rollCall, rollReads, rollStore}
 
--- an accepted table's ends and grains
-pub record Spread (t : Summary) : Type 0 where
-  pub lowest : mag (t .lowest) ≤ 1000000
-  pub highest : mag (t .highest) ≤ 1000000
-  pub grain : t .grain ≤ 16777216
-
--- the scale that its worth is taken by
-abbrev pub scaleFor : Summary → Scale
-scaleFor t = record { total = t .total; grain = t .grain; top = toNat (t .highest -ℤ t .lowest) * t .grain }
-
--- the numbers that its search goes by
+-- the numbers that a search goes by
 abbrev pub ruleFor : Scale → ℤ → Rule
 ruleFor g margin = record { margin = toNat margin; top = g .top; total = g .total; grain = g .grain }
 

@@ -2,22 +2,20 @@
 ghost use mathlib.Core.Path.{_≡_};
 ghost use Prim.Native.Nat.{_≤_};
 ghost use lib.ListN.{length, replicate};
-ghost use lib.IntN.{pos, _+ℤ_, _*ℤ_};
-ghost use lib.Signed.{mag};
 ghost use Rattle.table.specs.Root.{playOf};
 ghost use Rattle.table.specs.Table.{readText};
 ghost use Rattle.engine.specs.Calls.{exactCall, judgeCall, badMargin, searchCall, searchReads, rollCall, rollReads, rollStore, recorded, turnCall, turnBytes};
 ghost use Rattle.table.specs.Slices.{laid};
 ghost use Rattle.search.specs.Inside.{playAt};
-ghost use Rattle.engine.specs.Inside.{Spread, scaleFor, ruleFor, Started, RollsTo};
+ghost use Rattle.engine.specs.Inside.{ruleFor, Started, RollsTo};
 use judge::Opinion;
 use line::Refusal;
 use rollout::Record;
+use scale::Scale;
 use search::Rule;
 use table::Play;
 use table::Reading;
 use table::Summary;
-use worth::Scale;
 
 // The worth in grains and G, or a refusal.
 pub enum Exact {
@@ -59,26 +57,6 @@ struct Outcome {
     pub base: i64,
 }
 
-fn scale_of(t: Summary) -> Scale
-    requires { ⌜ Spread t ⌝ }
-    ensures { λ r. ⌜ r ≡ scaleFor t ⌝ }
-{
-    let top = line::natural(t.highest - t.lowest) * t.grain;
-    Scale {
-        total: t.total,
-        grain: t.grain,
-        top: top,
-    }
-}
-
-// Grains above the lowest end as grains.
-fn in_grains(lowest: i64, grain: u64, height: u64) -> i64
-    requires { ⌜ (mag lowest ≤ 1000000) × (grain ≤ 16777216) × (height ≤ 35184372088832) ⌝ }
-    ensures { λ r. ⌜ r ≡ lowest *ℤ pos grain +ℤ pos height ⌝ }
-{
-    lowest * (grain as i64) + (height as i64)
-}
-
 // The exact worth of a table, for any text.
 pub fn exact_worth(text: &[u8]) -> Exact
     ensures { λ r. ⌜ r ≡ exactCall (readText (now (text .entry))) ⌝ }
@@ -90,9 +68,9 @@ pub fn exact_worth(text: &[u8]) -> Exact
     match reading::decode(text, &mut kind, &mut stop, &mut weight, &mut height) {
         Reading::Refused(r) => Exact::Refused(r),
         Reading::Accepted(t) => {
-            let g = scale_of(t);
+            let g = scale::scale_of(t);
             let h = worth::worth_of(&text[25..], &stop, &weight, &height, 0, t.nodes, g);
-            Exact::Grains(in_grains(t.lowest, t.grain, h), t.grain)
+            Exact::Grains(scale::in_grains(t.lowest, t.grain, h), t.grain)
         }
     }
 }
@@ -108,7 +86,7 @@ pub fn judge_play(text: &[u8], number: i64) -> Opinion
     match reading::decode(text, &mut kind, &mut stop, &mut weight, &mut height) {
         Reading::Refused(r) => Opinion::Refused(r),
         Reading::Accepted(t) => {
-            let g = scale_of(t);
+            let g = scale::scale_of(t);
             judge::judge_table(&text[25..], &stop, &weight, &height, t.nodes, g, number)
         }
     }
@@ -161,10 +139,10 @@ pub fn search_table(text: &[u8], margin: i64, leaves: &mut [u16]) -> Bounded
             if leaves.len() < t.leaves {
                 return Bounded::Refused(Refusal::NoRoom);
             }
-            let g = rule_of(scale_of(t), margin);
+            let g = rule_of(scale::scale_of(t), margin);
             let f = search::search(&kind, &stop, &weight, &height, leaves, t.nodes, g);
-            let low = in_grains(t.lowest, t.grain, f.low);
-            let high = in_grains(t.lowest, t.grain, f.high);
+            let low = scale::in_grains(t.lowest, t.grain, f.low);
+            let high = scale::in_grains(t.lowest, t.grain, f.high);
             Bounded::Found(Bounds {
                 low: low,
                 high: high,
@@ -247,7 +225,7 @@ fn roll(
                     base: 0,
                 };
             }
-            let g = scale_of(t);
+            let g = scale::scale_of(t);
             start(high, t.nodes, g.top);
             let used = rollout::rollouts(
                 &kind,
@@ -260,9 +238,9 @@ fn roll(
                 t.nodes,
                 t.grain,
             );
-            let base = in_grains(t.lowest, t.grain, 0);
+            let base = scale::in_grains(t.lowest, t.grain, 0);
             Outcome {
-                answer: Rolled::Done(in_grains(t.lowest, t.grain, low[0]), used),
+                answer: Rolled::Done(scale::in_grains(t.lowest, t.grain, low[0]), used),
                 nodes: t.nodes,
                 base: base,
             }

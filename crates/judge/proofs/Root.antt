@@ -16,7 +16,7 @@ use Rattle.table.specs.Slices.{laid}
 use Rattle.table.specs.declared.Play.{Play}
 use Rattle.table.specs.declared.Play.the-variants.{Child, NoPlay}
 use Rattle.table.specs.Root.{Side, AtM, AtN, Root, undecided, decided, rootOf, children, numbered, playOf}
-use Rattle.worth.specs.declared.Scale.{Scale}
+use Rattle.scale.specs.declared.Scale.{Scale}
 use Rattle.worth.specs.Worth.{Share}
 use Rattle.worth.specs.Heights.{heightValue, heightShares, firstHeight, SmallWorths}
 use Rattle.worth.specs.Inside.{kindIn, Beside, Lays}

@@ -11,7 +11,7 @@ use Rattle.table.specs.Tree.{MAX, Forest, end, leaf, inner, isEnd}
 use Rattle.table.specs.Accepted.{Filled}
 use Rattle.table.specs.Slices.{laid}
 use Rattle.table.proofs.Laid.{laid-more}
-use Rattle.worth.specs.declared.Scale.{Scale}
+use Rattle.scale.specs.declared.Scale.{Scale}
 use Rattle.worth.specs.Worth.{Share}
 use Rattle.worth.specs.Heights.{tallest, heightValue, heightShares, SmallWorths}
 use Rattle.worth.specs.Inside.{kindIn, Beside, Lays, ReadyRun, Worthy}

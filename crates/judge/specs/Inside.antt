@@ -12,7 +12,7 @@ use Rattle.table.specs.Accepted.{Filled, Rooted}
 use Rattle.table.specs.Slices.{laid}
 use Rattle.table.specs.declared.Play.{Play}
 use Rattle.table.specs.Root.{Side, AtM, AtN, decided, rootOf, children, numbered, playOf}
-use Rattle.worth.specs.declared.Scale.{Scale}
+use Rattle.scale.specs.declared.Scale.{Scale}
 use Rattle.worth.specs.Worth.{Share}
 use Rattle.worth.specs.Heights.{heightShares, firstHeight, SmallWorths}
 use Rattle.worth.specs.Inside.{Beside, Reach, Lays, OkScale, ReadyRun}

@@ -7,8 +7,8 @@ ghost use Rattle.worth.specs.Inside.{beside};
 ghost use Rattle.judge.specs.Heights.{heightLoss, Ahead};
 ghost use Rattle.judge.specs.Inside.{sideIf, Chain, Played, Under, Listed, better, bestIn, AllAhead, levelOne, levelsIn, WholeLines, WellJudged, Decided, WellDecided};
 use line::Refusal;
+use scale::Scale;
 use table::Play;
-use worth::Scale;
 
 // A root without a decision; or the loss in grains and the number of level children.
 pub enum Judged {

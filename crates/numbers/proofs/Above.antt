@@ -45,4 +45,3 @@ module _ (b : ℤ) where
       let p : ℕ = plus b in
       let q : ℕ = minus b in
       is-le (b +ℤ pos x) (b +ℤ pos y) (p + x) q (p + y) q (lifted x) (lifted y) ∙ le-leb (p + x + q) (p + y + q) (omega arith)
-

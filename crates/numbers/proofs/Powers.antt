@@ -19,4 +19,3 @@ power-dvd T c K h = let e : c + (K - c) ≡ K = omega arith in rw e at (power-ad
 
 pub power-more : (T c : ℕ) → T ^ (c + 1) ≡ T * T ^ c
 power-more T c = rw (add-one c, pow-succ' T c)
-

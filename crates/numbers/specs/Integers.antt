@@ -20,4 +20,3 @@ floorZ (negsuc n) d = negℤ (pos ((suc n + (d - 1)) / d))
 -- z divided by n, rounded up
 unfoldable pub ceilZ : (z : ℤ) (n : ℕ) → ℤ
 ceilZ z n = negℤ (floorZ (negℤ z) n)
-

@@ -23,13 +23,13 @@ use Rattle.table.specs.Root.{children, nodes, numbered, playOf}
 use Rattle.table.proofs.Places.{refused-line}
 use Rattle.table.proofs.Accepted.{accepted-ranged, accepted-size, accepted-grain, accepted-leaves, accepted-leaf-lines}
 use Rattle.table.proofs.Ends.{span-grains}
+use Rattle.scale.proofs.Sums.{few-digits}
 use Rattle.search.specs.Search.{Seen, nodeOf}
 use Rattle.search.specs.Whole.{searched}
 use Rattle.search.proofs.Demand.{heights-hold, heights-order, shifted, play-near, play-small, reads-few}
 use Rattle.engine.specs.declared.Bounds.{Bounds}
 use Rattle.engine.specs.declared.Bounded.the-variants.{Found, Refused}
 use Rattle.engine.specs.Calls.{badMargin, Sought, sought, boundsOf, searchAnswer}
-use Rattle.engine.proofs.Sums.{few-digits}
 use Rattle.printing.specs.Program.{playNumber, leafRow, rowsOf}
 use Rattle.printing.specs.Inside.{Lined, playMarks, Narrow, boundRows}
 use Rattle.printing.proofs.Marks.{marks-few}

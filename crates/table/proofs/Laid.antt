@@ -28,4 +28,3 @@ laid-at xs a b n i e m l = ap (λ (y : List ℕ). getD y i 0) e ∙ List·getD-a
 
 pub fitted-at : (xs a : List ℕ) (n i : ℕ) → length xs ≡ n → n ≤ length a → i < n → getD (fitted xs a) i 0 ≡ getD xs i 0
 fitted-at xs a n i e h l = laid-at xs a (fitted xs a) n i (fitted-all xs a (omega arith)) e l
-

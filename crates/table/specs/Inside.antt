@@ -17,4 +17,3 @@ abbrev pub sealed : ℕ → Kind → ℕ → ℕ
 sealed T MAX a = a
 sealed T MIN a = a
 sealed T CHANCE a = a / T
-

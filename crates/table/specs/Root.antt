@@ -56,4 +56,3 @@ childNode t i = numbered i (nodes (children (tree t)))
 abbrev pub playOf : Option ℕ → Play
 playOf none = NoPlay
 playOf (some n) = Child n
-

@@ -15,7 +15,7 @@ use Rattle.table.proofs.Accepted.{accepted-ranged, accepted-size, accepted-grai
 use Rattle.table.proofs.Complete.{stops-long}
 use Rattle.table.proofs.Laid.{fitted-long}
 use Rattle.table.proofs.Ends.{rooted-some, span-grains}
-use Rattle.worth.specs.declared.Scale.{Scale}
+use Rattle.scale.specs.declared.Scale.{Scale}
 use Rattle.worth.specs.Heights.{tallest, heightValue, heightShares, firstHeight, heightWorth}
 use Rattle.worth.specs.Inside.{Beside, beside, Reach, OkScale, ReadyRun, Worthy}
 use Rattle.worth.proofs.Worth.{heights-small}

@@ -11,7 +11,7 @@ use Rattle.table.specs.Tree.{Kind, MAX, MIN, CHANCE, Forest, end, leaf, inner, 
 use Rattle.table.specs.Accepted.{Filled}
 use Rattle.table.specs.Inside.{begin, taken, sealed}
 use Rattle.table.proofs.Runs.{kind-code}
-use Rattle.worth.specs.declared.Scale.{Scale}
+use Rattle.scale.specs.declared.Scale.{Scale}
 use Rattle.worth.specs.Worth.{Share}
 use Rattle.worth.specs.Heights.{tallest, shortest, summed, heightValue, heightShares, SmallWorths}
 use Rattle.worth.specs.Inside.{kindIn, Beside, Reach, Lays, takeAll, OkScale, ReadyRun}

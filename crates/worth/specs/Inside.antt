@@ -8,7 +8,7 @@ use Rattle.line.specs.Line.{letterCode}
 use Rattle.table.specs.Tree.{Kind, Forest, end, leaf, inner, codeOf, isChance, isEnd}
 use Rattle.table.specs.Accepted.{Filled}
 use Rattle.table.specs.Inside.{taken}
-use Rattle.worth.specs.declared.Scale.{Scale}
+use Rattle.scale.specs.declared.Scale.{Scale}
 use Rattle.worth.specs.Worth.{Share}
 use Rattle.worth.specs.Heights.{heightValue, heightShares, summed, SmallWorths}
 

@@ -5,13 +5,7 @@ ghost use lib.ListN.{length, getD, take, drop};
 ghost use Rattle.table.specs.Tree.{MAX, CHANCE, kindOf};
 ghost use Rattle.worth.specs.Inside.{kindIn, beside, ReadyRun, Worthy};
 ghost use Rattle.table.specs.Inside.{begin, taken, sealed};
-
-// A table's total and grain count, and the highest end's grains above the lowest.
-pub struct Scale {
-    pub total: u64,
-    pub grain: u64,
-    pub top: u64,
-}
+use scale::Scale;
 
 // The kind that the line at the byte `at` says.
 fn kind_at(run: &[u8], at: usize) -> u8

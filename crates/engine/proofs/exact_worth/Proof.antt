@@ -10,9 +10,10 @@ use Rattle.line.specs.Refusal.{refused}
 use Rattle.table.specs.declared.Summary.{Summary}
 use Rattle.table.specs.Table.{readText}
 use Rattle.table.specs.declared.Reading.the-variants.{Refused}
+use Rattle.scale.proofs.Taken.{Taken, refused-by, taken-by, spread-at, long, grains-ready, grains-at}
 use Rattle.engine.specs.declared.Exact.the-variants.{Grains}
 use Rattle.engine.specs.Calls.{exactCall}
-use Rattle.engine.proofs.Known.{Taken, refused-by, taken-by, spread-at, long, grains-ready, grains-at, ready-at, low-at, answered-at}
+use Rattle.engine.proofs.Known.{ready-at, low-at, answered-at}
 use Rattle.engine.proofs.exact_worth.Statement.{statement}
 use Rattle.engine.proofs.exact_worth.Tie as tie
 

@@ -12,8 +12,9 @@ use Rattle.line.specs.Refusal.{Verdict, refused}
 use Rattle.table.specs.declared.Summary.{Summary}
 use Rattle.table.specs.Table.{Table, readText}
 use Rattle.table.specs.declared.Reading.the-variants.{Refused}
+use Rattle.scale.proofs.Taken.{Taken, refused-by, taken-by, spread-at, long}
 use Rattle.engine.specs.Calls.{judgeCall}
-use Rattle.engine.proofs.Known.{Taken, refused-by, taken-by, spread-at, long, whole-at, given-at}
+use Rattle.engine.proofs.Known.{whole-at, given-at}
 use Rattle.engine.proofs.judge_play.Statement.{statement}
 use Rattle.engine.proofs.judge_play.Tie as tie
 

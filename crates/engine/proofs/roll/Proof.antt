@@ -18,13 +18,13 @@ use Rattle.line.proofs.Checks.{or-left, or-right}
 use Rattle.table.specs.declared.Summary.{Summary}
 use Rattle.table.specs.declared.Reading.the-variants.{Accepted, Refused}
 use Rattle.table.specs.Table.{Table, readText, answer}
-use Rattle.worth.specs.declared.Scale.{Scale}
+use Rattle.scale.specs.declared.Scale.{Scale}
+use Rattle.scale.specs.Inside.{scaleFor}
+use Rattle.scale.proofs.Sums.{read-back, grains-back, base-small, plus-none}
+use Rattle.scale.proofs.Taken.{Taken, refused-by, taken-by, spread}
 use Rattle.rollout.specs.Records.{risen}
 use Rattle.engine.specs.declared.Rolled.the-variants.{Done}
 use Rattle.engine.specs.Calls.{rolls}
-use Rattle.engine.specs.Inside.{scaleFor}
-use Rattle.engine.proofs.Sums.{read-back, grains-back, base-small, plus-none}
-use Rattle.engine.proofs.Known.{Taken, refused-by, taken-by, spread}
 use Rattle.engine.proofs.Rolling.{has-chance, too-short, nodes-few, refuses, roll-ready, Facts, roll-facts}
 use Rattle.engine.proofs.roll.Statement.{statement}
 use Rattle.engine.proofs.roll.Tie as tie

@@ -16,11 +16,12 @@ use Rattle.table.specs.declared.Summary.{Summary}
 use Rattle.table.specs.Slices.{laid}
 use Rattle.table.specs.Table.{Table, readText}
 use Rattle.table.specs.declared.Reading.the-variants.{Refused}
+use Rattle.scale.specs.Inside.{scaleFor}
+use Rattle.scale.proofs.Taken.{Taken, refused-by, taken-by, spread-at, grains-ready, grains-at}
 use Rattle.search.specs.declared.Found.{Found}
 use Rattle.engine.specs.declared.Bounded.the-variants.{Found as Given}
 use Rattle.engine.specs.Calls.{badMargin, Sought, sought, searchAnswer, searchList, searchCall, searchReads}
-use Rattle.engine.specs.Inside.{scaleFor, ruleFor}
-use Rattle.engine.proofs.Known.{Taken, refused-by, taken-by, spread-at, grains-ready, grains-at}
+use Rattle.engine.specs.Inside.{ruleFor}
 use Rattle.engine.proofs.Searching.{bad-margin, no-room, search-ready, found-small, given-at, reads-at}
 use Rattle.engine.proofs.search_table.Statement.{statement}
 use Rattle.engine.proofs.search_table.Tie as tie

@@ -12,9 +12,9 @@ use Rattle.table.specs.declared.Summary.{Summary}
 use Rattle.table.specs.Slices.{laid}
 use Rattle.table.specs.Table.{Table, readText}
 use Rattle.table.specs.declared.Reading.the-variants.{Refused}
+use Rattle.scale.proofs.Taken.{Taken, refused-by, taken-by, lowest-back, highest-back}
 use Rattle.engine.specs.declared.Turned.the-variants.{Written}
 use Rattle.engine.specs.Calls.{turnOf, turnAnswer, turnWritten}
-use Rattle.engine.proofs.Known.{Taken, refused-by, taken-by, lowest-back, highest-back}
 use Rattle.engine.proofs.Turning.{room-short, turn-ready, turned-at}
 use Rattle.engine.proofs.turn_table.Statement.{statement}
 use Rattle.engine.proofs.turn_table.Tie as tie

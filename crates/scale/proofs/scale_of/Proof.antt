@@ -1,4 +1,4 @@
--- `engine::scale_of` meets its contract. Assumes nothing.
+-- `scale::scale_of` meets its contract. Assumes nothing.
 use Prim.Native.Nat.{ℕ, _*_, _≤_}
 use mathlib.Core.Path.{_≡_, ap, _∙_}
 use native.Mathlib.Nat.{mul-le-mul}
@@ -11,9 +11,9 @@ use mir.Val.{toZ, ofZ}
 use Rattle.line.specs.Line.{toNat}
 use Rattle.line.proofs.Signs.{mag-diff, nat-mag}
 use Rattle.table.specs.declared.Summary.{Summary}
-use Rattle.engine.proofs.Sums.{read-back}
-use Rattle.engine.proofs.scale_of.Statement.{statement}
-use Rattle.engine.proofs.scale_of.Tie as tie
+use Rattle.scale.proofs.Sums.{read-back}
+use Rattle.scale.proofs.scale_of.Statement.{statement}
+use Rattle.scale.proofs.scale_of.Tie as tie
 
 back : (s : tie.Start)
     → toZ w64 (ofZ w64 (s .args .t .highest)) -ℤ toZ w64 (ofZ w64 (s .args .t .lowest)) ≡ s .args .t .highest -ℤ s .args .t .lowest

@@ -1,8 +1,8 @@
--- `engine::in_grains` meets its contract. Assumes nothing.
+-- `scale::in_grains` meets its contract. Assumes nothing.
 use borrow.Author.Needs.{needs}
-use Rattle.engine.proofs.Sums.{mul-fits, add-fits, over-is}
-use Rattle.engine.proofs.in_grains.Statement.{statement}
-use Rattle.engine.proofs.in_grains.Tie as tie
+use Rattle.scale.proofs.Sums.{mul-fits, add-fits, over-is}
+use Rattle.scale.proofs.in_grains.Statement.{statement}
+use Rattle.scale.proofs.in_grains.Tie as tie
 
 cast-result : tie.Need-cast-result
 cast-result c = search needs
