@@ -1,4 +1,3 @@
-pub mod Sums
 pub mod Known
 pub mod Searching
 pub mod Answered
