@@ -24,10 +24,11 @@ use Rattle.table.proofs.Grown.{lines-counted, lines-first}
 use Rattle.table.proofs.Heights.{mapForest, map-end, map-weigh, above, heights-map}
 use Rattle.table.proofs.Known.{read-length}
 use Rattle.table.proofs.Complete.{completed, spans}
+use Rattle.runs.specs.Inside.{reach, stopsFrom, scanFrom, firstOr, bareAt, oddAt, Has}
+use Rattle.runs.proofs.Scan.{scan-below, spans-where, bare-tests, odd-tests}
 use Rattle.reading.specs.declared.Lines
 use Rattle.reading.specs.declared.Lines.{Lines}
-use Rattle.reading.specs.Inside.{Gathered, reach, stopsFrom, scanFrom, firstOr, bareAt, oddAt, Has, summaryOf, refuseAt, completeAt, Decoded}
-use Rattle.reading.proofs.Scan.{scan-below, spans-where, bare-tests, odd-tests}
+use Rattle.reading.specs.Inside.{Gathered, summaryOf, refuseAt, completeAt, Decoded}
 
 -- ---- what the node lines left
 

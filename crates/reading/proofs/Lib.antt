@@ -1,6 +1,4 @@
 pub mod Gather
-pub mod Reach
-pub mod Scan
 pub mod Copied
 pub mod Complete
 pub mod Top

@@ -7,8 +7,9 @@ ghost use lib.Signed.{mag};
 ghost use Rattle.line.specs.Line.{Ranged};
 ghost use Rattle.line.specs.Inside.{Sized};
 ghost use Rattle.table.specs.Table.{nodeLines, linesOf, badLength, readText, answer};
-ghost use Rattle.table.specs.Slices.{heightOf, laid, fitted, kindsOf, stopsOf, weightsOf, heightsOf, decoded};
-ghost use Rattle.reading.specs.Inside.{Roomed, Gathered, stopIn, stopsFrom, HasStops, firstOr, scanFrom, bareAt, Has, weighAt, oddAt, completeAt, Decoded};
+ghost use Rattle.table.specs.Slices.{heightOf, fitted, kindsOf, stopsOf, weightsOf, heightsOf, decoded};
+ghost use Rattle.reading.specs.Inside.{Roomed, Gathered, completeAt, Decoded};
+ghost use Rattle.runs.specs.Inside.{Has};
 use line::Head;
 use line::HeadRead;
 use line::Line;
@@ -100,98 +101,6 @@ fn node_lines(
     Lines::Fine(most, leaves as usize)
 }
 
-// One past the run of node i, from child to child: the entries of the later nodes are there, and `next` is that of node i + 1, so that on a
-// path no entry is waited for that was just written.
-fn run_end(up: &[u16], stop: &[u16], i: usize, n: usize, next: usize) -> usize
-    requires { ⌜ (i < n) × (n ≤ length (now up)) × (n ≤ length (now stop)) × (n ≤ 1024) × HasStops (take n (now up)) (now stop) (i + 1) × (i + 1 < n → next ≡ stopIn (take n (now up)) (i + 1)) ⌝ }
-    ensures { λ r. ⌜ r ≡ stopIn (take n (now (up .entry))) i ⌝ }
-{
-    let c = i + 1;
-    if n <= c {
-        return c;
-    }
-    if index(up[c]) < i {
-        return c;
-    }
-    let mut j = next;
-    while j < n {
-        if index(up[j]) < i {
-            return j;
-        }
-        j = index(stop[j]);
-    }
-    j
-}
-
-// One past the run of each of n nodes, the last node first.
-fn stops(up: &[u16], n: usize, stop: &mut [u16])
-    requires { ⌜ (n ≤ length (now up)) × (n ≤ length (now stop)) × (n ≤ 1024) ⌝ }
-    ensures { λ _. ⌜ now (stop .exit) ≡ laid (stopsFrom 0 (take n (now (up .entry)))) (now (stop .entry)) ⌝ }
-{
-    let mut i = n;
-    let mut e = n;
-    while 0 < i {
-        i -= 1;
-        e = run_end(up, stop, i, n, e);
-        stop[i] = e as u16;
-    }
-}
-
-// The first node of kind M, N or C whose run is itself alone, or n.
-fn first_childless(kind: &[u8], stop: &[u16], n: usize) -> usize
-    requires { ⌜ (n ≤ length (now kind)) × (n ≤ length (now stop)) × (n ≤ 1024) ⌝ }
-    ensures { λ r. ⌜ r ≡ firstOr n (scanFrom (bareAt (now (kind .entry)) (now (stop .entry))) 0 n) ⌝ }
-{
-    let mut i = 0;
-    while i < n {
-        if (kind[i] != 0) & (index(stop[i]) == i + 1) {
-            return i;
-        }
-        i += 1;
-    }
-    n
-}
-
-// The weights of the children in the entries from c up to e, from child to child.
-fn sum_weights(kind: &[u8], stop: &[u16], weight: &[u8], c: usize, e: usize) -> u64
-    requires { ⌜ (e ≤ length (now stop)) × (e ≤ length (now weight)) × (e ≤ 1024) × Has (now kind) (now stop) (now weight) c e ⌝ }
-    ensures { λ r. ⌜ r ≡ weighAt (now (stop .entry)) (now (weight .entry)) 1024 c e ⌝ }
-{
-    let mut sum: u64 = 0;
-    let mut j = c;
-    while j < e {
-        sum = sum + wide8(weight[j]);
-        j = index(stop[j]);
-    }
-    sum
-}
-
-// Whether node i is a C whose children's weights do not sum to the total.
-fn is_unbalanced(kind: &[u8], stop: &[u16], weight: &[u8], n: usize, total: u64, i: usize) -> bool
-    requires { ⌜ (i < n) × (n ≤ length (now kind)) × (n ≤ length (now stop)) × (n ≤ length (now weight)) × (n ≤ 1024) × Has (now kind) (now stop) (now weight) 0 n ⌝ }
-    ensures { λ r. ⌜ r ≡ oddAt (now (kind .entry)) (now (stop .entry)) (now (weight .entry)) total i ⌝ }
-{
-    if kind[i] != 3 {
-        return false;
-    }
-    sum_weights(kind, stop, weight, i + 1, index(stop[i])) != total
-}
-
-// The first such node, or n.
-fn first_unbalanced(kind: &[u8], stop: &[u16], weight: &[u8], n: usize, total: u64) -> usize
-    requires { ⌜ (n ≤ length (now kind)) × (n ≤ length (now stop)) × (n ≤ length (now weight)) × (n ≤ 1024) × Has (now kind) (now stop) (now weight) 0 n ⌝ }
-    ensures { λ r. ⌜ r ≡ firstOr n (scanFrom (oddAt (now (kind .entry)) (now (stop .entry)) (now (weight .entry)) total) 0 n) ⌝ }
-{
-    let mut i = 0;
-    while i < n {
-        if is_unbalanced(kind, stop, weight, n, total, i) {
-            return i;
-        }
-        i += 1;
-    }
-    n
-}
-
 // base to the power k.
 fn power(base: u64, k: u64) -> u64
     requires { ⌜ (base ≤ 64) × (k ≤ 4) ⌝ }
@@ -219,8 +128,8 @@ fn completed(
     requires { ⌜ (n ≤ length (now kind)) × (n ≤ length (now stop)) × (n ≤ length (now weight)) × (n ≤ 1024) × (h .total ≤ 64) × (most ≤ 4) × Has (now kind) (now stop) (now weight) 0 n ⌝ }
     ensures { λ r. ⌜ r ≡ completeAt (now (kind .entry)) (now (stop .entry)) (now (weight .entry)) n h most leaves ⌝ }
 {
-    let bare = first_childless(kind, stop, n);
-    let odd = first_unbalanced(kind, stop, weight, n, h.total);
+    let bare = runs::first_childless(kind, stop, n);
+    let odd = runs::first_unbalanced(kind, stop, weight, n, h.total);
     if bare < n {
         return Reading::Refused(Refusal::Childless(bare + 1));
     }
@@ -298,7 +207,7 @@ fn decode_lines(
     match node_lines(text, n, h, kind, &mut up, weight, height) {
         Lines::Refused(r) => Reading::Refused(r),
         Lines::Fine(most, leaves) => {
-            stops(&up, n, stop);
+            runs::stops(&up, n, stop);
             completed(h, most, leaves, kind, stop, weight, n)
         }
     }

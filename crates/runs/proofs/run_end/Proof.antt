@@ -1,4 +1,4 @@
--- `reading::run_end` meets its contract. Assumes nothing.
+-- `runs::run_end` meets its contract. Assumes nothing.
 use Prim.Native.Nat.{ℕ, _+_, _-_, _≤_, _<_}
 use mathlib.Core.List.{List}
 use mathlib.Core.Path.{_≡_, refl, _∙_}
@@ -7,10 +7,10 @@ use borrow.Author.Needs.{needs}
 use denote.Ref.{now}
 use lib.ListN.{length, getD, take, drop}
 use lib.Seq.{getD-take, length-take-le}
-use Rattle.reading.specs.Inside.{reach, stopIn, HasStops}
-use Rattle.reading.proofs.Reach.{stop-here, stop-on, stop-within, stop-last}
-use Rattle.reading.proofs.run_end.Statement.{statement}
-use Rattle.reading.proofs.run_end.Tie as tie
+use Rattle.runs.specs.Inside.{reach, stopIn, HasStops}
+use Rattle.runs.proofs.Reach.{stop-here, stop-on, stop-within, stop-last}
+use Rattle.runs.proofs.run_end.Statement.{statement}
+use Rattle.runs.proofs.run_end.Tie as tie
 
 abbrev Inv-loop : tie.InvT-loop
 Inv-loop up stop i n next c j₀ j =

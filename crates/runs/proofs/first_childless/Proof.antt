@@ -1,4 +1,4 @@
--- `reading::first_childless` meets its contract. Assumes nothing.
+-- `runs::first_childless` meets its contract. Assumes nothing.
 use Prim.Native.Nat.{_+_, _-_, _≤_}
 use mathlib.Core.Path.{_≡_, sym, ap, _∙_}
 use mathlib.Core.Bool.{Bool, true, false, not, _&&_}
@@ -7,10 +7,10 @@ use borrow.Author.Needs.{needs}
 use denote.Ref.{now}
 use lib.ListN.{length, getD}
 use lib.Dec.{eqb}
-use Rattle.reading.specs.Inside.{scanFrom, firstOr, bareAt}
-use Rattle.reading.proofs.Scan.{scan-here, scan-on, scan-none}
-use Rattle.reading.proofs.first_childless.Statement.{statement}
-use Rattle.reading.proofs.first_childless.Tie as tie
+use Rattle.runs.specs.Inside.{scanFrom, firstOr, bareAt}
+use Rattle.runs.proofs.Scan.{scan-here, scan-on, scan-none}
+use Rattle.runs.proofs.first_childless.Statement.{statement}
+use Rattle.runs.proofs.first_childless.Tie as tie
 
 abbrev Inv-loop : tie.InvT-loop
 Inv-loop kind stop n i₀ i =

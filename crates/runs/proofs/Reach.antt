@@ -13,7 +13,7 @@ use lib.ListN.{drop-of-length-le}
 use lib.Dec.{leb}
 use native.Mathlib.Decide.{decLe}
 use Rattle.table.specs.Slices.{laid}
-use Rattle.reading.specs.Inside.{reach, stopIn, stopsFrom, HasStops}
+use Rattle.runs.specs.Inside.{reach, stopIn, stopsFrom, HasStops}
 
 pub reach-stop : (n x : ℕ) (xs : List ℕ) → x < n → reach n (x ∷ xs) ≡ 0
 unfolding reach

@@ -1,12 +1,12 @@
--- `reading::sum_weights` meets its contract. Assumes nothing.
+-- `runs::sum_weights` meets its contract. Assumes nothing.
 use Prim.Native.Nat.{_-_, _≤_}
 use native.Mathlib.Omega.{arith}
 use borrow.Author.Needs.{needs}
 use denote.Ref.{now}
 use lib.ListN.{length}
-use Rattle.reading.proofs.Scan.{Summing, summing-none, summing-later, summing-more, summing-done}
-use Rattle.reading.proofs.sum_weights.Statement.{statement}
-use Rattle.reading.proofs.sum_weights.Tie as tie
+use Rattle.runs.proofs.Scan.{Summing, summing-none, summing-later, summing-more, summing-done}
+use Rattle.runs.proofs.sum_weights.Statement.{statement}
+use Rattle.runs.proofs.sum_weights.Tie as tie
 
 abbrev Inv-loop : tie.InvT-loop
 Inv-loop kind stop weight c e sum₀ j₀ sum j =

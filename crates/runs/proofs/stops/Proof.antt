@@ -1,14 +1,14 @@
--- `reading::stops` meets its contract. Assumes nothing.
+-- `runs::stops` meets its contract. Assumes nothing.
 use Prim.Native.Nat.{_+_, _-_, _≤_, _<_}
 use mathlib.Core.Path.{_≡_, refl, _∙_}
 use native.Mathlib.Omega.{arith}
 use denote.Ref.{now}
 use lib.ListN.{length, take, drop, length-set}
 use lib.Seq.{length-take-le, drop-set-lt}
-use Rattle.reading.specs.Inside.{stopIn, HasStops}
-use Rattle.reading.proofs.Reach.{stop-small, stops-laid, stops-more}
-use Rattle.reading.proofs.stops.Statement.{statement}
-use Rattle.reading.proofs.stops.Tie as tie
+use Rattle.runs.specs.Inside.{stopIn, HasStops}
+use Rattle.runs.proofs.Reach.{stop-small, stops-laid, stops-more}
+use Rattle.runs.proofs.stops.Statement.{statement}
+use Rattle.runs.proofs.stops.Tie as tie
 
 abbrev Inv-loop : tie.InvT-loop
 Inv-loop up n stop₀ i₀ e₀ stop i e =

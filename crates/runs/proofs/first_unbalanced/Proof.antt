@@ -1,13 +1,13 @@
--- `reading::first_unbalanced` meets its contract. Assumes nothing.
+-- `runs::first_unbalanced` meets its contract. Assumes nothing.
 use Prim.Native.Nat.{_+_, _-_, _≤_}
 use mathlib.Core.Path.{_≡_, sym, ap, _∙_}
 use native.Mathlib.Omega.{arith}
 use denote.Ref.{now}
 use lib.ListN.{length}
-use Rattle.reading.specs.Inside.{scanFrom, firstOr, oddAt, Has}
-use Rattle.reading.proofs.Scan.{scan-here, scan-on, scan-none}
-use Rattle.reading.proofs.first_unbalanced.Statement.{statement}
-use Rattle.reading.proofs.first_unbalanced.Tie as tie
+use Rattle.runs.specs.Inside.{scanFrom, firstOr, oddAt, Has}
+use Rattle.runs.proofs.Scan.{scan-here, scan-on, scan-none}
+use Rattle.runs.proofs.first_unbalanced.Statement.{statement}
+use Rattle.runs.proofs.first_unbalanced.Tie as tie
 
 abbrev Inv-loop : tie.InvT-loop
 Inv-loop kind stop weight n total i₀ i =

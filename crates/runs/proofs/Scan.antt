@@ -13,7 +13,7 @@ use Rattle.table.specs.Tree.{Kind, Forest, end, leaf, inner, codeOf, isChance, 
 use Rattle.table.specs.Slices.{Slices, Spans}
 use Rattle.table.proofs.Runs.{code-inner, code-chance}
 use Rattle.table.proofs.Spans.{spans-le}
-use Rattle.reading.specs.Inside.{scanFrom, firstOr, bareAt, weighAt, oddAt, Has}
+use Rattle.runs.specs.Inside.{scanFrom, firstOr, bareAt, weighAt, oddAt, Has}
 
 module _ (test : ℕ → Bool) where
   -- what is found lies within

@@ -1,13 +1,13 @@
--- `reading::is_unbalanced` meets its contract. Assumes nothing.
+-- `runs::is_unbalanced` meets its contract. Assumes nothing.
 use native.Mathlib.Omega.{arith}
 use borrow.Author.Tests.{eq-eqb, ne-eqb}
 use borrow.Author.Needs.{needs}
 use denote.Ref.{now}
 use lib.ListN.{getD}
 use Rattle.table.specs.Slices.{Slices}
-use Rattle.reading.proofs.Scan.{spans-under}
-use Rattle.reading.proofs.is_unbalanced.Statement.{statement}
-use Rattle.reading.proofs.is_unbalanced.Tie as tie
+use Rattle.runs.proofs.Scan.{spans-under}
+use Rattle.runs.proofs.is_unbalanced.Statement.{statement}
+use Rattle.runs.proofs.is_unbalanced.Tie as tie
 
 shared-slice-read-if1 : tie.Need-shared-slice-read-if1
 shared-slice-read-if1 c = search needs
