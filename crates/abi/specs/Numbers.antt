@@ -13,13 +13,14 @@ use Rattle.judge.specs.declared.Judged.{Judged}
 use Rattle.judge.specs.declared.Judged.the-variants.{NoDecision, Loss}
 use Rattle.judge.specs.declared.Opinion
 use Rattle.judge.specs.declared.Opinion.{Opinion}
+use Rattle.turn.specs.Call.{turnedNumber, turnedLine}
+use Rattle.turn.specs.declared.Turned.{Turned}
 use Rattle.engine.specs.declared.Bounds.{Bounds}
 use Rattle.engine.specs.declared.Bounded
 use Rattle.engine.specs.declared.Bounded.{Bounded}
-use Rattle.engine.specs.Calls.{exactNumber, exactLine, judgeNumber, judgeLine, searchNumber, searchLine, rollNumber, rollLine, turnedNumber, turnedLine}
+use Rattle.engine.specs.Calls.{exactNumber, exactLine, judgeNumber, judgeLine, searchNumber, searchLine, rollNumber, rollLine}
 use Rattle.engine.specs.declared.Rolled
 use Rattle.engine.specs.declared.Rolled.{Rolled}
-use Rattle.engine.specs.declared.Turned.{Turned}
 use Rattle.engine.specs.declared.Exact
 use Rattle.engine.specs.declared.Exact.{Exact}
 

@@ -7,13 +7,14 @@ ghost use lib.IntN.{pos};
 ghost use Rattle.line.specs.Refusal.{lineOf};
 ghost use Rattle.table.specs.Table.{readText, answer};
 ghost use Rattle.table.specs.Slices.{laid, fitted, kindsOf, stopsOf, weightsOf, heightsOf, decoded};
-ghost use Rattle.engine.specs.Calls.{exactCall, judgeCall, searchCall, searchReads, rollCall, rollReads, rollStore, recorded, turnCall, turnBytes};
+ghost use Rattle.engine.specs.Calls.{exactCall, judgeCall, searchCall, searchReads, rollCall, rollReads, rollStore, recorded};
+ghost use Rattle.turn.specs.Call.{turnCall, turnBytes};
 ghost use Rattle.abi.specs.Numbers.{readCode, numbersOf, worthCode, worthNumbers, judgeCode, judgedNumbers, judgeNumbers, nodeNumber, searchCode, boundsNumbers, searchNumbers, rollCode, rollNumbers, turnedCode, put, SmallSummary, SmallBounds, SmallRolled};
 use engine::Bounded;
 use engine::Bounds;
 use engine::Exact;
 use engine::Rolled;
-use engine::Turned;
+use turn::Turned;
 use judge::Judged;
 use judge::Opinion;
 use line::Refusal;
@@ -199,7 +200,7 @@ pub extern "C" fn margin_turn(text: &[u8], buffer: &mut [u8]) -> u64
     ensures code { λ r. ⌜ r ≡ turnedCode (turnCall (readText (now (text .entry))) (length (now (buffer .entry)))) ⌝ }
     ensures writes { λ _. ⌜ now (buffer .exit) ≡ laid (turnBytes (readText (now (text .entry))) (length (now (buffer .entry)))) (now (buffer .entry)) ⌝ }
 {
-    match engine::turn_table(text, buffer) {
+    match turn::turn_table(text, buffer) {
         Turned::Refused(r) => refusal_code(r),
         Turned::Written(_) => 0,
     }

@@ -18,7 +18,7 @@ use Rattle.judge.specs.declared.Judged.the-variants.{NoDecision, Loss}
 use Rattle.judge.specs.declared.Opinion
 use Rattle.judge.specs.declared.Opinion.{Opinion}
 use Rattle.judge.specs.Judge.{Judgement, noDecision, judged, judge}
-use Rattle.turn.specs.Turn.{turnedText}
+use Rattle.turn.specs.declared.Turned
 use Rattle.search.specs.Search.{Seen, nodeOf}
 use Rattle.search.specs.Whole.{searched}
 use Rattle.rollout.specs.declared.Record.{Record}
@@ -29,8 +29,6 @@ use Rattle.engine.specs.declared.Rolled.{Rolled}
 use Rattle.engine.specs.declared.Bounded
 use Rattle.engine.specs.declared.Bounded.{Bounded}
 use Rattle.engine.specs.declared.Bounds.{Bounds}
-use Rattle.engine.specs.declared.Turned
-use Rattle.engine.specs.declared.Turned.{Turned}
 use Rattle.engine.specs.declared.Exact.{Exact}
 use Rattle.engine.specs.declared.Exact.the-variants.{Grains, Refused}
 
@@ -124,38 +122,6 @@ searchNumber (Bounded.the-variants.Refused r) = numberOf r
 abbrev pub searchLine : Bounded → ℕ
 searchLine (Bounded.the-variants.Found b) = 0
 searchLine (Bounded.the-variants.Refused r) = lineOf r
-
--- ---- turning
-
--- the turned table's text, for a buffer of so many bytes: after the table's refusals 11, "turned text longer than its buffer"
-abbrev pub turnOf : Verdict Table → ℕ → Verdict (List ℕ)
-turnOf v room =
-    next v (λ (t : Table). unless (record { holds = ltb room (length (turnedText t)); gives = NoRoom } ∷ []) (turnedText t))
-
--- how many bytes are written
-abbrev pub turnAnswer : Verdict (List ℕ) → Turned
-turnAnswer (refused r) = Turned.the-variants.Refused r
-turnAnswer (fine s) = Turned.the-variants.Written (length s)
-
--- the bytes at the start of the buffer; nothing is written where the call is refused
-abbrev pub turnWritten : Verdict (List ℕ) → List ℕ
-turnWritten (refused r) = []
-turnWritten (fine s) = s
-
-abbrev pub turnCall : Verdict Table → ℕ → Turned
-turnCall v room = turnAnswer (turnOf v room)
-
-abbrev pub turnBytes : Verdict Table → ℕ → List ℕ
-turnBytes v room = turnWritten (turnOf v room)
-
--- document 01's number and line of every answer, 0 where there is no refusal
-abbrev pub turnedNumber : Turned → ℕ
-turnedNumber (Turned.the-variants.Written n) = 0
-turnedNumber (Turned.the-variants.Refused r) = numberOf r
-
-abbrev pub turnedLine : Turned → ℕ
-turnedLine (Turned.the-variants.Written n) = 0
-turnedLine (Turned.the-variants.Refused r) = lineOf r
 
 -- ---- rollouts
 

@@ -4,7 +4,7 @@ ghost use Prim.Native.Nat.{_≤_};
 ghost use lib.ListN.{length, replicate};
 ghost use Rattle.table.specs.Root.{playOf};
 ghost use Rattle.table.specs.Table.{readText};
-ghost use Rattle.engine.specs.Calls.{exactCall, judgeCall, badMargin, searchCall, searchReads, rollCall, rollReads, rollStore, recorded, turnCall, turnBytes};
+ghost use Rattle.engine.specs.Calls.{exactCall, judgeCall, badMargin, searchCall, searchReads, rollCall, rollReads, rollStore, recorded};
 ghost use Rattle.table.specs.Slices.{laid};
 ghost use Rattle.search.specs.Inside.{playAt};
 ghost use Rattle.engine.specs.Inside.{ruleFor, Started, RollsTo};
@@ -30,12 +30,6 @@ pub struct Bounds {
     pub play: Play,
     pub leaves: usize,
     pub grain: u64,
-}
-
-// How many bytes of the turned text were written, or a refusal.
-pub enum Turned {
-    Written(usize),
-    Refused(Refusal),
 }
 
 // The bounds, or a refusal.
@@ -150,28 +144,6 @@ pub fn search_table(text: &[u8], margin: i64, leaves: &mut [u16]) -> Bounded
                 leaves: f.used,
                 grain: t.grain,
             })
-        }
-    }
-}
-
-// The turned table's text: for any text and any buffer. The text goes to the start of the buffer, whose other bytes stay; a refused call
-// writes nothing.
-pub fn turn_table(text: &[u8], buffer: &mut [u8]) -> Turned
-    ensures answers { λ r. ⌜ r ≡ turnCall (readText (now (text .entry))) (length (now (buffer .entry))) ⌝ }
-    ensures writes { λ _. ⌜ now (buffer .exit) ≡ laid (turnBytes (readText (now (text .entry))) (length (now (buffer .entry)))) (now (buffer .entry)) ⌝ }
-{
-    let mut kind = [0u8; 1024];
-    let mut stop = [0u16; 1024];
-    let mut weight = [0u8; 1024];
-    let mut height = [0u32; 1024];
-    match reading::decode(text, &mut kind, &mut stop, &mut weight, &mut height) {
-        Reading::Refused(r) => Turned::Refused(r),
-        Reading::Accepted(t) => {
-            if buffer.len() < text.len() {
-                return Turned::Refused(Refusal::NoRoom);
-            }
-            turn::turn(text, &kind, &height, t.nodes, t.lowest, t.highest, buffer);
-            Turned::Written(text.len())
         }
     }
 }

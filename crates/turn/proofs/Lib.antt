@@ -8,5 +8,6 @@ pub mod Accepted
 pub mod Worked
 pub mod Bytes
 pub mod Rows
-pub mod Turned
+pub mod Written
 pub mod Ready
+pub mod Call

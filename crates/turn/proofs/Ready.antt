@@ -26,7 +26,7 @@ use Rattle.table.proofs.Accepted.{checked, accepted-ranged, accepted-size, acce
 use Rattle.table.proofs.Laid.{fitted-all, fitted-long}
 use Rattle.turn.specs.Text.{tableText}
 use Rattle.turn.specs.Turn.{turnedText}
-use Rattle.turn.specs.Inside.{Fits, Lined, ReadyText, Turned}
+use Rattle.turn.specs.Inside.{Fits, Lined, ReadyText, TextTurned}
 
 -- ---- the lines of an accepted table
 
@@ -136,7 +136,7 @@ module _ (s : List ℕ) (t : Table) (e : readText s ≡ fine t) where
         }
 
     -- what turning then leaves in the buffer
-    pub accepted-turned : (b : List ℕ) → Turned s (fitted (kindsOf t) k) (fitted (heightsOf t) g) (length (t .lines)) (t .head .lowest) (t .head .highest) d b
+    pub accepted-turned : (b : List ℕ) → TextTurned s (fitted (kindsOf t) k) (fitted (heightsOf t) g) (length (t .lines)) (t .head .lowest) (t .head .highest) d b
         → b ≡ laid (turnedText t) d
     unfolding accepted-turns
     accepted-turned b T = T accepted-turns

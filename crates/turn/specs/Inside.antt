@@ -72,5 +72,5 @@ pub record ReadyText (text kind height : List ℕ) (n : ℕ) (lowest highest : �
   pub room : length text ≤ length buffer
 
 -- the buffer with the turned table's text at its front
-abbrev pub Turned : List ℕ → List ℕ → List ℕ → ℕ → ℤ → ℤ → List ℕ → List ℕ → Type 0
-Turned text kind height n lowest highest d e = (R : ReadyText text kind height n lowest highest d) → e ≡ laid (turnedText (R .table)) d
+abbrev pub TextTurned : List ℕ → List ℕ → List ℕ → ℕ → ℤ → ℤ → List ℕ → List ℕ → Type 0
+TextTurned text kind height n lowest highest d e = (R : ReadyText text kind height n lowest highest d) → e ≡ laid (turnedText (R .table)) d

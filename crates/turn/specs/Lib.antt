@@ -1,3 +1,4 @@
 pub mod Text
 pub mod Turn
+pub mod Call
 pub mod Inside

@@ -6,10 +6,10 @@ use borrow.Author.Needs.{needs}
 use denote.Ref.{now}
 use lib.ListN.{length}
 use Rattle.table.specs.Table.{readText}
-use Rattle.engine.specs.declared.Turned.{Turned}
-use Rattle.engine.specs.declared.Turned.the-variants.{Written, Refused}
-use Rattle.engine.specs.Calls.{turnCall}
-use Rattle.engine.proofs.Turning.{turn-line}
+use Rattle.turn.specs.declared.Turned.{Turned}
+use Rattle.turn.specs.declared.Turned.the-variants.{Written, Refused}
+use Rattle.turn.specs.Call.{turnCall}
+use Rattle.turn.proofs.Call.{turn-line}
 use Rattle.abi.specs.Numbers.{turnedCode}
 use Rattle.abi.proofs.margin_turn.Statement.{statement}
 use Rattle.abi.proofs.margin_turn.Tie as tie

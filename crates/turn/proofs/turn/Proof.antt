@@ -12,7 +12,7 @@ use mir.Val.{toZ, ofZ}
 use mir.ValLaws.{toZ-ofZ}
 use Rattle.field.specs.Field.{written}
 use Rattle.turn.specs.Inside.{RowsTurned}
-use Rattle.turn.proofs.Turned.{ended, ready-room, ready-rows, ready-turned}
+use Rattle.turn.proofs.Written.{ended, ready-room, ready-rows, ready-turned}
 use Rattle.turn.proofs.turn.Statement.{statement}
 use Rattle.turn.proofs.turn.Tie as tie
 

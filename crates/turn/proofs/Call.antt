@@ -15,13 +15,13 @@ use Rattle.table.specs.Table.{Table, readText}
 use Rattle.table.specs.Slices.{laid}
 use Rattle.table.proofs.Places.{refused-line}
 use Rattle.scale.proofs.Taken.{zeros, zeros-enough, Taken, of-table}
 use Rattle.turn.specs.Turn.{turnedText}
-use Rattle.turn.specs.Inside.{ReadyText, Turned}
+use Rattle.turn.specs.Inside.{ReadyText, TextTurned}
+use Rattle.turn.specs.declared.Turned.the-variants.{Written, Refused}
+use Rattle.turn.specs.Call.{turnOf, turnAnswer, turnCall}
 use Rattle.turn.proofs.Canonical.{canonical}
 use Rattle.turn.proofs.Accepted.{turned-length}
 use Rattle.turn.proofs.Ready.{accepted-turns, accepted-turned}
-use Rattle.engine.specs.declared.Turned.the-variants.{Written, Refused}
-use Rattle.engine.specs.Calls.{turnOf, turnAnswer, turnCall}
 
 pub turn-short : (s : List ℕ) (t : Table) (room : ℕ) → readText s ≡ fine t → room < length s → turnOf (readText s) room ≡ refused NoRoom
 unfolding unless
@@ -45,10 +45,10 @@ module _ {s : List ℕ} {t : Summary} {K S W H : List ℕ} (G : Taken s t K S W 
         let z = zeros-enough s T p in accepted-turns s T p (canonical s T p) zeros zeros d z z long)
 
     -- b is the buffer after `turn`: so many bytes, and these
-    pub turned-at : (b : List ℕ) → Turned s K H (t .nodes) (t .lowest) (t .highest) d b
+    pub turned-at : (b : List ℕ) → TextTurned s K H (t .nodes) (t .lowest) (t .highest) d b
         → (text : List ℕ) × (turnOf (readText s) (length d) ≡ fine text) × (length text ≡ length s) × (b ≡ laid text d)
     turned-at b told =
-        of-table G (λ t K S W H. Turned s K H (t .nodes) (t .lowest) (t .highest) d b → (text : List ℕ) × (turnOf (readText s) (length d) ≡ fine text) × (length text ≡ length s) × (b ≡ laid text d)) (λ T p told.
+        of-table G (λ t K S W H. TextTurned s K H (t .nodes) (t .lowest) (t .highest) d b → (text : List ℕ) × (turnOf (readText s) (length d) ≡ fine text) × (length text ≡ length s) × (b ≡ laid text d)) (λ T p told.
         let z = zeros-enough s T p in
         (turnedText T, turn-fine s T (length d) p long, turned-length s T p, accepted-turned s T p (canonical s T p) zeros zeros d z z long b told)) told
 

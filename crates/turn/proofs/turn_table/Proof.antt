@@ -1,4 +1,4 @@
--- `engine::turn_table` meets its contract. Assumes nothing.
+-- `turn::turn_table` meets its contract. Assumes nothing.
 use Prim.Native.Nat.{ℕ}
 use mathlib.Core.Path.{_≡_, sym, ap, _∙_}
 use mathlib.Core.List.{List}
@@ -13,11 +13,11 @@ use Rattle.table.specs.Slices.{laid}
 use Rattle.table.specs.Table.{Table, readText}
 use Rattle.table.specs.declared.Reading.the-variants.{Refused}
 use Rattle.scale.proofs.Taken.{Taken, refused-by, taken-by, lowest-back, highest-back}
-use Rattle.engine.specs.declared.Turned.the-variants.{Written}
-use Rattle.engine.specs.Calls.{turnOf, turnAnswer, turnWritten}
-use Rattle.engine.proofs.Turning.{room-short, turn-ready, turned-at}
-use Rattle.engine.proofs.turn_table.Statement.{statement}
-use Rattle.engine.proofs.turn_table.Tie as tie
+use Rattle.turn.specs.declared.Turned.the-variants.{Written}
+use Rattle.turn.specs.Call.{turnOf, turnAnswer, turnWritten}
+use Rattle.turn.proofs.Call.{room-short, turn-ready, turned-at}
+use Rattle.turn.proofs.turn_table.Statement.{statement}
+use Rattle.turn.proofs.turn_table.Tie as tie
 
 abbrev start-of : tie.After-decode → tie.Start
 start-of R = R .before .before .before .before .before .before .before
