@@ -17,13 +17,13 @@ use Rattle.table.proofs.Places.{refused-line}
 use Rattle.judge.specs.declared.Opinion
 use Rattle.judge.specs.Judge.{Judgement, judge}
 use Rattle.judge.proofs.Judge.{judge-refused}
+use Rattle.rolling.specs.declared.Rolled
+use Rattle.rolling.specs.declared.Rolled.{Rolled}
+use Rattle.rolling.proofs.Answered.{RollSized}
 use Rattle.engine.specs.declared.Exact.the-variants.{Grains, Refused}
 use Rattle.engine.specs.Calls.{exactCall, judgeAnswer, judgeCall}
 use Rattle.engine.specs.declared.Bounds.{Bounds}
-use Rattle.engine.specs.declared.Rolled
-use Rattle.engine.specs.declared.Rolled.{Rolled}
 use Rattle.engine.proofs.Answered.{Sizes, PlayBelow}
-use Rattle.engine.proofs.RollAnswered.{RollSized}
 use Rattle.abi.specs.Numbers.{nodeNumber, SmallSummary, SmallBounds, SmallRolled}
 
 pub small : (s : List ℕ) (t : Summary) → answer (readText s) ≡ Accepted t → SmallSummary t

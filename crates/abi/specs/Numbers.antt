@@ -15,12 +15,13 @@ use Rattle.judge.specs.declared.Opinion
 use Rattle.judge.specs.declared.Opinion.{Opinion}
 use Rattle.turn.specs.Call.{turnedNumber, turnedLine}
 use Rattle.turn.specs.declared.Turned.{Turned}
+use Rattle.rolling.specs.Call.{rollNumber, rollLine}
+use Rattle.rolling.specs.declared.Rolled
+use Rattle.rolling.specs.declared.Rolled.{Rolled}
 use Rattle.engine.specs.declared.Bounds.{Bounds}
 use Rattle.engine.specs.declared.Bounded
 use Rattle.engine.specs.declared.Bounded.{Bounded}
-use Rattle.engine.specs.Calls.{exactNumber, exactLine, judgeNumber, judgeLine, searchNumber, searchLine, rollNumber, rollLine}
-use Rattle.engine.specs.declared.Rolled
-use Rattle.engine.specs.declared.Rolled.{Rolled}
+use Rattle.engine.specs.Calls.{exactNumber, exactLine, judgeNumber, judgeLine, searchNumber, searchLine}
 use Rattle.engine.specs.declared.Exact
 use Rattle.engine.specs.declared.Exact.{Exact}
 

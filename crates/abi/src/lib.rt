@@ -7,14 +7,14 @@ ghost use lib.IntN.{pos};
 ghost use Rattle.line.specs.Refusal.{lineOf};
 ghost use Rattle.table.specs.Table.{readText, answer};
 ghost use Rattle.table.specs.Slices.{laid, fitted, kindsOf, stopsOf, weightsOf, heightsOf, decoded};
-ghost use Rattle.engine.specs.Calls.{exactCall, judgeCall, searchCall, searchReads, rollCall, rollReads, rollStore, recorded};
+ghost use Rattle.engine.specs.Calls.{exactCall, judgeCall, searchCall, searchReads};
+ghost use Rattle.rolling.specs.Call.{rollCall, rollReads, rollStore, recorded};
 ghost use Rattle.turn.specs.Call.{turnCall, turnBytes};
 ghost use Rattle.abi.specs.Numbers.{readCode, numbersOf, worthCode, worthNumbers, judgeCode, judgedNumbers, judgeNumbers, nodeNumber, searchCode, boundsNumbers, searchNumbers, rollCode, rollNumbers, turnedCode, put, SmallSummary, SmallBounds, SmallRolled};
 use engine::Bounded;
 use engine::Bounds;
 use engine::Exact;
 use engine::Rolled;
-use turn::Turned;
 use judge::Judged;
 use judge::Opinion;
 use line::Refusal;
@@ -22,6 +22,7 @@ use rollout::Record;
 use table::Play;
 use table::Reading;
 use table::Summary;
+use turn::Turned;
 
 fn put_at(numbers: &mut [i64], i: usize, z: i64)
     ensures { λ _. ⌜ now (numbers .exit) ≡ set (now (numbers .entry)) i z ⌝ }

@@ -37,12 +37,13 @@ use Rattle.rollout.specs.Leaves.{Distinct}
 use Rattle.rollout.specs.Rollout.{Rolled}
 use Rattle.rollout.specs.Whole.{hasChance, rolled, rolledWorth}
 use Rattle.rollout.proofs.Demand.{ends-on-worth, no-leaf-twice}
+use Rattle.rolling.specs.declared.Rolled
+use Rattle.rolling.specs.declared.Rolled.the-variants.{Done}
+use Rattle.rolling.specs.Call.{rolls, rollAnswer, rollList, rollCall}
 use Rattle.engine.specs.declared.Bounds.{Bounds}
 use Rattle.engine.specs.declared.Bounded.the-variants.{Found, Refused}
-use Rattle.engine.specs.declared.Rolled
-use Rattle.engine.specs.declared.Rolled.the-variants.{Done}
 use Rattle.engine.specs.declared.Exact.the-variants.{Grains}
-use Rattle.engine.specs.Calls.{exactCall, badMargin, boundsOf, searchReads, rolls, rollAnswer, rollList, rollCall}
+use Rattle.engine.specs.Calls.{exactCall, badMargin, boundsOf, searchReads}
 use Rattle.engine.proofs.Answered.{answered, answers, reads}
 use Rattle.demands.specs.Demands.{childWorth, Promised, SameLines, Mirrors, Answers, Sentence1, Sentence2, GivenText, Sentence3, TurnAnswers, TurningTwice, RolloutsEnd, RollAnswers}
 use Rattle.demands.proofs.Utilities.{tree-alike, given-same, given-accepted}

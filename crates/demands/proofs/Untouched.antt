@@ -14,10 +14,11 @@ use Rattle.table.proofs.Top.{unchanged}
 use Rattle.judge.specs.declared.Opinion
 use Rattle.judge.specs.declared.Opinion.{Opinion}
 use Rattle.turn.specs.Call.{turnOf, turnAnswer, turnWritten}
-use Rattle.rollout.specs.declared.Record.{Record}
+use Rattle.rolling.specs.declared.Record.{Record}
+use Rattle.rolling.specs.Call.{rolls, rollAnswer, rollList, rollRecords, recorded}
 use Rattle.engine.specs.declared.Exact.{Exact}
 use Rattle.engine.specs.declared.Exact.the-variants.{Grains, Refused}
-use Rattle.engine.specs.Calls.{exactCall, judgeCall, Sought, sought, searchAnswer, searchList, rolls, rollAnswer, rollList, rollRecords, recorded}
+use Rattle.engine.specs.Calls.{exactCall, judgeCall, Sought, sought, searchAnswer, searchList}
 use Rattle.abi.specs.Numbers.{readCode, numbersOf, worthCode, worthNumbers, judgeCode, judgeNumbers, searchCode, searchNumbers, rollCode, rollNumbers, turnedCode, put}
 use Rattle.demands.specs.Untouched.{Refuses, CodesRefuse, SlicesKept, ReadUntouched, SearchUntouched, TurnUntouched, RollUntouched, CReadUntouched, CWorthUntouched, CJudgeUntouched, CSearchUntouched, CTurnUntouched, CRollUntouched}
 

@@ -19,11 +19,12 @@ use Rattle.turn.specs.Call.{turnOf}
 use Rattle.search.specs.Whole.{playWorth}
 use Rattle.rollout.specs.Leaves.{Distinct}
 use Rattle.rollout.specs.Whole.{hasChance}
+use Rattle.rolling.specs.declared.Rolled.the-variants.{Done}
+use Rattle.rolling.specs.Call.{rollCall, rollReads}
 use Rattle.engine.specs.declared.Bounds.{Bounds}
 use Rattle.engine.specs.declared.Bounded.the-variants.{Found}
-use Rattle.engine.specs.declared.Rolled.the-variants.{Done}
 use Rattle.engine.specs.declared.Exact.the-variants.{Grains}
-use Rattle.engine.specs.Calls.{exactCall, badMargin, searchCall, searchReads, rollCall, rollReads}
+use Rattle.engine.specs.Calls.{exactCall, badMargin, searchCall, searchReads}
 
 -- ---- the bounds and the play
 

@@ -12,10 +12,11 @@ use Rattle.table.specs.Table.{Table, readText, answer}
 use Rattle.table.specs.Slices.{laid, fitted, kindsOf, stopsOf, weightsOf, heightsOf, decoded}
 use Rattle.turn.specs.declared.Turned
 use Rattle.turn.specs.Call.{turnCall, turnBytes}
-use Rattle.rollout.specs.declared.Record.{Record}
+use Rattle.rolling.specs.declared.Record.{Record}
+use Rattle.rolling.specs.declared.Rolled
+use Rattle.rolling.specs.Call.{rollCall, rollReads, rollStore, recorded}
 use Rattle.engine.specs.declared.Bounded
-use Rattle.engine.specs.declared.Rolled
-use Rattle.engine.specs.Calls.{exactCall, judgeCall, searchCall, searchReads, rollCall, rollReads, rollStore, recorded}
+use Rattle.engine.specs.Calls.{exactCall, judgeCall, searchCall, searchReads}
 use Rattle.abi.specs.Numbers.{readCode, numbersOf, worthCode, worthNumbers, judgeCode, judgeNumbers, searchCode, searchNumbers, rollCode, rollNumbers, turnedCode, put}
 
 -- ---- the calls of `table` and `engine`; the exact worth and the judgement are lent nothing but the text

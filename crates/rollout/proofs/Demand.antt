@@ -23,8 +23,8 @@ use Rattle.worth.proofs.Worth.{shift}
 use Rattle.search.specs.Heights.{grained}
 use Rattle.rollout.specs.Rollout.{Kept, Walk, Rolled, lows, highs, firstOr, records, walk, roll}
 use Rattle.rollout.specs.Whole.{whole, bottom, hasChance, rolled, rolledWorth, rolledStore}
-use Rattle.rollout.specs.Heights.{natural, heightRolled}
-use Rattle.rollout.specs.Raised.{mapKept, mapPair, mapWalk, mapRolled, above}
+use Rattle.rollout.specs.Inside.Heights.{natural, heightRolled}
+use Rattle.rollout.specs.Inside.Raised.{mapKept, mapPair, mapWalk, mapRolled, above}
 use Rattle.rollout.specs.Leaves.{leafNodes, Picks, Distinct, NewLeaf}
 use Rattle.rollout.specs.Store.{afterWalks, rootLow, rootHigh, isOpen, nextWalk, treeWorths, Holds}
 use Rattle.rollout.proofs.Raise.{lows-map, highs-map, records-map, first-map, walk-map}

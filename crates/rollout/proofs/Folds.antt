@@ -1,13 +1,12 @@
 -- The maximum or minimum over two lists, entry beside entry. Assumes nothing.
 use Prim.Native.Nat.{ℕ, min, max, _≤_}
-use mathlib.Core.Path.{_≡_, refl, _∙_}
+use mathlib.Core.Path.{_≡_, refl}
 use mathlib.Core.List.{List, [], _∷_}
 use native.Mathlib.Decide.{decLe}
 use native.Mathlib.Omega.{arith}
 use Rattle.table.specs.Tree.{Kind, MAX, MIN, CHANCE}
 use Rattle.rollout.specs.Rollout.{joined, over}
-use Rattle.rollout.specs.Heights.{natural}
-use Rattle.rollout.specs.Lists.{runs}
+use Rattle.rollout.specs.Inside.Heights.{natural}
 
 abbrev pub Some : {A : Type 0} → List A → Type 0
 Some [] = ⊥
@@ -73,24 +72,3 @@ joined-shut α β CHANCE x y u v p q = max-shut α β x y u v p q
 
 pub over-shut : (α β : ℕ) (k : Kind) (a b : ℕ) {l m : List ℕ} → Some l → Beside (Shut α β) l m → Shut α β (over natural k a l) (over natural k b m)
 over-shut α β k a b s t = over-both (Shut α β) k (joined-shut α β k) a b s t
-
--- ---- from the first entry on
-
-joined-more : (k : Kind) (x y z : ℕ) → joined natural k x (joined natural k y z) ≡ joined natural k (joined natural k x y) z
-joined-more MAX x y z = omega arith
-joined-more MIN x y z = omega arith
-joined-more CHANCE x y z = omega arith
-
-over-one : (k : Kind) (a x : ℕ) → over natural k a (x ∷ []) ≡ x
-unfolding over
-over-one k a x = refl
-
-over-first : (k : Kind) (a x y : ℕ) (l : List ℕ) → over natural k a (x ∷ y ∷ l) ≡ over natural k a (joined natural k x y ∷ l)
-unfolding over
-over-first k a x y [] = refl
-over-first k a x y (z ∷ l) = joined-more k x y (over natural k a (z ∷ l))
-
-pub over-runs : (k : Kind) (a x : ℕ) (l : List ℕ) → over natural k a (x ∷ l) ≡ runs k x l
-unfolding runs
-over-runs k a x [] = over-one k a x
-over-runs k a x (y ∷ l) = over-first k a x y l ∙ over-runs k a (joined natural k x y) l

@@ -15,9 +15,9 @@ use Rattle.worth.specs.Worth.{Share}
 use Rattle.worth.specs.Heights.{tallest, shortest, heightValue, heightShares}
 use Rattle.search.specs.Heights.{grained}
 use Rattle.rollout.specs.Rollout.{fresh, lows, highs, joined, over}
-use Rattle.rollout.specs.Heights.{natural}
+use Rattle.rollout.specs.Inside.Heights.{natural}
 use Rattle.rollout.specs.Leaves.{leafNodes}
-use Rattle.rollout.specs.Sound.{SomeNode, Sound}
+use Rattle.rollout.specs.Inside.Sound.{SomeNode, Sound}
 use Rattle.rollout.proofs.Folds.{Beside, done, also, over-both}
 use Rattle.rollout.proofs.Turns.{some-lows, some-highs}
 use Rattle.rollout.proofs.Rolls.{exacts, unread}

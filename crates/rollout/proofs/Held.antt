@@ -16,10 +16,10 @@ use Rattle.worth.specs.Heights.{heightValue, heightShares}
 use Rattle.worth.proofs.Shift.{shares-shift}
 use Rattle.search.specs.Heights.{grained}
 use Rattle.rollout.specs.Rollout.{Kept, none, tip, knot, Pair, fresh, records, over}
-use Rattle.rollout.specs.Heights.{natural}
-use Rattle.rollout.specs.Raised.{mapPair}
+use Rattle.rollout.specs.Inside.Heights.{natural}
+use Rattle.rollout.specs.Inside.Raised.{mapPair}
 use Rattle.rollout.specs.Store.{treeWorths, Holds}
-use Rattle.rollout.specs.Sound.{Sound}
+use Rattle.rollout.specs.Inside.Sound.{Sound}
 use Rattle.rollout.proofs.Raise.{map-append}
 use Rattle.rollout.proofs.Shift.{le-above}
 use Rattle.rollout.proofs.Folds.{Beside, done, also, over-le}

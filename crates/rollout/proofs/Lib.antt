@@ -8,13 +8,4 @@ pub mod Fresh
 pub mod Table
 pub mod Held
 pub mod Demand
-pub mod Stored
-pub mod Capped
-pub mod Listed
 pub mod Worked
-pub mod Rows
-pub mod Walks
-pub mod Paths
-pub mod Looped
-pub mod Filling
-pub mod Given

@@ -22,9 +22,9 @@ use Rattle.worth.specs.Heights.{heightShares, firstHeight, heightWorth}
 use Rattle.search.specs.Heights.{grained}
 use Rattle.rollout.specs.Rollout.{Kept, fresh, firstOr, roll}
 use Rattle.rollout.specs.Whole.{hasChance}
-use Rattle.rollout.specs.Heights.{natural, heightRolled}
+use Rattle.rollout.specs.Inside.Heights.{natural, heightRolled}
 use Rattle.rollout.specs.Leaves.{leafNodes, Picks, nothing, this, Distinct}
-use Rattle.rollout.specs.Sound.{SomeNode, Sound}
+use Rattle.rollout.specs.Inside.Sound.{SomeNode, Sound}
 use Rattle.rollout.proofs.Rolls.{exacts, unread, Rolls, rootLow, rootHigh, roll-rolls, roll-ends, rolls-picks}
 use Rattle.rollout.proofs.Fresh.{fresh-some, fresh-sound, fresh-exacts, grained-nodes, map-nodes, nodes-length, all-unread, none-unread}
 use Rattle.rollout.proofs.Numbers.{drops-length, nodes-distinct, spans-numbered}

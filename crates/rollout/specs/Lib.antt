@@ -1,10 +1,5 @@
 pub mod Rollout
 pub mod Whole
-pub mod Heights
-pub mod Raised
 pub mod Leaves
 pub mod Store
-pub mod Sound
-pub mod Lists
 pub mod Inside
-pub mod Records

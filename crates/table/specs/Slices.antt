@@ -54,6 +54,9 @@ pub record Slices : Type 0 where
   pub weights : List ℕ
   pub heights : List ℕ
 
+abbrev pub slices : (K S W H : List ℕ) → Slices
+slices K S W H = record { kinds = K; stops = S; weights = W; heights = H }
+
 -- the entries from c up to e are these nodes with one parent
 unfoldable pub Spans : Slices → ℕ → ℕ → Forest ℕ → Type 0
 Spans s c e end = c ≡ e

@@ -40,17 +40,17 @@ use denote.Triple.Walked.{says, Stays, gave-slice, stay-none-slice, walkOf, goes
 use denote.Exit.{yes}
 use Rattle.table.specs.Table.{readText}
 use Rattle.table.specs.Slices.{laid}
-use Rattle.rollout.specs.declared.Record.{Record}
-use Rattle.rollout.proofs.Record as T
-use Rattle.engine.specs.declared.Rolled.{Rolled}
-use Rattle.engine.specs.Calls.{rollCall, rollReads, rollStore, recorded}
-use Rattle.engine.proofs.RollAnswered.{roll-sizes}
-use Rattle.engine.proofs.Rolled as G
-use Rattle.engine.proofs.Rolled.Laws as G′
-use Rattle.engine.proofs.rollouts as rolls
-use Rattle.engine.proofs.rollouts.Symbol as rolls-def
-use Rattle.engine.proofs.rollouts.Symbol.{name as #engine·rollouts}
-use Rattle.engine.proofs.rollouts.Met as rolls-thm
+use Rattle.rolling.specs.declared.Record.{Record}
+use Rattle.rolling.specs.declared.Rolled.{Rolled}
+use Rattle.rolling.specs.Call.{rollCall, rollReads, rollStore, recorded}
+use Rattle.rolling.proofs.Record as T
+use Rattle.rolling.proofs.Answered.{roll-sizes}
+use Rattle.rolling.proofs.Rolled as G
+use Rattle.rolling.proofs.Rolled.Laws as G′
+use Rattle.rolling.proofs.rollouts as rolls
+use Rattle.rolling.proofs.rollouts.Symbol as rolls-def
+use Rattle.rolling.proofs.rollouts.Symbol.{name as #engine·rollouts}
+use Rattle.rolling.proofs.rollouts.Met as rolls-thm
 use Rattle.abi.specs.Numbers.{rollCode, rollNumbers, put, SmallRolled}
 use Rattle.abi.proofs.Answers.{rolled-small}
 use Rattle.abi.proofs.put_rolled as puts

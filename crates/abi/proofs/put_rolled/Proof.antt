@@ -5,8 +5,8 @@ use denote.Ref.{now}
 use lib.IntN.{ℤ}
 use mir.Syntax.{w64}
 use mir.Val.{toZ, ofZ}
-use Rattle.engine.specs.declared.Rolled.{Rolled}
-use Rattle.engine.specs.declared.Rolled.the-variants.{Done}
+use Rattle.rolling.specs.declared.Rolled.{Rolled}
+use Rattle.rolling.specs.declared.Rolled.the-variants.{Done}
 use Rattle.abi.specs.Numbers.{rollCode, rollNumbers, put, SmallRolled}
 use Rattle.abi.proofs.put_rolled.Statement.{statement}
 use Rattle.abi.proofs.put_rolled.Tie as tie

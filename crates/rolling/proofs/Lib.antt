@@ -1,0 +1,12 @@
+pub mod Stored
+pub mod Capped
+pub mod Listed
+pub mod Rows
+pub mod Walks
+pub mod Paths
+pub mod Looped
+pub mod Filling
+pub mod Given
+pub mod Lent
+pub mod Call
+pub mod Answered
