@@ -1,9 +1,8 @@
 -- What an answer tells of the text, and that its numbers are small. Assumes nothing.
 use Prim.Native.Nat.{ℕ, _≤_, _<_}
-use mathlib.Core.Path.{_≡_, refl, ap, ap₂, subst, _∙_}
+use mathlib.Core.Path.{_≡_, refl, ap, subst, _∙_}
 use mathlib.Core.List.{List}
 use native.Mathlib.Omega.{arith}
-use lib.ListN.{set}
 use lib.IntN.{ℤ}
 use Rattle.line.specs.declared.Refusal.{Refusal}
 use Rattle.line.specs.Refusal.{Verdict, refused, fine, lineOf}
@@ -24,7 +23,8 @@ use Rattle.engine.specs.declared.Exact.the-variants.{Grains, Refused}
 use Rattle.engine.specs.Calls.{exactCall, judgeAnswer, judgeCall}
 use Rattle.engine.specs.declared.Bounds.{Bounds}
 use Rattle.engine.proofs.Answered.{Sizes, PlayBelow}
-use Rattle.abi.specs.Numbers.{nodeNumber, SmallSummary, SmallBounds, SmallRolled}
+use Rattle.codes.specs.Numbers.{nodeNumber}
+use Rattle.codes.specs.Inside.{SmallSummary, SmallBounds, SmallRolled}
 
 pub small : (s : List ℕ) (t : Summary) → answer (readText s) ≡ Accepted t → SmallSummary t
 small s t e =
@@ -60,10 +60,6 @@ judge-line s i r e = line-at (readText s) refl e
     line-at : (v : Verdict Table) → readText s ≡ v → judgeCall v i ≡ Opinion.the-variants.Refused r → lineOf r ≤ 1024
     line-at (refused x) p e = let q : x ≡ r = cc in refused-line s r (p ∙ ap refused q)
     line-at (fine t) p e = line-fine t (judge t i) refl e
-
--- an entry more was written
-pub stored : {A : Type 0} {a b b′ : List A} {z z′ : A} (i : ℕ) → a ≡ set b i z → b ≡ b′ → z ≡ z′ → a ≡ set b′ i z′
-stored {A = A} i p q r = p ∙ ap₂ (λ (x : List A) (y : A). set x i y) q r
 
 node-small : (p : Play) → PlayBelow 1024 p → nodeNumber p < 1024
 node-small (Child n) h = h

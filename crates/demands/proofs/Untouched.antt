@@ -19,7 +19,7 @@ use Rattle.rolling.specs.Call.{rolls, rollAnswer, rollList, rollRecords, record
 use Rattle.engine.specs.declared.Exact.{Exact}
 use Rattle.engine.specs.declared.Exact.the-variants.{Grains, Refused}
 use Rattle.engine.specs.Calls.{exactCall, judgeCall, Sought, sought, searchAnswer, searchList}
-use Rattle.abi.specs.Numbers.{readCode, numbersOf, worthCode, worthNumbers, judgeCode, judgeNumbers, searchCode, searchNumbers, rollCode, rollNumbers, turnedCode, put}
+use Rattle.codes.specs.Numbers.{readCode, numbersOf, worthCode, worthNumbers, judgeCode, judgeNumbers, searchCode, searchNumbers, rollCode, rollNumbers, turnedCode, put}
 use Rattle.demands.specs.Untouched.{Refuses, CodesRefuse, SlicesKept, ReadUntouched, SearchUntouched, TurnUntouched, RollUntouched, CReadUntouched, CWorthUntouched, CJudgeUntouched, CSearchUntouched, CTurnUntouched, CRollUntouched}
 
 slices-kept : (r : Refusal) (kind stop weight height : List ℕ) → SlicesKept (refused r) kind stop weight height

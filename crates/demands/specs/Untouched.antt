@@ -17,7 +17,7 @@ use Rattle.rolling.specs.declared.Rolled
 use Rattle.rolling.specs.Call.{rollCall, rollReads, rollStore, recorded}
 use Rattle.engine.specs.declared.Bounded
 use Rattle.engine.specs.Calls.{exactCall, judgeCall, searchCall, searchReads}
-use Rattle.abi.specs.Numbers.{readCode, numbersOf, worthCode, worthNumbers, judgeCode, judgeNumbers, searchCode, searchNumbers, rollCode, rollNumbers, turnedCode, put}
+use Rattle.codes.specs.Numbers.{readCode, numbersOf, worthCode, worthNumbers, judgeCode, judgeNumbers, searchCode, searchNumbers, rollCode, rollNumbers, turnedCode, put}
 
 -- ---- the calls of `table` and `engine`; the exact worth and the judgement are lent nothing but the text
 

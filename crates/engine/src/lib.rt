@@ -9,12 +9,10 @@ ghost use Rattle.search.specs.Inside.{playAt};
 ghost use Rattle.engine.specs.Inside.{ruleFor};
 use judge::Opinion;
 use line::Refusal;
-use rollout::Record;
 use scale::Scale;
 use search::Rule;
 use table::Play;
 use table::Reading;
-use table::Summary;
 
 // The worth in grains and G, or a refusal.
 pub enum Exact {

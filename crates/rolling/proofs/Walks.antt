@@ -7,12 +7,9 @@ use native.Mathlib.Omega.{arith}
 use lib.Dec.{eqb}
 use lib.ListN.{getD}
 use Rattle.table.specs.Tree.{Kind, Forest, end, leaf, inner, codeOf, kindOf}
-use Rattle.table.specs.Slices.{Slices, Spans}
-use Rattle.table.specs.Slices.{slices}
-use Rattle.table.proofs.Spans.{spans-le}
-use Rattle.table.proofs.Runs.{kind-code}
-use Rattle.table.proofs.Spans.{stopOf}
-use Rattle.table.proofs.Runs.{code-pos}
+use Rattle.table.specs.Slices.{Slices, Spans, slices}
+use Rattle.table.proofs.Spans.{spans-le, stopOf}
+use Rattle.table.proofs.Runs.{kind-code, code-pos}
 use Rattle.rollout.specs.Rollout.{pick, spend, over, candidate}
 use Rattle.rollout.specs.Inside.Heights.{natural}
 use Rattle.rollout.specs.Inside.Sound.{SomeNode, Sound}

@@ -11,7 +11,7 @@ use Rattle.table.specs.Table.{readText}
 use Rattle.judge.specs.declared.Opinion.{Opinion}
 use Rattle.judge.specs.declared.Opinion.the-variants.{Given, Refused}
 use Rattle.engine.specs.Calls.{judgeCall}
-use Rattle.abi.specs.Numbers.{judgeCode, judgeNumbers, put}
+use Rattle.codes.specs.Numbers.{judgeCode, judgeNumbers, put}
 use Rattle.abi.proofs.Answers.{judge-line}
 use Rattle.abi.proofs.margin_judge.Statement.{statement}
 use Rattle.abi.proofs.margin_judge.Tie as tie

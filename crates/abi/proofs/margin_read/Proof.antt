@@ -10,7 +10,7 @@ use Rattle.table.specs.declared.Reading.the-variants.{Accepted, Refused}
 use Rattle.table.specs.Table.{readText, answer}
 use Rattle.table.proofs.Places.{refused-line}
 use Rattle.table.proofs.Accepted.{answer-refused}
-use Rattle.abi.specs.Numbers.{readCode, numbersOf, put}
+use Rattle.codes.specs.Numbers.{readCode, numbersOf, put}
 use Rattle.abi.proofs.Answers.{small}
 use Rattle.abi.proofs.margin_read.Statement.{statement}
 use Rattle.abi.proofs.margin_read.Tie as tie

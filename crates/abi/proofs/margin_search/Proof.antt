@@ -15,7 +15,7 @@ use Rattle.engine.specs.declared.Bounded.{Bounded}
 use Rattle.engine.specs.declared.Bounded.the-variants.{Found, Refused}
 use Rattle.engine.specs.Calls.{searchCall, searchReads}
 use Rattle.engine.proofs.Answered.{search-line, search-sizes}
-use Rattle.abi.specs.Numbers.{searchCode, searchNumbers, put}
+use Rattle.codes.specs.Numbers.{searchCode, searchNumbers, put}
 use Rattle.abi.proofs.Answers.{bounds-small}
 use Rattle.abi.proofs.margin_search.Statement.{statement}
 use Rattle.abi.proofs.margin_search.Tie as tie

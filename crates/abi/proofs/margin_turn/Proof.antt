@@ -10,7 +10,7 @@ use Rattle.turn.specs.declared.Turned.{Turned}
 use Rattle.turn.specs.declared.Turned.the-variants.{Written, Refused}
 use Rattle.turn.specs.Call.{turnCall}
 use Rattle.turn.proofs.Call.{turn-line}
-use Rattle.abi.specs.Numbers.{turnedCode}
+use Rattle.codes.specs.Numbers.{turnedCode}
 use Rattle.abi.proofs.margin_turn.Statement.{statement}
 use Rattle.abi.proofs.margin_turn.Tie as tie
 

@@ -13,7 +13,7 @@ use Rattle.table.proofs.Places.{refused-line}
 use Rattle.engine.specs.declared.Exact.{Exact}
 use Rattle.engine.specs.declared.Exact.the-variants.{Grains, Refused}
 use Rattle.engine.specs.Calls.{exactCall}
-use Rattle.abi.specs.Numbers.{worthCode, worthNumbers, put}
+use Rattle.codes.specs.Numbers.{worthCode, worthNumbers, put}
 use Rattle.abi.proofs.Answers.{exact-refused, exact-small}
 use Rattle.abi.proofs.margin_worth.Statement.{statement}
 use Rattle.abi.proofs.margin_worth.Tie as tie

@@ -1,4 +1,4 @@
--- `abi::put_rolled` meets its contract. Assumes nothing.
+-- `codes::put_rolled` meets its contract. Assumes nothing.
 use mathlib.Core.Path.{_≡_, sym, ap, subst, _∙_}
 use borrow.Author.Needs.{needs}
 use denote.Ref.{now}
@@ -7,9 +7,10 @@ use mir.Syntax.{w64}
 use mir.Val.{toZ, ofZ}
 use Rattle.rolling.specs.declared.Rolled.{Rolled}
 use Rattle.rolling.specs.declared.Rolled.the-variants.{Done}
-use Rattle.abi.specs.Numbers.{rollCode, rollNumbers, put, SmallRolled}
-use Rattle.abi.proofs.put_rolled.Statement.{statement}
-use Rattle.abi.proofs.put_rolled.Tie as tie
+use Rattle.codes.specs.Numbers.{rollCode, rollNumbers, put}
+use Rattle.codes.specs.Inside.{SmallRolled}
+use Rattle.codes.proofs.put_rolled.Statement.{statement}
+use Rattle.codes.proofs.put_rolled.Tie as tie
 
 refusal-code-requires : tie.Need-refusal-code-requires
 refusal-code-requires c κs =

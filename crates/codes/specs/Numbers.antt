@@ -1,10 +1,9 @@
 -- Answers as numbers, for callers in other languages.
-use Prim.Native.Nat.{ℕ, suc, _+_, _*_, _<_, _≤_, _^_}
+use Prim.Native.Nat.{ℕ, suc, _+_, _*_}
 use mathlib.Core.List.{List, [], _∷_}
 use lib.ListN.{set}
 use lib.IntN.{ℤ, pos}
 use Rattle.line.specs.Refusal.{numberOf, lineOf}
-use Rattle.table.specs.declared.Summary.{Summary}
 use Rattle.table.specs.declared.Reading.{Reading}
 use Rattle.table.specs.declared.Reading.the-variants.{Accepted, Refused}
 use Rattle.table.specs.declared.Play.{Play}
@@ -71,12 +70,6 @@ abbrev pub searchNumbers : Bounded → List ℤ
 searchNumbers (Bounded.the-variants.Found b) = boundsNumbers b
 searchNumbers (Bounded.the-variants.Refused r) = []
 
--- its counts fit a signed number
-pub record SmallBounds (b : Bounds) : Type 0 where
-  pub play : nodeNumber (b .play) < 2 ^ 63
-  pub leaves : b .leaves < 2 ^ 63
-  pub grain : b .grain < 2 ^ 63
-
 -- the same of rollouts: the worth and the number of leaves read
 abbrev pub rollCode : Rolled → ℕ
 rollCode r = 100 * rollLine r + rollNumber r
@@ -84,11 +77,6 @@ rollCode r = 100 * rollLine r + rollNumber r
 abbrev pub rollNumbers : Rolled → List ℤ
 rollNumbers (Rolled.the-variants.Done worth leaves) = worth ∷ pos leaves ∷ []
 rollNumbers (Rolled.the-variants.Refused r) = []
-
--- its count fits a signed number, and its line is that of a refused table, or 0
-abbrev pub SmallRolled : Rolled → Type 0
-SmallRolled (Rolled.the-variants.Done worth leaves) = leaves < 2 ^ 63
-SmallRolled (Rolled.the-variants.Refused r) = lineOf r ≤ 1024
 
 -- the same of turning
 abbrev pub turnedCode : Turned → ℕ
@@ -99,11 +87,3 @@ module _ {A : Type 0} where
   abbrev pub put : ℕ → List A → List A → List A
   put i [] l = l
   put i (x ∷ xs) l = put (suc i) xs (set l i x)
-
--- a table's counts fit a signed number
-pub record SmallSummary (t : Summary) : Type 0 where
-  pub nodes : t .nodes < 2 ^ 63
-  pub total : t .total < 2 ^ 63
-  pub chances : t .chances < 2 ^ 63
-  pub grain : t .grain < 2 ^ 63
-  pub leaves : t .leaves < 2 ^ 63

@@ -1,12 +1,12 @@
--- `abi::put_table` meets its contract. Assumes nothing.
+-- `codes::put_table` meets its contract. Assumes nothing.
 use mathlib.Core.Path.{_≡_, refl, _∙_}
 use borrow.Author.Needs.{needs}
 use denote.Ref.{now}
 use mir.Syntax.{w64}
 use mir.Val.{toZ, ofZ}
-use Rattle.abi.proofs.Answers.{stored}
-use Rattle.abi.proofs.put_table.Statement.{statement}
-use Rattle.abi.proofs.put_table.Tie as tie
+use Rattle.codes.proofs.Stored.{stored}
+use Rattle.codes.proofs.put_table.Statement.{statement}
+use Rattle.codes.proofs.put_table.Tie as tie
 
 lowest-back : (s : tie.Start) → toZ w64 (ofZ w64 (s .args .t .lowest)) ≡ s .args .t .lowest
 lowest-back s = search needs

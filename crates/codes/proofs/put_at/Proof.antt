@@ -1,10 +1,10 @@
--- `abi::put_at` meets its contract. Assumes nothing.
+-- `codes::put_at` meets its contract. Assumes nothing.
 use mathlib.Core.Path.{sym}
 use borrow.Author.Needs.{needs}
 use denote.Ref.{now}
 use lib.Seq.{set-out}
-use Rattle.abi.proofs.put_at.Statement.{statement}
-use Rattle.abi.proofs.put_at.Tie as tie
+use Rattle.codes.proofs.put_at.Statement.{statement}
+use Rattle.codes.proofs.put_at.Tie as tie
 
 returns-2 : tie.Need-returns-2
 returns-2 c = sym (set-out (now (c .before .args .numbers)) (c .before .args .i) (c .before .args .z) (c .if1 .left))

@@ -1,12 +1,12 @@
--- `abi::put_judged` meets its contract. Assumes nothing.
+-- `codes::put_judged` meets its contract. Assumes nothing.
 use mathlib.Core.Path.{_≡_, sym, ap, _∙_}
 use borrow.Author.Needs.{needs}
 use denote.Ref.{now}
 use Rattle.judge.specs.declared.Judged.{Judged}
 use Rattle.judge.specs.declared.Judged.the-variants.{NoDecision}
-use Rattle.abi.specs.Numbers.{judgedNumbers, put}
-use Rattle.abi.proofs.put_judged.Statement.{statement}
-use Rattle.abi.proofs.put_judged.Tie as tie
+use Rattle.codes.specs.Numbers.{judgedNumbers, put}
+use Rattle.codes.proofs.put_judged.Statement.{statement}
+use Rattle.codes.proofs.put_judged.Tie as tie
 
 undecided : (c : tie.After-enum-told) → c .before .before .before .args .j ≡ NoDecision
 undecided c = search needs

@@ -1,13 +1,13 @@
--- `abi::put_bounds` meets its contract. Assumes nothing.
+-- `codes::put_bounds` meets its contract. Assumes nothing.
 use mathlib.Core.Path.{_≡_, refl, ap, _∙_}
 use borrow.Author.Needs.{needs}
 use denote.Ref.{now}
 use lib.IntN.{pos}
 use mir.Syntax.{w64}
 use mir.Val.{toZ, ofZ}
-use Rattle.abi.proofs.Answers.{stored}
-use Rattle.abi.proofs.put_bounds.Statement.{statement}
-use Rattle.abi.proofs.put_bounds.Tie as tie
+use Rattle.codes.proofs.Stored.{stored}
+use Rattle.codes.proofs.put_bounds.Statement.{statement}
+use Rattle.codes.proofs.put_bounds.Tie as tie
 
 low-back : (s : tie.Start) → toZ w64 (ofZ w64 (s .args .b .low)) ≡ s .args .b .low
 low-back s = search needs

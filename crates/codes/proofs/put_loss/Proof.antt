@@ -1,10 +1,10 @@
--- `abi::put_loss` meets its contract. Assumes nothing.
+-- `codes::put_loss` meets its contract. Assumes nothing.
 use mathlib.Core.Path.{refl}
 use borrow.Author.Needs.{needs}
 use denote.Ref.{now}
-use Rattle.abi.proofs.Answers.{stored}
-use Rattle.abi.proofs.put_loss.Statement.{statement}
-use Rattle.abi.proofs.put_loss.Tie as tie
+use Rattle.codes.proofs.Stored.{stored}
+use Rattle.codes.proofs.put_loss.Statement.{statement}
+use Rattle.codes.proofs.put_loss.Tie as tie
 
 returns : tie.Need-returns
 returns c =

@@ -1,0 +1,31 @@
+-- What the contracts of internal functions cite: numbers that fit. No promise of a public call names these.
+use Prim.Native.Nat.{_<_, _≤_, _^_}
+use Rattle.line.specs.Refusal.{lineOf}
+use Rattle.table.specs.declared.Summary.{Summary}
+use Rattle.table.specs.declared.Reading.the-variants.{Refused}
+use Rattle.judge.specs.declared.Opinion
+use Rattle.rolling.specs.declared.Rolled
+use Rattle.rolling.specs.declared.Rolled.{Rolled}
+use Rattle.engine.specs.declared.Bounds.{Bounds}
+use Rattle.engine.specs.declared.Bounded
+use Rattle.engine.specs.declared.Exact
+use Rattle.codes.specs.Numbers.{nodeNumber}
+
+-- a table's counts fit a signed number
+pub record SmallSummary (t : Summary) : Type 0 where
+  pub nodes : t .nodes < 2 ^ 63
+  pub total : t .total < 2 ^ 63
+  pub chances : t .chances < 2 ^ 63
+  pub grain : t .grain < 2 ^ 63
+  pub leaves : t .leaves < 2 ^ 63
+
+-- a search's counts fit a signed number
+pub record SmallBounds (b : Bounds) : Type 0 where
+  pub play : nodeNumber (b .play) < 2 ^ 63
+  pub leaves : b .leaves < 2 ^ 63
+  pub grain : b .grain < 2 ^ 63
+
+-- the count of rollouts fits a signed number, and its line is that of a refused table, or 0
+abbrev pub SmallRolled : Rolled → Type 0
+SmallRolled (Rolled.the-variants.Done worth leaves) = leaves < 2 ^ 63
+SmallRolled (Rolled.the-variants.Refused r) = lineOf r ≤ 1024

@@ -1,0 +1,123 @@
+// Answers as a code and numbers, for callers in other languages: 0, or the refusal's line and number as one; and numbers written to a slice,
+// as many as it has room for.
+ghost use mathlib.Core.Path.{_≡_};
+ghost use Prim.Native.Nat.{_<_, _≤_, _^_};
+ghost use lib.ListN.{set};
+ghost use lib.IntN.{pos};
+ghost use Rattle.line.specs.Refusal.{lineOf};
+ghost use Rattle.codes.specs.Numbers.{readCode, numbersOf, worthNumbers, judgedNumbers, nodeNumber, boundsNumbers, rollCode, rollNumbers, put};
+ghost use Rattle.codes.specs.Inside.{SmallSummary, SmallBounds, SmallRolled};
+use engine::Bounds;
+use engine::Exact;
+use judge::Judged;
+use line::Refusal;
+use rolling::Rolled;
+use table::Play;
+use table::Reading;
+use table::Summary;
+
+fn put_at(numbers: &mut [i64], i: usize, z: i64)
+    ensures { λ _. ⌜ now (numbers .exit) ≡ set (now (numbers .entry)) i z ⌝ }
+{
+    if i < numbers.len() {
+        numbers[i] = z;
+    }
+}
+
+fn signed(n: u64) -> i64
+    requires { ⌜ n < 2 ^ 63 ⌝ }
+    ensures { λ r. ⌜ r ≡ pos n ⌝ }
+{
+    n as i64
+}
+
+pub fn put_table(t: Summary, numbers: &mut [i64])
+    requires { ⌜ SmallSummary t ⌝ }
+    ensures { λ _. ⌜ now (numbers .exit) ≡ put 0 (numbersOf (Reading.Accepted t)) (now (numbers .entry)) ⌝ }
+{
+    put_at(numbers, 0, signed(t.nodes as u64));
+    put_at(numbers, 1, signed(t.total));
+    put_at(numbers, 2, t.lowest);
+    put_at(numbers, 3, t.highest);
+    put_at(numbers, 4, signed(t.chances));
+    put_at(numbers, 5, signed(t.grain));
+    put_at(numbers, 6, signed(t.leaves as u64));
+}
+
+pub fn refusal_code(r: Refusal) -> u64
+    requires { ⌜ lineOf r ≤ 1024 ⌝ }
+    ensures { λ n. ⌜ n ≡ readCode (Reading.Refused r) ⌝ }
+{
+    100 * (line::refusal_line(r) as u64) + line::refusal_number(r)
+}
+
+// A worth in grains, and a count: G, or the number of leaves that rollouts read.
+pub fn put_worth(z: i64, g: u64, numbers: &mut [i64])
+    requires { ⌜ g < 2 ^ 63 ⌝ }
+    ensures { λ _. ⌜ now (numbers .exit) ≡ put 0 (worthNumbers (Exact.Grains z g)) (now (numbers .entry)) ⌝ }
+{
+    put_at(numbers, 0, z);
+    put_at(numbers, 1, signed(g));
+}
+
+fn put_natural(numbers: &mut [u64], i: usize, n: u64)
+    ensures { λ _. ⌜ now (numbers .exit) ≡ set (now (numbers .entry)) i n ⌝ }
+{
+    if i < numbers.len() {
+        numbers[i] = n;
+    }
+}
+
+fn put_loss(loss: u64, level: u64, numbers: &mut [u64])
+    ensures { λ _. ⌜ now (numbers .exit) ≡ put 0 (judgedNumbers (Judged.Loss loss level)) (now (numbers .entry)) ⌝ }
+{
+    put_natural(numbers, 0, 1);
+    put_natural(numbers, 1, loss);
+    put_natural(numbers, 2, level);
+}
+
+pub fn put_judged(j: Judged, numbers: &mut [u64])
+    ensures { λ _. ⌜ now (numbers .exit) ≡ put 0 (judgedNumbers j) (now (numbers .entry)) ⌝ }
+{
+    match j {
+        Judged::NoDecision => put_natural(numbers, 0, 0),
+        Judged::Loss(loss, level) => put_loss(loss, level, numbers),
+    }
+}
+
+// A play as a node number, 0 for none.
+fn node_number(p: Play) -> usize
+    ensures { λ n. ⌜ n ≡ nodeNumber p ⌝ }
+{
+    match p {
+        Play::Child(n) => n,
+        Play::NoPlay => 0,
+    }
+}
+
+pub fn put_bounds(b: Bounds, numbers: &mut [i64])
+    requires { ⌜ SmallBounds b ⌝ }
+    ensures { λ _. ⌜ now (numbers .exit) ≡ put 0 (boundsNumbers b) (now (numbers .entry)) ⌝ }
+{
+    let play = b.play;
+    put_at(numbers, 0, b.low);
+    put_at(numbers, 1, b.high);
+    put_at(numbers, 2, signed(node_number(play) as u64));
+    put_at(numbers, 3, signed(b.leaves as u64));
+    put_at(numbers, 4, signed(b.grain));
+}
+
+// What rollouts answer, as a code and numbers.
+pub fn put_rolled(r: Rolled, numbers: &mut [i64]) -> u64
+    requires { ⌜ SmallRolled r ⌝ }
+    ensures code { λ n. ⌜ n ≡ rollCode r ⌝ }
+    ensures numbers { λ _. ⌜ now (numbers .exit) ≡ put 0 (rollNumbers r) (now (numbers .entry)) ⌝ }
+{
+    match r {
+        Rolled::Refused(r) => refusal_code(r),
+        Rolled::Done(worth, leaves) => {
+            put_worth(worth, leaves as u64, numbers);
+            0
+        }
+    }
+}
