@@ -5,10 +5,10 @@
 use compare::hold::seen::Seen;
 use compare::hold::{best_plays, root_children};
 use compare::random::{seed, Random};
-use compare::second::{self, Kind, Table, MOST_CHANCES};
-use compare::texts::bench;
+use compare::second::{self, Kind, Table, MOST_CHANCES, MOST_TOTAL};
 use compare::texts::examples::escaped;
-use compare::texts::knobs::{Kinds, Knobs, Order, Shape, Utilities, Weights, ROLLS};
+use compare::texts::knobs::{Kinds, Knobs, Order, Shape, Utilities, Weights, ROLLS, WIDEST};
+use compare::texts::{self, bench};
 
 /// A setting and its name.
 type Setting = (&'static str, fn(&mut Random) -> Knobs);
@@ -173,49 +173,63 @@ fn shape_obeys(knobs: &Knobs, table: &Table) -> bool {
 }
 
 fn weights_obey(knob: Weights, table: &Table) -> bool {
-    let chances = (0..table.nodes.len()).filter(|node| table.nodes[*node].kind == Kind::Chance);
-    let mut weights = chances.map(|chance| {
-        let nodes = table.nodes.iter();
-        let children = nodes.filter(|node| node.parent == Some(chance));
-        children.filter_map(|child| child.weight).collect()
-    });
-    weights.all(|weights: Vec<i64>| {
+    weights(table).iter().all(|weights| {
         let doubles = weights.iter().filter(|weight| **weight == 1).count();
-        let least = weights.iter().min().expect("a child");
-        let greatest = weights.iter().max().expect("a child");
         match knob {
             Weights::Any | Weights::Uneven => true,
-            Weights::Even => greatest - least <= 1,
+            Weights::Even => spread(weights) <= 1,
             Weights::Dice => (weights.len(), doubles, table.total) == (ROLLS, 6, 36),
         }
     })
 }
 
-/// The knobs that have no hard bounds move what they should: plays of the same
-/// worth, weights that are far apart, and all numbers of C on a path with dice.
+/// The weights under each C.
+fn weights(table: &Table) -> Vec<Vec<i64>> {
+    let mut weights = vec![Vec::new(); table.nodes.len()];
+    for node in &table.nodes {
+        if let (Some(parent), Some(weight)) = (node.parent, node.weight) {
+            weights[parent].push(weight);
+        }
+    }
+    weights.retain(|weights| !weights.is_empty());
+    weights
+}
+
+/// By how much the heaviest outweighs the lightest.
+fn spread(weights: &[i64]) -> i64 {
+    let (least, greatest) = (weights.iter().min(), weights.iter().max());
+    greatest.expect("a child") - least.expect("a child")
+}
+
+/// The knobs that set no bounds move what they should: few utilities make plays
+/// of the same worth, uneven weights are far apart, and with dice there are all
+/// numbers of C on a path.
 #[test]
 fn knobs_move_what_they_should() {
     let mut seen = Seen::default();
     for number in 0..2_000 {
         let mut random = Random::of_case(seed(), number);
-        let mut make = |knobs: Knobs| {
-            let text = knobs.text(&mut random);
+        let mut make = |setting: fn(&mut Random) -> Knobs| {
+            let text = texts::make(setting, &mut random);
             second::read(&text).expect("valid")
         };
-        let ties = make(Knobs::ties(&mut Random::of_case(seed(), number)));
+        let ties = make(|random| Knobs {
+            ends: WIDEST,
+            utilities: Utilities::OneOf(vec![0, 1]),
+            ..Knobs::plain(random)
+        });
         let best = best_plays(&ties, &second::worths(&ties));
         seen.count("several plays of the best worth", best > 1);
 
-        let uneven = make(Knobs {
+        let uneven = make(|random| Knobs {
+            totals: vec![MOST_TOTAL],
             weights: Weights::Uneven,
-            ..Knobs::narrow(&mut Random::of_case(seed(), number))
+            ..Knobs::narrow(random)
         });
-        let weights = || uneven.nodes.iter().filter_map(|node| node.weight);
-        let apart = weights().max() >= weights().min().map(|least| least + 3);
-        seen.count("weights that differ by 3", apart);
+        let apart = weights(&uneven).iter().any(|weights| spread(weights) > 20);
+        seen.count("weights that differ by more than 20", apart);
 
-        let dice = make(Knobs::dice(&mut Random::of_case(seed(), number)));
-        seen.count_chances(&dice);
+        seen.count_chances(&make(Knobs::dice));
     }
     seen.demand(150);
 }

@@ -234,11 +234,10 @@ impl Knobs {
     /// end in one of four cases, at the highest in one, otherwise each at either.
     pub fn largest(random: &mut Random) -> Knobs {
         let (lowest, highest) = WIDEST;
-        let either = vec![lowest, highest];
         let utilities = match random.below(4) {
             0 => vec![lowest],
             1 => vec![highest],
-            _ => either,
+            _ => vec![lowest, highest],
         };
         let knobs = Knobs {
             totals: vec![MOST_TOTAL],
