@@ -1,9 +1,9 @@
 //! Texts for both engines: random ones, which are valid tables or damaged on
 //! purpose; examples; all small tables; and the greatest.
 //!
-//! Every random table comes from one generator: `knobs` has its settings, `grow`
-//! makes a draft by them, `draft` writes it out. The damages, and the inputs of
-//! the margin program, begin with its tables.
+//! Every random table comes from one generator: `knobs` says what can be set,
+//! `settings` sets it, `grow` makes a draft by it, and `draft` writes that out.
+//! The damages, and the inputs of the margin program, begin with its tables.
 
 pub mod bench;
 pub mod broken;
@@ -14,6 +14,7 @@ mod grow;
 pub mod inputs;
 pub mod knobs;
 pub mod largest;
+mod settings;
 pub mod small;
 
 use crate::random::Random;
