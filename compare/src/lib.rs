@@ -3,12 +3,14 @@
 //! - `engine` calls the proved engine.
 //! - `second` is the second engine, written from document 01 and the two
 //!   algorithms that it names, and from nothing of the proved engine.
+//! - `hold` compares the two, for the tests.
 //! - `random` and `texts` make the texts that both are given.
 //!
 //! The comparisons are in `tests`, the benchmark in `src/bin/bench.rs`.
 //! `src/bin/expected.rs` prints what the margin program must print.
 
 pub mod engine;
+pub mod hold;
 pub mod random;
 pub mod second;
 pub mod texts;

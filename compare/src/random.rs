@@ -47,9 +47,12 @@ impl Random {
         mixed ^ (mixed >> 31)
     }
 
-    /// A number from 0 to `bound` - 1.
+    /// A number from 0 to `bound` - 1. Nothing is drawn where that is 0 alone.
     pub fn below(&mut self, bound: usize) -> usize {
         assert!(bound > 0);
+        if bound == 1 {
+            return 0;
+        }
         ((u128::from(self.bits()) * bound as u128) >> 64) as usize
     }
 

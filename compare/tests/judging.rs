@@ -1,172 +1,18 @@
-//! Holds the proved engine's judging to the second engine's: the refusal and
-//! its line, "no decision", or the loss and the number of level children; and
-//! that all else in the lent numbers is left as it was.
+//! Judging, held to the second engine and to document 01's tables.
 //!
 //! The environment variable SEED sets the seed of the random texts, CASES their
 //! number.
 
-mod common;
-#[path = "common/numbers.rs"]
-mod numbers;
-
-use common::{code, demand, Tally, OF_TABLES};
-use compare::engine;
+use compare::hold::judging::{hold_to, Comparison};
+use compare::hold::numbers::ROOM;
+use compare::hold::root_children;
+use compare::hold::tally::OF_TABLES;
 use compare::random::{number_from_environment, seed, Random};
-use compare::second::{self, Judgement, Kind, Node, Refusal, Table, FARTHEST_END, MOST_NODES};
+use compare::second::{self, Judgement, Node, Refusal, FARTHEST_END, MOST_NODES};
 use compare::texts::examples::*;
+use compare::texts::knobs::Knobs;
 use compare::texts::small::{for_each, six_nodes};
 use compare::texts::{self, largest};
-use numbers::{agree, ROOM};
-
-// ---------------------------------------------------------------------------
-// The comparison
-// ---------------------------------------------------------------------------
-
-/// Compares the two engines on texts and numbers played.
-struct Comparison {
-    tally: Tally,
-    seen: Seen,
-}
-
-impl Comparison {
-    fn new(name: &'static str) -> Comparison {
-        Comparison {
-            tally: Tally::new(name),
-            seen: Seen::default(),
-        }
-    }
-
-    /// Gives a text to both engines with each number that `plays` chooses. It
-    /// is told how many children the root has, or nothing where the table is
-    /// refused. The proved engine has room to spare for its numbers; half of the
-    /// calls are made once more with room for 0 to 3. Fails the test unless the
-    /// engines agree.
-    fn hold(
-        &mut self,
-        text: &[u8],
-        plays: impl FnOnce(Option<usize>) -> Vec<i64>,
-    ) -> Result<Table, Refusal> {
-        let table = second::read(text);
-        let plays = plays(table.as_ref().ok().map(children));
-        let mut codes = Vec::with_capacity(plays.len());
-        for number in plays {
-            let answer = match &table {
-                Ok(table) => second::judge(table, number),
-                Err(refusal) => Err(*refusal),
-            };
-            hold_to(&self.tally, text, number, ROOM, &answer);
-            let turn = (self.tally.cases as usize + codes.len()) % 8;
-            if turn <= 3 {
-                hold_to(&self.tally, text, number, turn, &answer);
-            }
-            codes.push(code(&answer));
-            if let (Ok(table), Ok(judgement)) = (&table, &answer) {
-                self.seen.add(table, *judgement);
-            }
-        }
-        self.tally.add(&codes);
-        if let Ok(table) = &table {
-            self.seen.roots[table.nodes[0].kind as usize] += 1;
-        }
-        table
-    }
-}
-
-/// How many children the root has.
-fn children(table: &Table) -> usize {
-    let nodes = table.nodes.iter();
-    nodes.filter(|node| node.parent == Some(0)).count()
-}
-
-/// Holds the proved engine to this answer.
-fn hold_to(
-    tally: &Tally,
-    text: &[u8],
-    number: i64,
-    room: usize,
-    answer: &Result<Judgement, Refusal>,
-) {
-    let written = match *answer {
-        Ok(Judgement::Loss { grains, level }) => &[1, grains, level as i64][..],
-        Ok(Judgement::NoDecision) => &[0],
-        Err(_) => &[],
-    };
-    let asked = format_args!("the play of number {number}");
-    agree(tally, text, asked, room, (code(answer), written), |lent| {
-        engine::judge(text, number, lent)
-    });
-}
-
-/// What the answers of a run had among them.
-#[derive(Default)]
-struct Seen {
-    /// Tables by the root's kind.
-    roots: [u64; 4],
-    no_decision: u64,
-    /// Losses by the root's kind, M or N, and by their size: none, less than a
-    /// point, a point, and more.
-    losses: [[u64; 4]; 2],
-    /// Losses of a point that has several grains.
-    fine_point: u64,
-    /// Answers by how many children are level.
-    one_level: u64,
-    some_level: u64,
-    all_level: u64,
-}
-
-impl Seen {
-    fn add(&mut self, table: &Table, judgement: Judgement) {
-        let Judgement::Loss { grains, level } = judgement else {
-            self.no_decision += 1;
-            return;
-        };
-        let point = table.grains;
-        let children = children(table);
-        assert!(grains >= 0, "a play lost {grains}");
-        assert!((1..=children).contains(&level), "{level} of {children}");
-        let size = match grains {
-            0 => 0,
-            _ if grains < point => 1,
-            _ if grains == point => 2,
-            _ => 3,
-        };
-        self.losses[table.nodes[0].kind as usize][size] += 1;
-        self.fine_point += u64::from(grains == point && point > 1);
-        self.one_level += u64::from(level == 1);
-        self.some_level += u64::from(1 < level && level < children);
-        self.all_level += u64::from(1 < level && level == children);
-    }
-
-    /// Every sort of table and answer, by name, and how often it was seen.
-    fn sorts(&self) -> Vec<(String, u64)> {
-        let mut sorts = Vec::new();
-        for kind in [Kind::Max, Kind::Min, Kind::Chance, Kind::Leaf] {
-            sorts.push((format!("root {kind:?}"), self.roots[kind as usize]));
-        }
-        sorts.push(("no decision".to_string(), self.no_decision));
-        for kind in [Kind::Max, Kind::Min] {
-            let sizes = [
-                "no loss",
-                "less than a point lost",
-                "a point lost",
-                "more lost",
-            ];
-            for (size, count) in sizes.iter().zip(self.losses[kind as usize]) {
-                sorts.push((format!("{size} at {kind:?}"), count));
-            }
-        }
-        sorts.extend([
-            (
-                "a point of several grains lost".to_string(),
-                self.fine_point,
-            ),
-            ("one child level".to_string(), self.one_level),
-            ("several level, not all".to_string(), self.some_level),
-            ("all of several level".to_string(), self.all_level),
-        ]);
-        sorts
-    }
-}
 
 // ---------------------------------------------------------------------------
 // Random texts
@@ -200,13 +46,14 @@ fn plays(random: &mut Random, children: usize) -> Vec<i64> {
 #[test]
 fn random_texts() {
     let mut comparison = Comparison::new("judging on random texts");
-    let cases = number_from_environment("CASES", 100_000);
+    let cases = number_from_environment("CASES", 125_000);
     for number in 0..cases {
         let mut random = Random::of_case(comparison.tally.seed, number);
-        let text = if number % 8 == 7 {
-            texts::close(&mut random)
-        } else {
-            texts::case(&mut random).text
+        let text = match number % 10 {
+            7 => texts::make(Knobs::close, &mut random),
+            8 => texts::make(Knobs::ties, &mut random),
+            9 => texts::make(Knobs::forced, &mut random),
+            _ => texts::case(&mut random).text,
         };
         let _ = comparison.hold(&text, |children| match children {
             Some(children) => plays(&mut random, children),
@@ -218,7 +65,7 @@ fn random_texts() {
         });
     }
     comparison.tally.report();
-    demand(100, &comparison.seen.sorts());
+    comparison.seen.demand(100);
     comparison.tally.demand(&OF_TABLES);
     comparison.tally.demand(&[14]);
 }
@@ -250,9 +97,8 @@ fn every_small_table() {
     comparison.tally.report();
     // A leaf alone comes twice, every other sort more often; but more than a
     // point cannot be lost.
-    let mut sorts = comparison.seen.sorts();
-    sorts.retain(|(sort, _)| !sort.starts_with("more lost"));
-    demand(2, &sorts);
+    let seen = &comparison.seen;
+    seen.demand_but(2, |sort| sort.starts_with("more lost"));
 }
 
 /// The greatest losses and the least, with every number.
@@ -268,7 +114,7 @@ fn four_c_below_each_play() {
             .hold(&text, |_| (-1..=300).collect())
             .expect("accepted");
         assert_eq!((table.nodes.len(), table.grains), (MOST_NODES, GRAINS));
-        assert_eq!(children(&table), 255);
+        assert_eq!(root_children(&table), 255);
 
         let known = [GREATEST, 0, 1, 0, GRAINS, GREATEST];
         for (number, grains) in (1..).zip(known) {
@@ -295,13 +141,13 @@ fn four_c_below_each_play() {
 #[test]
 fn most_children() {
     let mut comparison = Comparison::new("judging on 1,023 children");
-    for kind in *b"MN" {
-        let mut random = Random::of_case(comparison.tally.seed, u64::from(kind));
-        let text = largest::flat(kind, &mut random);
+    for kind in [b"M", b"N"] {
+        let mut random = Random::of_case(comparison.tally.seed, u64::from(kind[0]));
+        let text = Knobs::largest_flat(kind, &mut random).text(&mut random);
         let table = comparison
             .hold(&text, |_| (0..=MOST_NODES as i64).collect())
             .expect("accepted");
-        assert_eq!(children(&table), MOST_NODES - 1);
+        assert_eq!(root_children(&table), MOST_NODES - 1);
     }
     comparison.tally.report();
     assert_eq!(comparison.tally.counts[0], 2 * 1_023);
@@ -314,22 +160,17 @@ fn largest_tables() {
     let mut comparison = Comparison::new("judging on the largest tables");
     for number in 0..600 {
         let mut random = Random::of_case(comparison.tally.seed, number);
-        let text = largest::any(&mut random);
+        let text = texts::make(Knobs::largest, &mut random);
         let table = comparison
             .hold(&text, |children| plays(&mut random, children.unwrap_or(0)))
             .expect("valid");
         assert_eq!((table.nodes.len(), table.total), (MOST_NODES, 64));
     }
     comparison.tally.report();
-    let [max, min, chance, _] = comparison.seen.roots;
-    demand(
-        100,
-        &[
-            ("root Max".to_string(), max),
-            ("root Min".to_string(), min),
-            ("root Chance".to_string(), chance),
-        ],
-    );
+    for root in ["root Max", "root Min", "root Chance"] {
+        let count = comparison.seen.of(root);
+        assert!(count >= 100, "{root} came only {count} times");
+    }
 }
 
 // ---------------------------------------------------------------------------
@@ -388,7 +229,7 @@ fn second_engine_counts_the_level_plays() {
         let Ok(table) = second::read(&texts::case(&mut random).text) else {
             continue;
         };
-        let losses: Vec<(i64, usize)> = (1..=children(&table) as i64)
+        let losses: Vec<(i64, usize)> = (1..=root_children(&table) as i64)
             .filter_map(|number| match second::judge(&table, number) {
                 Ok(Judgement::Loss { grains, level }) => Some((grains, level)),
                 other => {

@@ -6,12 +6,6 @@
 //! variable MARGIN_PROGRAM says (a relative name counts from this package's
 //! folder). SEED sets the seed of the random inputs, CASES their number.
 
-// A program returns no code, and takes too long for a hundred thousand inputs.
-#[allow(dead_code)]
-mod common;
-#[path = "common/seen.rs"]
-mod seen;
-
 use std::env;
 use std::fs::{self, File};
 use std::io::{ErrorKind, Write};
@@ -20,12 +14,15 @@ use std::process::{Child, Command, Output, Stdio};
 use std::thread;
 use std::time::Duration;
 
-use common::{demand, Tally, OF_TABLES};
+use compare::hold;
+use compare::hold::seen::Seen;
+use compare::hold::tally::{Tally, OF_TABLES};
 use compare::random::{number_from_environment, Random};
-use compare::second::{self, FARTHEST_END, GREATEST_MARGIN, LINE, MOST_NODES};
+use compare::second::{self, LINE, MOST_NODES};
 use compare::texts::examples::*;
+use compare::texts::inputs::{damage, margin_line};
+use compare::texts::knobs::Knobs;
 use compare::texts::{self, largest};
-use seen::Seen;
 
 // ---------------------------------------------------------------------------
 // Running the program
@@ -162,128 +159,9 @@ fn number_after(word: &str, output: &str) -> Option<i64> {
 // Random inputs
 // ---------------------------------------------------------------------------
 
-/// The margin's line for a table of this span. The first of the two says whether
-/// the line is well-written.
-fn margin_line(random: &mut Random, span: i64) -> (bool, Vec<u8>) {
-    let margin = match random.below(8) {
-        0 | 1 => 0,
-        2 => span + random.pick(&[-1, 0, 1]),
-        3 => random.pick(&[1, 9, 10, 99, 100, GREATEST_MARGIN]),
-        4 => random.pick(&[
-            GREATEST_MARGIN + 1,
-            99_999_999_999_999,
-            -1,
-            -9_999_999_999_999,
-        ]),
-        5 => random.between(0, span) / 100,
-        _ => random.between(0, span),
-    };
-    let well = format!("{margin:>14}\n").into_bytes();
-    if !random.one_in(4) {
-        return (true, well);
-    }
-    let columns = match random.below(18) {
-        0 => String::new(),
-        1 => "-0".to_string(),
-        2 => format!("0{margin}"),
-        3 => format!("{margin:0>14}"),
-        4 => format!("+{}", margin.abs()),
-        5 => "-".to_string(),
-        6 => format!("{margin:<14}"),
-        7 => format!("{margin} "),
-        8 => format!("{margin}\r"),
-        9 => format!("- {}", margin.abs()),
-        10 => format!("--{}", margin.abs()),
-        11 => format!("{margin}.0"),
-        12 => format!("\t{margin}"),
-        13 => format!("{margin} {margin}"),
-        14 => format!("{margin}\0"),
-        15 => format!("{margin}\n"),
-        _ => {
-            // The line is right but for one byte, newline included.
-            let mut line = well;
-            line[random.below(15)] = match random.below(3) {
-                0 => random.pick(b"\r\n\t\0/:+-. x"),
-                1 => random.pick(b"0123456789"),
-                _ => random.bits() as u8,
-            };
-            return (false, line);
-        }
-    };
-    let columns = &columns.as_bytes()[..columns.len().min(14)];
-    let mut line = vec![b' '; 14 - columns.len()];
-    line.extend_from_slice(columns);
-    line.push(b'\n');
-    (false, line)
-}
-
-/// Changes the whole input.
-fn damage(input: &mut Vec<u8>, random: &mut Random) {
-    match random.below(14) {
-        0 => input.clear(),
-        1 => input.truncate(random.below(16)),
-        2 => input.truncate(15),
-        3 => input.truncate(random.below(input.len() + 1)),
-        4 => {
-            let lines = std::mem::take(input);
-            for byte in lines {
-                if byte == b'\n' {
-                    input.push(b'\r');
-                }
-                input.push(byte);
-            }
-        }
-        5 => {
-            for byte in input.iter_mut().filter(|byte| **byte == b'\n') {
-                *byte = b'\r';
-            }
-        }
-        // A column more or fewer for the margin, no margin, two margins.
-        6 => input.insert(0, b' '),
-        7 => {
-            input.remove(0);
-        }
-        8 => {
-            input.drain(..15.min(input.len()));
-        }
-        9 => {
-            let line = input[..15.min(input.len())].to_vec();
-            input.splice(..0, line);
-        }
-        // Something after the table.
-        10 => input.extend_from_slice(random.pick(&[b"\n", b" ", b"\0", b"\x1a"])),
-        11 => {
-            let line = input[input.len().saturating_sub(LINE)..].to_vec();
-            input.extend_from_slice(&line);
-        }
-        // Binary, of a length that a table may have or not.
-        12 => {
-            let length = match random.below(3) {
-                0 => 15 + LINE * random.below(40),
-                1 => random.below(3_000),
-                _ => 15 + LINE * (1 + MOST_NODES),
-            };
-            *input = (0..length).map(|_| random.bits() as u8).collect();
-        }
-        // Around the longest input, as if the table went on.
-        _ => {
-            let length = 15 + random.pick(&[25_600, 25_624, 25_625, 25_626, 25_650, 51_250]);
-            while input.len() < length {
-                let from = input.len().saturating_sub(LINE);
-                let more = match input.get(from) {
-                    Some(&byte) => byte,
-                    None => b' ',
-                };
-                input.push(more);
-            }
-            input.truncate(length);
-        }
-    }
-}
-
 /// From the lowest end to the highest in grains, of a text that is a table.
 fn span(text: &[u8]) -> i64 {
-    second::read(text).map_or(1_000, |table| (table.highest - table.lowest) * table.grains)
+    second::read(text).map_or(1_000, |table| hold::span(&table))
 }
 
 /// The main comparison. It also fails where the inputs or the answers were too
@@ -296,9 +174,9 @@ fn random_inputs() {
     for number in 0..cases {
         let mut random = Random::of_case(comparison.tally.seed, number);
         let text = match number % 8 {
-            0 => texts::close(&mut random),
-            1 => texts::dice(&mut random),
-            2 | 3 => texts::valid(&mut random),
+            0 => texts::make(Knobs::close, &mut random),
+            1 => texts::make(Knobs::dice, &mut random),
+            2 | 3 => texts::make(Knobs::any, &mut random),
             _ => texts::case(&mut random).text,
         };
         let table = second::read(&text);
@@ -339,23 +217,12 @@ fn random_inputs() {
         seen.count("several grains", grains.is_some_and(|grains| grains > 1));
     }
     comparison.tally.report();
-    demand(100, &seen.sorts);
+    seen.demand(100);
     assert!(comparison.tally.cases >= 2_000, "too few inputs");
     for number in OF_TABLES {
         let count = comparison.tally.counts[number];
         assert!(count >= 4, "refusal {number} came only {count} times");
     }
-}
-
-/// A root of this kind, M or N, and 1,023 leaves, none of them at an end, so that
-/// margin 0 reads them all.
-fn all_read(kind: u8) -> Vec<u8> {
-    let kind = char::from(kind);
-    let mut text = format!("1024  64-1000000 1000000\n   0 {kind}{:18}\n", "");
-    for node in 1..MOST_NODES {
-        text += &format!("{node:>4} L    0     {node:>8}\n");
-    }
-    text.into_bytes()
 }
 
 /// The greatest tables, whose answers have the widest numbers and the most
@@ -364,16 +231,13 @@ fn all_read(kind: u8) -> Vec<u8> {
 fn largest_inputs() {
     let mut comparison = Comparison::new("the program on the largest inputs");
     let mut seen = Seen::default();
-    let mut texts: Vec<Vec<u8>> = vec![all_read(b'M'), all_read(b'N')];
-    for end in [-FARTHEST_END, FARTHEST_END] {
-        texts.push(largest::four_deep(end));
-        texts.push(largest::plays(b'M', end));
-        texts.push(largest::plays(b'N', end));
-    }
+    let mut texts = vec![largest::all_read(b'M'), largest::all_read(b'N')];
+    texts.extend(largest::four_chances());
     for number in 0..40 {
         let mut random = Random::of_case(comparison.tally.seed, number);
-        texts.push(largest::any(&mut random));
-        texts.push(largest::flat(random.pick(b"MN"), &mut random));
+        texts.push(texts::make(Knobs::largest, &mut random));
+        let flat = Knobs::largest_flat(b"MN", &mut random);
+        texts.push(flat.text(&mut random));
     }
     for text in &texts {
         assert_eq!(text.len(), LINE * (1 + MOST_NODES));
@@ -412,7 +276,7 @@ fn largest_inputs() {
         }
     }
     comparison.tally.report();
-    demand(6, &seen.sorts);
+    seen.demand(6);
 }
 
 // ---------------------------------------------------------------------------

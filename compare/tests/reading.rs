@@ -1,162 +1,22 @@
-//! Holds the proved engine's reading to the second engine's: the refusal and
-//! its line, or every number and entry of the table; and that all else in the
-//! lent arrays is left as it was.
+//! Reading, held to the second engine and to document 01.
 //!
 //! The environment variable SEED sets the seed of the random texts, CASES their
 //! number.
 
-mod common;
-
-use common::{code, demand, Tally, OF_TABLES};
 use compare::engine::{self, Lent};
+use compare::hold::reading::{expected, Comparison};
+use compare::hold::seen::{Seen, ROOTS};
+use compare::hold::tally::OF_TABLES;
 use compare::random::{number_from_environment, seed, Random};
-use compare::second::{self, Kind, Refusal, Table, LINE, MOST_NODES};
+use compare::second::{self, Kind, Refusal, LINE, MOST_NODES, MOST_TOTAL};
 use compare::texts;
+use compare::texts::broken::broken;
 use compare::texts::examples::*;
 use compare::texts::small::{for_each, lines, Utilities};
 
 // ---------------------------------------------------------------------------
-// The comparison
-// ---------------------------------------------------------------------------
-
-/// Compares the two engines on texts.
-struct Comparison {
-    tally: Tally,
-    lent: Box<Lent>,
-}
-
-impl Comparison {
-    fn new(name: &'static str) -> Comparison {
-        Comparison {
-            tally: Tally::new(name),
-            lent: Box::new(Lent::PATTERN),
-        }
-    }
-
-    /// Gives a text to both engines. Fails the test unless they agree.
-    fn hold(&mut self, text: &[u8]) -> Result<Table, Refusal> {
-        let answer = second::read(text);
-        let (returned, expected) = expected(&answer);
-        let got = engine::read(text, &mut self.lent);
-        if got != returned || *self.lent != expected {
-            panic!(
-                "{}: the engines differ\n{}text of {} bytes:\n{}",
-                self.tally.place(),
-                differences(returned, &expected, got, &self.lent),
-                text.len(),
-                escaped(text),
-            );
-        }
-        self.tally.add(&[returned]);
-        answer
-    }
-}
-
-/// What the proved engine must return, and what must then stand in the arrays.
-fn expected(answer: &Result<Table, Refusal>) -> (u64, Lent) {
-    let mut lent = Lent::PATTERN;
-    if let Ok(table) = answer {
-        lent.numbers[..7].copy_from_slice(&[
-            table.nodes.len() as i64,
-            table.total,
-            table.lowest,
-            table.highest,
-            i64::from(table.chances),
-            table.grains,
-            table.leaves as i64,
-        ]);
-        for (i, node) in table.nodes.iter().enumerate() {
-            lent.kind[i] = match node.kind {
-                Kind::Leaf => 0,
-                Kind::Max => 1,
-                Kind::Min => 2,
-                Kind::Chance => 3,
-            };
-            lent.stop[i] = node.stop as u16;
-            lent.weight[i] = node.weight.unwrap_or(0) as u8;
-            lent.height[i] = node.utility.map_or(0, |u| (u - table.lowest) as u32);
-        }
-    }
-    (code(answer), lent)
-}
-
-/// Names what differs: the numbers whole, of each other array the first entry.
-fn differences(returned: u64, expected: &Lent, got_returned: u64, got: &Lent) -> String {
-    fn first<T: PartialEq + std::fmt::Debug>(name: &str, expected: &[T], got: &[T]) -> String {
-        match expected.iter().zip(got).position(|(e, g)| e != g) {
-            Some(i) => format!(
-                "{name}[{i}]: expected {:?}, got {:?}\n",
-                expected[i], got[i]
-            ),
-            None => String::new(),
-        }
-    }
-    let mut report = format!("returned: expected {returned}, got {got_returned}\n");
-    if expected.numbers != got.numbers {
-        report += &format!(
-            "numbers: expected {:?}, got {:?}\n",
-            expected.numbers, got.numbers
-        );
-    }
-    report += &first("kind", &expected.kind, &got.kind);
-    report += &first("stop", &expected.stop, &got.stop);
-    report += &first("weight", &expected.weight, &got.weight);
-    report += &first("height", &expected.height, &got.height);
-    report
-}
-
-// ---------------------------------------------------------------------------
 // Random texts
 // ---------------------------------------------------------------------------
-
-/// What the accepted tables of a run had among them.
-#[derive(Default)]
-struct Seen {
-    chances: [u64; 5],
-    longest_path: u64,
-    most_nodes: u64,
-    least_total: u64,
-    greatest_total: u64,
-    equal_ends: u64,
-    widest_ends: u64,
-    roots: [u64; 4],
-}
-
-impl Seen {
-    fn add(&mut self, table: &Table) {
-        let mut depths: Vec<usize> = Vec::with_capacity(table.nodes.len());
-        for node in &table.nodes {
-            depths.push(node.parent.map_or(1, |parent| depths[parent] + 1));
-        }
-        self.chances[table.chances as usize] += 1;
-        self.longest_path += u64::from(depths.contains(&64));
-        self.most_nodes += u64::from(table.nodes.len() == MOST_NODES);
-        self.least_total += u64::from(table.total == 1);
-        self.greatest_total += u64::from(table.total == 64);
-        self.equal_ends += u64::from(table.lowest == table.highest);
-        self.widest_ends += u64::from((table.lowest, table.highest) == (-1_000_000, 1_000_000));
-        self.roots[table.nodes[0].kind as usize] += 1;
-    }
-
-    /// Every sort of table, by name, and how often it was seen.
-    fn sorts(&self) -> Vec<(String, u64)> {
-        let mut sorts = vec![
-            ("a path of 64 nodes".to_string(), self.longest_path),
-            ("1,024 nodes".to_string(), self.most_nodes),
-            ("T 1".to_string(), self.least_total),
-            ("T 64".to_string(), self.greatest_total),
-            ("equal ends".to_string(), self.equal_ends),
-            ("the widest ends".to_string(), self.widest_ends),
-        ];
-        for (k, &count) in self.chances.iter().enumerate() {
-            sorts.push((format!("K {k}"), count));
-        }
-        for kind in [Kind::Max, Kind::Min, Kind::Chance, Kind::Leaf] {
-            sorts.push((format!("root {kind:?}"), self.roots[kind as usize]));
-        }
-        sorts
-    }
-}
 
 /// The main comparison. It also fails where the texts were too much alike to
 /// mean anything: each refusal, and each sort of accepted table, must have come
@@ -178,12 +38,33 @@ fn random_texts() {
             );
         }
         if let Ok(table) = &answer {
-            seen.add(table);
+            seen.count_table(table);
+            seen.count("T 1", table.total == 1);
+            seen.count("T 64", table.total == MOST_TOTAL);
+            seen.count_chances(table);
+            seen.count_root(&ROOTS, table);
         }
     }
     comparison.tally.report();
-    demand(100, &seen.sorts());
+    seen.demand(100);
     comparison.tally.demand(&OF_TABLES);
+}
+
+/// Tables with one fault each: both engines must name the refusal, and the line,
+/// for which the table was broken.
+#[test]
+fn each_refusal_alone() {
+    let mut comparison = Comparison::new("each refusal alone");
+    for number in 1..=10 {
+        for case in 0..2_000 {
+            let case = 10_000 * u64::from(number) + case;
+            let mut random = Random::of_case(comparison.tally.seed, case);
+            let (text, refusal) = broken(number, &mut random);
+            let got = comparison.hold(&text).map(|_| ());
+            assert_eq!(got, Err(refusal), "case {case}\n{}", escaped(&text));
+        }
+    }
+    comparison.tally.report();
 }
 
 // ---------------------------------------------------------------------------

@@ -1,109 +1,22 @@
-//! Holds the proved engine's exact worth to the second engine's: the refusal and
-//! its line, or the worth and G; and that all else in the lent numbers is left
-//! as it was.
+//! The exact worth, held to the second engine and to document 01's tables.
 //!
 //! The environment variable SEED sets the seed of the random texts, CASES their
 //! number.
 
-mod common;
-#[path = "common/numbers.rs"]
-mod numbers;
-
-use common::{code, demand, Tally, OF_TABLES};
-use compare::engine;
+use compare::hold::numbers::ROOM;
+use compare::hold::seen::Seen;
+use compare::hold::tally::{Tally, OF_TABLES};
+use compare::hold::worth::{count, hold, hold_to};
 use compare::random::{number_from_environment, Random};
-use compare::second::{self, Kind, Refusal, Table, FARTHEST_END, LINE, MOST_NODES};
+use compare::second::{self, Kind, FARTHEST_END, MOST_NODES};
 use compare::texts::examples::*;
+use compare::texts::knobs::Knobs;
 use compare::texts::small::{for_each, six_nodes};
-use compare::texts::{self, largest};
-use numbers::{agree, ROOM};
-
-// ---------------------------------------------------------------------------
-// The comparison
-// ---------------------------------------------------------------------------
-
-/// Gives a text to both engines, to the proved one twice: with room to spare,
-/// and with room for 0, 1 or 2 numbers, by turns. Fails the test unless they
-/// agree.
-fn hold(tally: &mut Tally, text: &[u8]) -> Result<(Table, i64), Refusal> {
-    let answer = second::read(text).map(|table| {
-        let worth = second::worth(&table);
-        (table, worth)
-    });
-    let returned = code(&answer);
-    let written = match &answer {
-        Ok((table, worth)) => &[*worth, table.grains][..],
-        Err(_) => &[],
-    };
-    for room in [ROOM, (tally.cases % 3) as usize] {
-        hold_to(tally, text, room, returned, written);
-    }
-    tally.add(&[returned]);
-    answer
-}
-
-/// Holds the proved engine to this answer.
-fn hold_to(tally: &Tally, text: &[u8], room: usize, returned: u64, written: &[i64]) {
-    let asked = format_args!("the worth");
-    agree(tally, text, asked, room, (returned, written), |numbers| {
-        engine::worth(text, numbers)
-    });
-}
+use compare::texts::{self, largest, put_utility};
 
 // ---------------------------------------------------------------------------
 // Random texts
 // ---------------------------------------------------------------------------
-
-/// What the accepted tables of a run had among them.
-#[derive(Default)]
-struct Seen {
-    chances: [u64; 5],
-    roots: [u64; 4],
-    /// Of the tables whose ends differ, those worth one of them, and those
-    /// worth something between.
-    at_lowest: u64,
-    at_highest: u64,
-    between: u64,
-    below_zero: u64,
-    above_zero: u64,
-    /// The worth is no whole number of points.
-    broken: u64,
-}
-
-impl Seen {
-    fn add(&mut self, table: &Table, worth: i64) {
-        let low = table.lowest * table.grains;
-        let high = table.highest * table.grains;
-        assert!((low..=high).contains(&worth), "{worth} beyond the ends");
-        self.chances[table.chances as usize] += 1;
-        self.roots[table.nodes[0].kind as usize] += 1;
-        self.at_lowest += u64::from(low < high && worth == low);
-        self.at_highest += u64::from(low < high && worth == high);
-        self.between += u64::from(low < worth && worth < high);
-        self.below_zero += u64::from(worth < 0);
-        self.above_zero += u64::from(worth > 0);
-        self.broken += u64::from(worth % table.grains != 0);
-    }
-
-    /// Every sort of table, by name, and how often it was seen.
-    fn sorts(&self) -> Vec<(String, u64)> {
-        let mut sorts = vec![
-            ("a worth at the lowest end".to_string(), self.at_lowest),
-            ("a worth at the highest end".to_string(), self.at_highest),
-            ("a worth between the ends".to_string(), self.between),
-            ("a worth below zero".to_string(), self.below_zero),
-            ("a worth above zero".to_string(), self.above_zero),
-            ("a worth of no whole points".to_string(), self.broken),
-        ];
-        for (k, &count) in self.chances.iter().enumerate() {
-            sorts.push((format!("K {k}"), count));
-        }
-        for kind in [Kind::Max, Kind::Min, Kind::Chance, Kind::Leaf] {
-            sorts.push((format!("root {kind:?}"), self.roots[kind as usize]));
-        }
-        sorts
-    }
-}
 
 /// The main comparison. It also fails where the texts were too much alike to
 /// mean anything.
@@ -116,11 +29,11 @@ fn random_texts() {
         let mut random = Random::of_case(tally.seed, number);
         let case = texts::case(&mut random);
         if let Ok((table, worth)) = hold(&mut tally, &case.text) {
-            seen.add(&table, worth);
+            count(&mut seen, &table, worth);
         }
     }
     tally.report();
-    demand(100, &seen.sorts());
+    seen.demand(100);
     tally.demand(&OF_TABLES);
 }
 
@@ -140,7 +53,7 @@ fn every_small_table() {
         &six_nodes(&["-1", "2"]),
         &mut |text| match hold(&mut tally, text) {
             Ok((table, worth)) => {
-                seen.add(&table, worth);
+                count(&mut seen, &table, worth);
                 true
             }
             Err(refusal) => matches!(refusal.number, 8 | 9),
@@ -148,7 +61,7 @@ fn every_small_table() {
     );
     tally.report();
     // A leaf alone comes twice, every other sort of table more often.
-    demand(2, &seen.sorts());
+    seen.demand(2);
 }
 
 /// The greatest magnitudes: all leaves at one end, and all but one, each in its
@@ -173,11 +86,10 @@ fn four_c_on_a_path() {
             );
             chances[i] = chances[parent] * weight / 64;
             if node.kind == Kind::Leaf {
-                let utility = LINE * (i + 1) + 16..LINE * (i + 1) + 24;
-                text[utility.clone()].copy_from_slice(format!("{:>8}", -end).as_bytes());
+                put_utility(&mut text, i, -end);
                 let (_, worth) = hold(&mut tally, &text).expect("accepted");
                 assert_eq!(worth, end * (GRAINS - 2 * chances[i]), "leaf {i}");
-                text[utility].copy_from_slice(format!("{end:>8}").as_bytes());
+                put_utility(&mut text, i, end);
             }
         }
     }
@@ -189,26 +101,22 @@ fn four_c_on_a_path() {
 #[test]
 fn largest_tables() {
     let mut tally = Tally::new("worth of the largest tables");
-    let (mut lowest, mut highest, mut between) = (0, 0, 0);
+    let mut seen = Seen::default();
     for number in 0..1_000 {
         let mut random = Random::of_case(tally.seed, number);
-        let (table, worth) = hold(&mut tally, &largest::any(&mut random)).expect("valid");
+        let text = texts::make(Knobs::largest, &mut random);
+        let (table, worth) = hold(&mut tally, &text).expect("valid");
         assert_eq!((table.nodes.len(), table.total), (MOST_NODES, 64));
-        if table.chances == 4 {
-            lowest += u64::from(worth == -16_777_216_000_000);
-            highest += u64::from(worth == 16_777_216_000_000);
-            between += u64::from(worth.abs() < 16_777_216_000_000);
-        }
+        let four = table.chances == 4;
+        let lowest = four && worth == -16_777_216_000_000;
+        seen.count("the least worth of all", lowest);
+        let highest = four && worth == 16_777_216_000_000;
+        seen.count("the greatest worth of all", highest);
+        let between = four && worth.abs() < 16_777_216_000_000;
+        seen.count("four C and a worth between", between);
     }
     tally.report();
-    demand(
-        100,
-        &[
-            ("the least worth of all".to_string(), lowest),
-            ("the greatest worth of all".to_string(), highest),
-            ("four C and a worth between".to_string(), between),
-        ],
-    );
+    seen.demand(100);
 }
 
 // ---------------------------------------------------------------------------

@@ -9,6 +9,7 @@ use std::time::{Duration, Instant};
 use compare::engine::{self, Lent, Record};
 use compare::random::{seed, Random};
 use compare::second::{self, Bounds, Judgement, LINE, MOST_NODES};
+use compare::texts::bench::{bushy, bushy_plain, deep, flat, Shape};
 
 /// Node lines of the tables.
 const SIZES: [usize; 3] = [64, 256, 1_024];
@@ -213,10 +214,11 @@ fn rollouts(sorts: &[Sort]) {
 /// Tables of these shapes in all sizes.
 fn sorts(seed: u64, shapes: [(&'static str, Shape); 3]) -> Vec<Sort> {
     let mut sorts = Vec::new();
-    for (shape, make) in shapes {
+    for (shape, knobs) in shapes {
         for size in SIZES {
             let mut random = Random::new(seed);
-            let texts: Vec<Vec<u8>> = (0..TEXTS).map(|_| make(size, &mut random)).collect();
+            let knobs = knobs(size);
+            let texts: Vec<Vec<u8>> = (0..TEXTS).map(|_| knobs.text(&mut random)).collect();
             let table = second::read(&texts[0]).expect("a valid table");
             let span = (table.highest - table.lowest) * table.grains;
             let below = table.nodes.iter().map(|node| node.parent);
@@ -441,107 +443,4 @@ fn print(cases: &[Case]) {
             );
         }
     }
-}
-
-/// Makes a table of so many nodes.
-type Shape = fn(usize, &mut Random) -> Vec<u8>;
-
-/// A table being written, with the ends at their widest.
-struct Writer<'a> {
-    text: String,
-    nodes: usize,
-    random: &'a mut Random,
-}
-
-impl Writer<'_> {
-    fn new(count: usize, total: usize, random: &mut Random) -> Writer<'_> {
-        Writer {
-            text: format!("{count:>4}{total:>4}-1000000 1000000\n"),
-            nodes: 0,
-            random,
-        }
-    }
-
-    /// Writes a node and returns its number.
-    fn node(&mut self, kind: char, parent: Option<usize>, weight: Option<usize>) -> usize {
-        let written = |field: Option<usize>| field.map_or(String::new(), |n| n.to_string());
-        let node = self.nodes;
-        let utility = match kind {
-            'L' => self.random.between(-1_000_000, 1_000_000).to_string(),
-            _ => String::new(),
-        };
-        let (parent, weight) = (written(parent), written(weight));
-        self.text += &format!("{node:>4} {kind}{parent:>5}{weight:>5}{utility:>8}\n");
-        self.nodes += 1;
-        node
-    }
-
-    fn finish(self) -> Vec<u8> {
-        self.text.into_bytes()
-    }
-}
-
-/// A root and its leaves.
-fn flat(count: usize, random: &mut Random) -> Vec<u8> {
-    let mut table = Writer::new(count, 1, random);
-    let root = table.node('M', None, None);
-    for _ in 1..count {
-        table.node('L', Some(root), None);
-    }
-    table.finish()
-}
-
-/// Chains of 64 nodes that share the root, the last one shorter where the count
-/// so demands.
-fn deep(count: usize, random: &mut Random) -> Vec<u8> {
-    let mut table = Writer::new(count, 1, random);
-    let root = table.node('M', None, None);
-    while table.nodes < count {
-        let mut parent = root;
-        for depth in 2..=(count - table.nodes).min(63) {
-            let kind = if depth % 2 == 0 { 'N' } else { 'M' };
-            parent = table.node(kind, Some(parent), None);
-        }
-        table.node('L', Some(parent), None);
-    }
-    table.finish()
-}
-
-/// The rolls of two dice.
-const ROLLS: usize = 21;
-
-/// Plays of a root, each followed by the 21 rolls of two dice; plays that are
-/// leaves fill up the count.
-fn bushy(count: usize, random: &mut Random) -> Vec<u8> {
-    let mut table = Writer::new(count, 36, random);
-    let root = table.node('M', None, None);
-    while table.nodes + 1 + ROLLS <= count {
-        let play = table.node('C', Some(root), None);
-        for first in 1..=6 {
-            for second in first..=6 {
-                let weight = if first == second { 1 } else { 2 };
-                table.node('L', Some(play), Some(weight));
-            }
-        }
-    }
-    while table.nodes < count {
-        table.node('L', Some(root), None);
-    }
-    table.finish()
-}
-
-/// The same with an N for each C, so that the other side chooses the roll.
-fn bushy_plain(count: usize, random: &mut Random) -> Vec<u8> {
-    let mut table = Writer::new(count, 1, random);
-    let root = table.node('M', None, None);
-    while table.nodes + 1 + ROLLS <= count {
-        let play = table.node('N', Some(root), None);
-        for _ in 0..ROLLS {
-            table.node('L', Some(play), None);
-        }
-    }
-    while table.nodes < count {
-        table.node('L', Some(root), None);
-    }
-    table.finish()
 }

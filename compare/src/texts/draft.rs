@@ -3,9 +3,12 @@
 
 use std::io::Write;
 
+use crate::second::LINE;
+
 pub struct Draft {
     pub count: i64,
-    pub total: i64,
+    /// What the weights under a C sum to. Document 01 has one total.
+    pub totals: Vec<i64>,
     pub lowest: i64,
     pub highest: i64,
     pub lines: Vec<Line>,
@@ -22,10 +25,41 @@ pub struct Line {
 }
 
 impl Draft {
+    /// A draft without lines.
+    pub fn new(totals: Vec<i64>, (lowest, highest): (i64, i64)) -> Draft {
+        Draft {
+            count: 0,
+            totals,
+            lowest,
+            highest,
+            lines: Vec::new(),
+        }
+    }
+
+    /// Adds a line at its place, counts it, and returns its node number.
+    pub fn add(
+        &mut self,
+        kind: u8,
+        parent: Option<i64>,
+        weight: Option<i64>,
+        utility: Option<i64>,
+    ) -> i64 {
+        let number = self.lines.len() as i64;
+        self.lines.push(Line {
+            number,
+            kind,
+            parent,
+            weight,
+            utility,
+        });
+        self.count = number + 1;
+        number
+    }
+
     pub fn text(&self) -> Vec<u8> {
-        let mut text = Vec::with_capacity(25 * (1 + self.lines.len()));
+        let mut text = Vec::with_capacity(LINE * (1 + self.lines.len()));
         put(&mut text, 4, Some(self.count));
-        put(&mut text, 4, Some(self.total));
+        put_totals(&mut text, &self.totals);
         put(&mut text, 8, Some(self.lowest));
         put(&mut text, 8, Some(self.highest));
         text.push(b'\n');
@@ -40,6 +74,14 @@ impl Draft {
         }
         text
     }
+}
+
+/// Writes columns 5 to 8 of the header.
+fn put_totals(text: &mut Vec<u8>, totals: &[i64]) {
+    let &[total] = totals else {
+        panic!("{totals:?}: document 01 has one total");
+    };
+    put(text, 4, Some(total));
 }
 
 /// Writes a field, right-justified in its columns.

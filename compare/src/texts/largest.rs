@@ -1,27 +1,14 @@
-//! Tables of the greatest magnitudes: 1,024 nodes, T 64, the widest ends.
+//! Fixed tables of the greatest magnitudes: 1,024 nodes, T 64, the widest ends.
 
-use super::draft::{Draft, Line};
-use super::grow;
-use crate::random::Random;
+use super::draft::Draft;
+use super::knobs::WIDEST;
 use crate::second::{FARTHEST_END, MOST_NODES, MOST_TOTAL};
 
-/// A random table. In one of four cases every leaf is at the lowest end, in one
-/// at the highest, otherwise each at either.
-pub fn any(random: &mut Random) -> Vec<u8> {
-    let mut draft = grow::largest(random);
-    let share = random.pick(&[0, 1, 1, 2]);
-    for line in &mut draft.lines {
-        if line.kind == b'L' {
-            let high = random.below(2) < share;
-            line.utility = Some(if high { FARTHEST_END } else { -FARTHEST_END });
-        }
-    }
-    draft.text()
-}
-
-/// A random table without C.
-pub fn plain(random: &mut Random) -> Vec<u8> {
-    grow::largest_plain(random).text()
+/// The tables below that have four C on a path, at either end.
+pub fn four_chances() -> Vec<Vec<u8>> {
+    let ends = [-FARTHEST_END, FARTHEST_END];
+    let tables = ends.map(|end| [four_deep(end), plays(b'M', end), plays(b'N', end)]);
+    tables.concat()
 }
 
 /// Chance nodes and leaves alone, each leaf of this utility. Five children of
@@ -33,6 +20,7 @@ pub fn four_deep(utility: i64) -> Vec<u8> {
     let mut draft = empty();
     add_chance(&mut draft, None, 4, 5, utility);
     draft.lines.truncate(MOST_NODES);
+    draft.count = MOST_NODES as i64;
     draft.lines[MOST_NODES - 1].weight = Some(2);
     draft.text()
 }
@@ -56,40 +44,30 @@ pub fn plays(kind: u8, best: i64) -> Vec<u8> {
     for utility in [best, short] {
         add(&mut draft, b'L', Some(root), Some(utility));
     }
-    add_leaves(&mut draft, root, || -best);
+    add_leaves(&mut draft, root, |_| -best);
     draft.text()
 }
 
-/// A root of this kind, M or N, and 1,023 leaves, each at an end or a point
-/// from it.
-pub fn flat(kind: u8, random: &mut Random) -> Vec<u8> {
-    const UTILITIES: [i64; 4] = [
-        -FARTHEST_END,
-        1 - FARTHEST_END,
-        FARTHEST_END - 1,
-        FARTHEST_END,
-    ];
+/// A root of this kind, M or N, and 1,023 leaves worth their node numbers: none
+/// is at an end, so margin 0 reads them all.
+pub fn all_read(kind: u8) -> Vec<u8> {
     let mut draft = empty();
     let root = add(&mut draft, kind, None, None);
-    add_leaves(&mut draft, root, || random.pick(&UTILITIES));
+    add_leaves(&mut draft, root, |node| node);
     draft.text()
 }
 
 /// A draft without lines.
 fn empty() -> Draft {
-    Draft {
-        count: MOST_NODES as i64,
-        total: MOST_TOTAL,
-        lowest: -FARTHEST_END,
-        highest: FARTHEST_END,
-        lines: Vec::with_capacity(MOST_NODES + 1),
-    }
+    Draft::new(vec![MOST_TOTAL], WIDEST)
 }
 
-/// Fills the draft up with leaves under this node.
-fn add_leaves(draft: &mut Draft, parent: i64, mut utility: impl FnMut() -> i64) {
+/// Fills the draft up with leaves under this node, each with a utility by its
+/// node number.
+fn add_leaves(draft: &mut Draft, parent: i64, utility: impl Fn(i64) -> i64) {
     while draft.lines.len() < MOST_NODES {
-        add(draft, b'L', Some(parent), Some(utility()));
+        let utility = utility(draft.count);
+        add(draft, b'L', Some(parent), Some(utility));
     }
 }
 
@@ -109,14 +87,6 @@ fn add_chance(draft: &mut Draft, parent: Option<i64>, levels: usize, inner: i64,
 /// Adds a line, with a weight of 1 if it stands under a C, and returns its node
 /// number.
 fn add(draft: &mut Draft, kind: u8, parent: Option<i64>, utility: Option<i64>) -> i64 {
-    let number = draft.lines.len() as i64;
     let under_chance = parent.is_some_and(|parent| draft.lines[parent as usize].kind == b'C');
-    draft.lines.push(Line {
-        number,
-        kind,
-        parent,
-        weight: under_chance.then_some(1),
-        utility,
-    });
-    number
+    draft.add(kind, parent, under_chance.then_some(1), utility)
 }

@@ -1,16 +1,25 @@
 //! Texts for both engines: random ones, which are valid tables or damaged on
 //! purpose; examples; all small tables; and the greatest.
+//!
+//! Every random table comes from one generator: `knobs` says what can be set,
+//! `settings` sets it, `grow` makes a draft by it, and `draft` writes that out.
+//! The damages, and the inputs of the margin program, begin with its tables.
 
+pub mod bench;
+pub mod broken;
 mod damage;
-mod dice;
 mod draft;
-mod even;
 pub mod examples;
 mod grow;
+pub mod inputs;
+pub mod knobs;
 pub mod largest;
+mod settings;
 pub mod small;
 
 use crate::random::Random;
+use crate::second::LINE;
+use knobs::Knobs;
 
 /// A text, and whether it was left a valid table.
 pub struct Case {
@@ -23,40 +32,20 @@ pub struct Case {
 pub fn case(random: &mut Random) -> Case {
     let valid = random.below(8) < 3;
     let text = if valid {
-        grow::valid(random).text()
+        make(Knobs::any, random)
     } else {
         damage::damaged(random)
     };
     Case { text, valid }
 }
 
-/// A valid table where many worths differ by less than a point.
-pub fn close(random: &mut Random) -> Vec<u8> {
-    grow::close(random).text()
+/// A table by this setting of the knobs.
+pub fn make(setting: fn(&mut Random) -> Knobs, random: &mut Random) -> Vec<u8> {
+    setting(random).text(random)
 }
 
-/// A valid table of any shape and size.
-pub fn valid(random: &mut Random) -> Vec<u8> {
-    grow::valid(random).text()
-}
-
-/// A valid table of any shape and size without C.
-pub fn plain(random: &mut Random) -> Vec<u8> {
-    grow::plain(random).text()
-}
-
-/// A valid table where the rounding of windows often decides.
-pub fn narrow(random: &mut Random) -> Vec<u8> {
-    grow::narrow(random).text()
-}
-
-/// A valid table with T 36 where every C has the 21 rolls of two dice.
-pub fn dice(random: &mut Random) -> Vec<u8> {
-    dice::dice(random).text()
-}
-
-/// A tree of document 000's first experiment: so many children at each inner
-/// node, so many levels below the root.
-pub fn even(children: usize, levels: usize, random: &mut Random) -> Vec<u8> {
-    even::even(children, levels, random).text()
+/// Writes another utility in the line of a leaf.
+pub fn put_utility(text: &mut [u8], leaf: usize, utility: i64) {
+    let columns = LINE * (leaf + 1) + 16..LINE * (leaf + 1) + 24;
+    text[columns].copy_from_slice(format!("{utility:>8}").as_bytes());
 }

@@ -1,10 +1,12 @@
-//! What the comparison tests share: the count of what came of the texts.
+//! The count of a test's texts, and of what the engines returned for them.
 
 use std::io::Write;
 use std::time::Instant;
 
-use compare::random::seed;
-use compare::second::Refusal;
+use crate::random::seed;
+
+/// Refusals of a table itself, whatever is asked of it.
+pub const OF_TABLES: [usize; 10] = [1, 2, 3, 4, 5, 6, 7, 8, 9, 10];
 
 /// Counts the texts of a test, and what the engines returned for them: once for
 /// each text, or for each question asked of it.
@@ -76,25 +78,4 @@ impl Tally {
 pub fn say(line: &str) {
     let line = format!("\n{line}\n");
     std::io::stderr().write_all(line.as_bytes()).expect("write");
-}
-
-/// Refusals of a table itself, whatever is asked of it.
-pub const OF_TABLES: [usize; 10] = [1, 2, 3, 4, 5, 6, 7, 8, 9, 10];
-
-/// Names every sort of accepted table, or of answer about it, with its count,
-/// then fails the test where one came too seldom.
-pub fn demand(least: u64, sorts: &[(String, u64)]) {
-    let lines: Vec<String> = sorts.iter().map(|(s, n)| format!("{s}: {n}")).collect();
-    say(&format!("among the accepted {}", lines.join("; ")));
-    for (sort, count) in sorts {
-        assert!(*count >= least, "{sort} came only {count} times");
-    }
-}
-
-/// What the proved engine must return: 0, or the refusal's line and number.
-pub fn code<T>(answer: &Result<T, Refusal>) -> u64 {
-    match answer {
-        Ok(_) => 0,
-        Err(refusal) => 100 * refusal.line as u64 + u64::from(refusal.number),
-    }
 }

@@ -1,21 +1,12 @@
-//! Damages drafts and texts, so that each refusal occurs, alone and together
-//! with others: then the sequence of the checks decides which one is named.
+//! Damages to a draft. Each leaves every field well-written.
 
-// All damages to a text share one type, whether they change its length or not.
-#![allow(clippy::ptr_arg)]
-
-use super::draft::{Draft, Line};
-use super::grow;
 use crate::random::Random;
-use crate::second::{LONGEST_PATH, MOST_CHANCES};
+use crate::texts::draft::{Draft, Line};
 
 /// Damages a draft at or near the node line of index `at`.
 type OnDraft = fn(&mut Draft, usize, &mut Random);
 
-/// Damages a text at or near the line of index `at`, 0 for the header.
-type OnText = fn(&mut Vec<u8>, usize, &mut Random);
-
-const ON_DRAFT: &[OnDraft] = &[
+pub const ON_DRAFT: &[OnDraft] = &[
     wrong_count,
     wrong_total,
     wrong_ends,
@@ -40,92 +31,6 @@ const ON_DRAFT: &[OnDraft] = &[
     exchange_lines,
 ];
 
-const ON_TEXT: &[OnText] = &[
-    change_byte,
-    change_byte,
-    change_byte,
-    replace_field,
-    replace_field,
-    replace_field,
-    replace_field,
-    change_newline,
-    change_column_5,
-    drop_text_line,
-    double_text_line,
-    exchange_text_lines,
-    shift_bytes,
-    change_length,
-    carriage_returns,
-];
-
-/// A damaged text, with one damage or several; several stand in half the cases
-/// on the same line.
-pub fn damaged(random: &mut Random) -> Vec<u8> {
-    let (mut draft, least) = match random.below(48) {
-        0..=4 => (grow::too_deep(random), 0),
-        5..=9 => (grow::too_chancy(random), 0),
-        10 => (grow::too_long(random), 0),
-        _ => (grow::valid(random), 1),
-    };
-    let damages = least
-        + match random.below(4) {
-            0 | 1 => 0,
-            2 => 1,
-            _ => 2 + random.below(3),
-        };
-    let on_text = (0..damages).filter(|_| random.one_in(3)).count();
-
-    let marked = marked_lines(&draft);
-    let same = random.one_in(2).then(|| spot(&draft, &marked, random));
-    for _ in on_text..damages {
-        let at = same.unwrap_or_else(|| spot(&draft, &marked, random));
-        random.pick(ON_DRAFT)(&mut draft, at, random);
-    }
-
-    let mut text = draft.text();
-    for _ in 0..on_text {
-        let at = match same {
-            Some(node) => node + 1,
-            None if random.one_in(4) => 0,
-            None => spot(&draft, &marked, random) + 1,
-        };
-        random.pick(ON_TEXT)(&mut text, at, random);
-    }
-    text
-}
-
-/// The first of the deepest nodes, and the first of those with the most chance
-/// nodes on their path; where a limit is passed, the first node that passes it.
-fn marked_lines(draft: &Draft) -> [usize; 2] {
-    let mut ranks: Vec<(usize, usize)> = Vec::with_capacity(draft.lines.len());
-    let mut marked = [0, 0];
-    for (i, line) in draft.lines.iter().enumerate() {
-        let (depth, chances) = line.parent.map_or((0, 0), |parent| ranks[parent as usize]);
-        let chances = chances + usize::from(line.kind == b'C');
-        ranks.push((
-            (depth + 1).min(LONGEST_PATH + 1),
-            chances.min(MOST_CHANCES + 1),
-        ));
-        if ranks[i].0 > ranks[marked[0]].0 {
-            marked[0] = i;
-        }
-        if ranks[i].1 > ranks[marked[1]].1 {
-            marked[1] = i;
-        }
-    }
-    marked
-}
-
-/// A node line to damage: any one, or one where the limits are near.
-fn spot(draft: &Draft, marked: &[usize; 2], random: &mut Random) -> usize {
-    match random.below(8) {
-        0 => 0,
-        1 => draft.lines.len().saturating_sub(1),
-        2..=4 => random.pick(marked),
-        _ => random.below(draft.lines.len().max(1)),
-    }
-}
-
 /// The first line from `at` on, and around from the top, that is wanted.
 fn line_from(draft: &Draft, at: usize, wanted: impl Fn(&Line) -> bool) -> Option<usize> {
     let count = draft.lines.len();
@@ -134,16 +39,14 @@ fn line_from(draft: &Draft, at: usize, wanted: impl Fn(&Line) -> bool) -> Option
         .find(|&i| wanted(&draft.lines[i]))
 }
 
-// Damages to a draft. Each leaves every field well-written.
-
 fn wrong_count(draft: &mut Draft, _: usize, random: &mut Random) {
     let count = draft.count.clamp(0, 1_025);
     draft.count = random.pick(&[count - 1, count + 1, 0, -1, 1_024, 1_025, 9_999, -999]);
 }
 
 fn wrong_total(draft: &mut Draft, _: usize, random: &mut Random) {
-    let total = draft.total.clamp(0, 65);
-    draft.total = random.pick(&[total - 1, total + 1, 0, 65, -1, 9_999, -999]);
+    let total = draft.totals[0].clamp(0, 65);
+    draft.totals[0] = random.pick(&[total - 1, total + 1, 0, 65, -1, 9_999, -999]);
 }
 
 fn wrong_ends(draft: &mut Draft, _: usize, random: &mut Random) {
@@ -263,7 +166,7 @@ fn ancestors(draft: &Draft, at: usize) -> Vec<usize> {
 }
 
 fn wrong_weight(draft: &mut Draft, at: usize, random: &mut Random) {
-    let total = draft.total;
+    let total = draft.totals[0];
     if let Some(line) = draft.lines.get_mut(at) {
         line.weight = match line.weight {
             None => random.pick(&[Some(1), Some(total), Some(0), Some(65)]),
@@ -308,7 +211,7 @@ fn heavier_by_256(draft: &mut Draft, at: usize, _: &mut Random) {
     let Some(chance) = line_from(draft, at, |line| line.kind == b'C') else {
         return;
     };
-    let total = draft.total;
+    let total = draft.totals[0];
     let mut weights: Vec<&mut i64> = draft
         .lines
         .iter_mut()
@@ -354,7 +257,7 @@ fn beyond_a_power_of_2(draft: &mut Draft, at: usize, random: &mut Random) {
         }
     };
     match random.below(4) {
-        0 => add(&mut draft.total, byte, 9_999),
+        0 => add(&mut draft.totals[0], byte, 9_999),
         1 => add(&mut draft.highest, wide, 99_999_999),
         _ => {}
     }
@@ -431,169 +334,6 @@ fn renumber(draft: &mut Draft, random: &mut Random) {
         draft.count = draft.lines.len() as i64;
         for (i, line) in draft.lines.iter_mut().enumerate() {
             line.number = i as i64;
-        }
-    }
-}
-
-// Damages to a text. They take the text as lines of 25 bytes, which it may no
-// longer be after another damage.
-
-const HEADER_FIELDS: [(usize, usize); 4] = [(0, 4), (4, 8), (8, 16), (16, 24)];
-const NODE_FIELDS: [(usize, usize); 5] = [(0, 4), (5, 6), (6, 11), (11, 16), (16, 24)];
-
-fn change_byte(text: &mut Vec<u8>, at: usize, random: &mut Random) {
-    if let Some(byte) = text.get_mut(25 * at + random.below(25)) {
-        *byte = match random.below(4) {
-            0 => random.bits() as u8,
-            1 => random.pick(b"\n -0"),
-            2 => random.pick(b"0123456789"),
-            _ => random.pick(b"MNCLAmz+.,_/:\t\r\0"),
-        };
-    }
-}
-
-/// Writes something else in the columns of a field.
-fn replace_field(text: &mut Vec<u8>, at: usize, random: &mut Random) {
-    let fields = if at == 0 {
-        &HEADER_FIELDS[..]
-    } else {
-        &NODE_FIELDS[..]
-    };
-    let (start, end) = random.pick(fields);
-    let Some(columns) = text.get_mut(25 * at + start..25 * at + end) else {
-        return;
-    };
-    let width = columns.len();
-    let written = String::from_utf8_lossy(columns).trim().to_string();
-    let value = written.parse::<i64>().unwrap_or(7);
-    let content = match random.below(22) {
-        0 => String::new(),
-        1 => "-0".to_string(),
-        2 => format!("0{written}"),
-        3 => "00".to_string(),
-        4 => format!("+{written}"),
-        5 => "-".to_string(),
-        6 => format!("--{value}"),
-        7 => format!("-0{value}"),
-        8 => format!("- {value}"),
-        9 => format!("{value}-"),
-        10 => format!("{value} {value}"),
-        11 => format!("\t{value}"),
-        12 => format!("{written:<width$}"),
-        13 => format!("{value:<width$}"),
-        14 => "9".repeat(width),
-        15 => format!("-{}", "9".repeat(width - 1)),
-        16 => format!("1{}", "0".repeat(width - 1)),
-        17 => format!("{value:0>width$}"),
-        18 => format!("{}", value + random.pick(&[-1, 1])),
-        19 => format!("{}", -value),
-        20 => {
-            let limits = [
-                -1, 0, 1, 4, 5, 64, 65, 1_023, 1_024, 1_025, -1_000_000, -1_000_001, 1_000_000,
-                1_000_001,
-            ];
-            format!("{}", random.pick(&limits))
-        }
-        _ => (0..width)
-            .map(|_| char::from(random.pick(b"  -0129")))
-            .collect(),
-    };
-    // What is too long for the columns loses its end.
-    let content = &content.as_bytes()[..content.len().min(width)];
-    columns.fill(b' ');
-    columns[width - content.len()..].copy_from_slice(content);
-}
-
-fn change_newline(text: &mut Vec<u8>, at: usize, random: &mut Random) {
-    if let Some(byte) = text.get_mut(25 * at + 24) {
-        *byte = random.pick(b"\r \x0b\x0c\x00\x8a0");
-    }
-}
-
-fn change_column_5(text: &mut Vec<u8>, at: usize, random: &mut Random) {
-    if let Some(byte) = text.get_mut(25 * at + 4) {
-        *byte = random.pick(b"0-\tM\n\x00\xa0");
-    }
-}
-
-fn drop_text_line(text: &mut Vec<u8>, at: usize, _: &mut Random) {
-    if 25 * at + 25 <= text.len() {
-        text.drain(25 * at..25 * at + 25);
-    }
-}
-
-fn double_text_line(text: &mut Vec<u8>, at: usize, _: &mut Random) {
-    if 25 * at + 25 <= text.len() {
-        let line = text[25 * at..25 * at + 25].to_vec();
-        text.splice(25 * at..25 * at, line);
-    }
-}
-
-fn exchange_text_lines(text: &mut Vec<u8>, at: usize, random: &mut Random) {
-    let lines = text.len() / 25;
-    if at < lines {
-        let other = random.below(lines);
-        for column in 0..25 {
-            text.swap(25 * at + column, 25 * other + column);
-        }
-    }
-}
-
-/// Puts in a byte and takes one out, so that all between is shifted; in one of
-/// four cases only one of the two.
-fn shift_bytes(text: &mut Vec<u8>, at: usize, random: &mut Random) {
-    let place = (25 * at + random.below(25)).min(text.len());
-    let (put, take) = random.pick(&[(true, true), (true, true), (true, false), (false, true)]);
-    if put {
-        text.insert(place, random.pick(b" 0\nM"));
-    }
-    if take && !text.is_empty() {
-        let place = random.below(text.len());
-        text.remove(place);
-    }
-}
-
-/// Gives the text another length: near itself, or near the limits.
-fn change_length(text: &mut Vec<u8>, at: usize, random: &mut Random) {
-    let length = text.len();
-    let new = match random.below(4) {
-        0 => random.pick(&[0, 1, 24, 25, 26, 49, 50, 51, 74, 75]),
-        1 => random.pick(&[
-            25_599, 25_600, 25_601, 25_624, 25_625, 25_626, 25_649, 25_650, 25_651, 51_250,
-        ]),
-        2 => random.pick(&[length.saturating_sub(1), length + 1, length + 25]),
-        _ => 25 * at,
-    };
-    // What is added repeats the last lines, or is blanks.
-    for i in length..new {
-        let byte = if i < 25 { b' ' } else { text[i - 25] };
-        text.push(byte);
-    }
-    text.truncate(new);
-}
-
-/// The line ends of another system: two bytes, or one in place of the newline
-/// or of the last column.
-fn carriage_returns(text: &mut Vec<u8>, _: usize, random: &mut Random) {
-    match random.below(3) {
-        0 => {
-            let lines = std::mem::take(text);
-            for byte in lines {
-                if byte == b'\n' {
-                    text.push(b'\r');
-                }
-                text.push(byte);
-            }
-        }
-        1 => {
-            for byte in text.iter_mut().filter(|byte| **byte == b'\n') {
-                *byte = b'\r';
-            }
-        }
-        _ => {
-            for line in text.chunks_exact_mut(25) {
-                line[23] = b'\r';
-            }
         }
     }
 }

@@ -2,9 +2,8 @@
 
 use std::fmt::Arguments;
 
-use compare::texts::examples::escaped;
-
-use crate::common::Tally;
+use super::tally::Tally;
+use crate::texts::examples::escaped;
 
 /// No call writes this, so a number that was written shows.
 const PATTERN: i64 = -0x5a5a_5a5a_5a5a_5a5a;

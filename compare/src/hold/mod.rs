@@ -1,0 +1,44 @@
+//! What the tests share: for each call, how the proved engine is held to the
+//! second one, or to an answer that is known; and the count of what came of the
+//! texts. Everything here fails the test where something differs.
+
+pub mod judging;
+pub mod numbers;
+pub mod reading;
+pub mod rolling;
+pub mod searching;
+pub mod seen;
+pub mod tally;
+pub mod turning;
+pub mod worth;
+
+use crate::second::{Kind, Refusal, Table};
+
+/// What the proved engine must return: 0, or the refusal's line and number.
+pub fn code<T>(answer: &Result<T, Refusal>) -> u64 {
+    match answer {
+        Ok(_) => 0,
+        Err(refusal) => 100 * refusal.line as u64 + u64::from(refusal.number),
+    }
+}
+
+/// From the lowest end to the highest, in grains.
+pub fn span(table: &Table) -> i64 {
+    (table.highest - table.lowest) * table.grains
+}
+
+/// How many children the root has.
+pub fn root_children(table: &Table) -> usize {
+    let nodes = table.nodes.iter();
+    nodes.filter(|node| node.parent == Some(0)).count()
+}
+
+/// How many children of a root M or N are worth as much as it; 0 elsewhere.
+pub fn best_plays(table: &Table, worths: &[i64]) -> usize {
+    let nodes = table.nodes.iter().zip(worths);
+    let best = nodes.filter(|(node, worth)| node.parent == Some(0) && **worth == worths[0]);
+    match table.nodes[0].kind {
+        Kind::Max | Kind::Min => best.count(),
+        Kind::Chance | Kind::Leaf => 0,
+    }
+}

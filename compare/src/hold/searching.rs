@@ -1,0 +1,343 @@
+//! The search: the refusal and its line, or the bounds, the play, the number of
+//! leaves read, G and every entry of the leaf list; and that all else in what was
+//! lent is left as it was. What the search promises of the exact worth is held to
+//! the answers too.
+
+use super::numbers::{agree, ROOM};
+use super::seen::{Seen, ROOTS};
+use super::tally::Tally;
+use super::{best_plays, code, root_children, span};
+use crate::engine;
+use crate::random::Random;
+use crate::second::{self, Found, Kind, Refusal, Table, GREATEST_MARGIN, MOST_NODES};
+use crate::texts::examples::escaped;
+use crate::texts::knobs::{ROLLS, WAYS};
+use crate::texts::put_utility;
+
+/// No node has this number, so an entry of a list that was written shows.
+pub const PATTERN: u16 = 0xa5a5;
+
+/// A longer list has at most so many entries beyond a table's leaves, or 1,024
+/// entries.
+const SPARE: usize = 30;
+
+/// Entries kept as a guard after a list lent.
+const GUARD: usize = 2;
+
+/// What a call must return and write: the answer with G, and the leaves read, in
+/// reading sequence.
+pub struct Expected {
+    pub answer: Result<(Found, i64), Refusal>,
+    pub leaves: Vec<u16>,
+}
+
+impl Expected {
+    /// What the second engine says of a table that was read.
+    pub fn of(table: &Result<Table, Refusal>, margin: i64, room: usize) -> Expected {
+        let table = match table {
+            Ok(table) => table,
+            Err(refusal) => return Expected::refused(*refusal),
+        };
+        let mut leaves = vec![PATTERN; room];
+        match second::search(table, margin, &mut leaves) {
+            Ok(found) => {
+                leaves.truncate(found.read);
+                let answer = Ok((found, table.grains));
+                Expected { answer, leaves }
+            }
+            Err(refusal) => Expected::refused(refusal),
+        }
+    }
+
+    /// An answer that is known; play 0 is none.
+    pub fn known(low: i64, high: i64, play: usize, leaves: &[u16], grains: i64) -> Expected {
+        let found = Found {
+            low,
+            high,
+            play: (play > 0).then_some(play),
+            read: leaves.len(),
+        };
+        Expected {
+            answer: Ok((found, grains)),
+            leaves: leaves.to_vec(),
+        }
+    }
+
+    pub fn refused(refusal: Refusal) -> Expected {
+        Expected {
+            answer: Err(refusal),
+            leaves: Vec::new(),
+        }
+    }
+}
+
+/// Holds the proved engine to this, with a leaf list of `room` entries and so
+/// many numbers lent.
+pub fn hold_to(
+    tally: &Tally,
+    text: &[u8],
+    margin: i64,
+    room: usize,
+    numbers: usize,
+    expected: &Expected,
+) {
+    let written = match expected.answer {
+        Ok((found, grains)) => &[
+            found.low,
+            found.high,
+            found.play.unwrap_or(0) as i64,
+            found.read as i64,
+            grains,
+        ][..],
+        Err(_) => &[],
+    };
+    let mut list = vec![PATTERN; room + GUARD];
+    let asked = format_args!("the search with margin {margin} and a list of {room}");
+    let returned = (code(&expected.answer), written);
+    agree(tally, text, asked, numbers, returned, |lent| {
+        engine::search(text, margin, &mut list[..room], lent)
+    });
+    let (read, rest) = list.split_at(expected.leaves.len());
+    if read != expected.leaves || rest.iter().any(|&entry| entry != PATTERN) {
+        panic!(
+            "{}: the engines differ on {asked}\n\
+             leaves: expected {:?}, then {PATTERN} for each entry left alone\n\
+             got {list:?}\n\
+             text of {} bytes:\n{}",
+            tally.place(),
+            expected.leaves,
+            text.len(),
+            escaped(text),
+        );
+    }
+}
+
+/// Compares the two engines on texts and margins.
+pub struct Comparison {
+    pub tally: Tally,
+    /// What the tables, the calls and answers, and the cut tests were like.
+    pub tables: Seen,
+    pub answers: Seen,
+    pub tests: Seen,
+    /// Margins compared so far; it sets the lengths lent next.
+    turn: usize,
+}
+
+impl Comparison {
+    pub fn new(name: &'static str) -> Comparison {
+        Comparison {
+            tally: Tally::new(name),
+            tables: Seen::default(),
+            answers: Seen::default(),
+            tests: Seen::default(),
+            turn: 0,
+        }
+    }
+
+    /// Gives a text to both engines with each margin that `margins` chooses; it
+    /// is told the table, or nothing where the text is refused. Fails the test
+    /// unless the engines agree and the answers keep what the search promises.
+    pub fn hold(
+        &mut self,
+        text: &[u8],
+        margins: impl FnOnce(Option<&Table>) -> Vec<i64>,
+    ) -> Result<Table, Refusal> {
+        let table = second::read(text);
+        let worths = table.as_ref().ok().map(second::worths);
+        let margins = margins(table.as_ref().ok());
+        let mut codes = Vec::with_capacity(2 * margins.len());
+        for margin in margins {
+            for (room, numbers) in self.lengths(table.as_ref().ok()) {
+                let expected = Expected::of(&table, margin, room);
+                hold_to(&self.tally, text, margin, room, numbers, &expected);
+                codes.push(code(&expected.answer));
+                let (Ok(table), Some(worths)) = (&table, &worths) else {
+                    continue;
+                };
+                count_list(&mut self.answers, room, table.leaves);
+                if let Ok((found, _)) = expected.answer {
+                    keeps_its_promises(table, worths, margin, found, &expected.leaves);
+                    count_answer(&mut self.answers, table, margin, found);
+                }
+            }
+        }
+        self.tally.add(&codes);
+        if let (Ok(table), Some(worths)) = (&table, &worths) {
+            count_table(&mut self.tables, table, worths);
+        }
+        table
+    }
+
+    /// Counts the cut tests of one search: by the kind of the node those that
+    /// cut, those where the margin is just enough, and those that would have cut
+    /// at a margin that is greater by one grain.
+    pub fn count_tests(&mut self, table: &Table, margin: i64) {
+        let gaps = gaps(table, margin);
+        for kind in [Kind::Max, Kind::Min, Kind::Chance] {
+            let here = || gaps.iter().filter(|(k, _)| *k == kind).map(|(_, gap)| gap);
+            let mut add = |sort: &str, count: usize| {
+                self.tests.add(&format!("{sort} at {kind:?}"), count as u64);
+            };
+            add("cut", here().filter(|gap| **gap <= margin).count());
+            add("just cut", here().filter(|gap| **gap == margin).count());
+            let not = here().filter(|gap| **gap == margin + 1).count();
+            add("just not cut", not);
+        }
+    }
+
+    /// The lengths of the lists and the numbers to lend, by turns: a list for
+    /// exactly the leaves or a longer one, with all numbers and one to spare;
+    /// and in some turns one that is too short, or fewer numbers.
+    fn lengths(&mut self, table: Option<&Table>) -> Vec<(usize, usize)> {
+        self.turn += 1;
+        let Some(table) = table else {
+            return vec![([0, 1, MOST_NODES][self.turn % 3], self.turn % (ROOM + 1))];
+        };
+        let leaves = table.leaves;
+        let fewer = self.turn / 8 % ROOM;
+        match self.turn % 8 {
+            0 => vec![(leaves, ROOM), (leaves - 1, ROOM)],
+            1 => vec![(leaves + 1, ROOM)],
+            2 => vec![(leaves + 1 + self.turn % SPARE, ROOM)],
+            3 => vec![(leaves, fewer), (leaves / 2, fewer)],
+            4 => vec![(MOST_NODES, ROOM)],
+            5 => vec![(leaves + 2, fewer)],
+            _ => vec![(leaves, ROOM)],
+        }
+    }
+}
+
+/// The exact worth lies within the bounds, these within the margin, the play's
+/// worth is within the margin of the best, and the leaves read are leaves, each
+/// once and in line order.
+pub fn keeps_its_promises(
+    table: &Table,
+    worths: &[i64],
+    margin: i64,
+    found: Found,
+    leaves: &[u16],
+) {
+    let worth = worths[0];
+    assert!(found.low <= worth && worth <= found.high, "{found:?}");
+    assert!(found.high - found.low <= margin, "{found:?} at {margin}");
+
+    let root = &table.nodes[0];
+    assert_eq!(
+        found.play.is_some(),
+        matches!(root.kind, Kind::Max | Kind::Min)
+    );
+    if let Some(play) = found.play {
+        assert_eq!(table.nodes[play].parent, Some(0));
+        let loss = match root.kind {
+            Kind::Max => worth - worths[play],
+            _ => worths[play] - worth,
+        };
+        assert!((0..=margin).contains(&loss), "{found:?} loses {loss}");
+    }
+
+    assert!(!leaves.is_empty() && leaves.len() == found.read);
+    assert!(leaves.windows(2).all(|pair| pair[0] < pair[1]));
+    let mut read = leaves.iter().map(|&leaf| &table.nodes[leaf as usize]);
+    assert!(read.all(|node| node.kind == Kind::Leaf));
+}
+
+fn count_table(seen: &mut Seen, table: &Table, worths: &[i64]) {
+    seen.count_table(table);
+    let best = best_plays(table, worths);
+    seen.count("a forced play", best > 0 && root_children(table) == 1);
+    seen.count("several plays of the best worth", best > 1);
+    let rolls = table.chances > 0 && table.total == WAYS && rolls_only(table);
+    seen.count("the 21 rolls at every C", rolls);
+    seen.count_chances(table);
+    seen.count_root(&ROOTS, table);
+}
+
+/// Whether every C has the 21 rolls of two dice as its children.
+fn rolls_only(table: &Table) -> bool {
+    let mut children = vec![0; table.nodes.len()];
+    for node in &table.nodes {
+        if let Some(parent) = node.parent {
+            children[parent] += 1;
+        }
+    }
+    let mut nodes = table.nodes.iter().zip(children);
+    nodes.all(|(node, children)| node.kind != Kind::Chance || children == ROLLS)
+}
+
+fn count_list(seen: &mut Seen, room: usize, leaves: usize) {
+    seen.count("list exact", room == leaves);
+    seen.count("list longer", room > leaves);
+    seen.count("list too short", room < leaves);
+}
+
+fn count_answer(seen: &mut Seen, table: &Table, margin: i64, found: Found) {
+    let width = found.high - found.low;
+    seen.count("bounds equal", width == 0);
+    seen.count("bounds within the margin", 0 < width && width < margin);
+    let as_far = 0 < width && width == margin;
+    seen.count("bounds as far apart as the margin", as_far);
+    seen.count("first child played", found.play == Some(1));
+    seen.count("later child played", found.play > Some(1));
+    let all = found.read == table.leaves;
+    for kind in ROOTS {
+        let here = table.nodes[0].kind == kind;
+        seen.count(&format!("all leaves read, root {kind:?}"), here && all);
+        // A lone leaf is always read.
+        if kind != Kind::Leaf {
+            seen.count(&format!("leaves unread, root {kind:?}"), here && !all);
+        }
+    }
+}
+
+/// The cut tests of a search: the kind of the node, and beta minus alpha.
+fn gaps(table: &Table, margin: i64) -> Vec<(Kind, i64)> {
+    let mut gaps = Vec::new();
+    let mut list = [PATTERN; MOST_NODES];
+    let _ = second::search_watched(table, margin, &mut list, |node, window| {
+        gaps.push((table.nodes[node].kind, window.beta - window.alpha));
+    });
+    gaps
+}
+
+/// Margins for a table: the least ones, the greatest, some around the gaps of
+/// cut tests and around the whole span, and one that is refused.
+pub fn margins(random: &mut Random, table: &Table) -> Vec<i64> {
+    let span = span(table);
+    let any = random.between(0, span);
+    let mut margins = vec![0, 1, any, GREATEST_MARGIN];
+    let beside = random.pick(&[-1, 0, 1]);
+    margins.push(span + beside);
+    // The first gaps are those of a full search, the others those of one that
+    // is cut more; what a search cuts at its own gap shows only by trying it.
+    for margin in [0, any] {
+        let gaps = gaps(table, margin);
+        if !gaps.is_empty() {
+            let (_, gap) = random.pick(&gaps);
+            margins.extend([gap - 1, gap, gap + 1]);
+        }
+    }
+    margins.push(match random.below(6) {
+        0 => GREATEST_MARGIN + 1,
+        1 => -1,
+        2 => i64::MIN,
+        3 => i64::MAX,
+        // A margin that would be allowed if bits were lost.
+        4 => any ^ (-1 << random.pick(&[46, 48, 63])),
+        _ => random.bits() as i64,
+    });
+    margins
+}
+
+/// Gives each leaf that was not read any other utility between the ends.
+pub fn change_unread(text: &mut [u8], table: &Table, read: &[u16], random: &mut Random) {
+    for (i, node) in table.nodes.iter().enumerate() {
+        if node.kind == Kind::Leaf && !read.contains(&(i as u16)) {
+            let utility = match random.below(3) {
+                0 => table.lowest,
+                1 => table.highest,
+                _ => random.between(table.lowest, table.highest),
+            };
+            put_utility(text, i, utility);
+        }
+    }
+}

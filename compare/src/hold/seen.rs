@@ -1,0 +1,99 @@
+//! Counts what the tables and the answers of a run had among them, so that a run
+//! whose texts were too much alike to mean anything fails.
+
+use super::tally::say;
+use crate::second::{Kind, Table, FARTHEST_END, LONGEST_PATH, MOST_NODES};
+
+/// The kinds that a root may have.
+pub const ROOTS: [Kind; 4] = [Kind::Max, Kind::Min, Kind::Chance, Kind::Leaf];
+
+/// Every sort, by name, and how often it was seen.
+#[derive(Default)]
+pub struct Seen {
+    sorts: Vec<(String, u64)>,
+    /// Where the next sort stands if they come in the same sequence again.
+    next: usize,
+}
+
+impl Seen {
+    /// Counts the case as one of this sort if it is one.
+    pub fn count(&mut self, sort: &str, is_one: bool) {
+        self.add(sort, u64::from(is_one));
+    }
+
+    /// Counts so many of this sort; one that was asked for and never seen stands
+    /// in the list too.
+    pub fn add(&mut self, sort: &str, count: u64) {
+        let named = |(name, _): &(String, u64)| name == sort;
+        let at = if self.sorts.get(self.next).is_some_and(named) {
+            self.next
+        } else {
+            let found = self.sorts.iter().position(named);
+            found.unwrap_or_else(|| {
+                self.sorts.push((sort.to_string(), 0));
+                self.sorts.len() - 1
+            })
+        };
+        self.sorts[at].1 += count;
+        self.next = at + 1;
+    }
+
+    /// How often this sort was seen.
+    pub fn of(&self, sort: &str) -> u64 {
+        let mut sorts = self.sorts.iter();
+        let found = sorts.find(|(name, _)| name == sort);
+        found.unwrap_or_else(|| panic!("no sort {sort}")).1
+    }
+
+    /// Names every sort with its count, then fails the test where there is none,
+    /// or one came too seldom.
+    pub fn demand(&self, least: u64) {
+        self.demand_but(least, |_| false);
+    }
+
+    /// The same, where these sorts need not come.
+    pub fn demand_but(&self, least: u64, spared: impl Fn(&str) -> bool) {
+        let lines: Vec<String> = self
+            .sorts
+            .iter()
+            .map(|(s, n)| format!("{s}: {n}"))
+            .collect();
+        say(&format!("among the accepted {}", lines.join("; ")));
+        assert!(!self.sorts.is_empty(), "no sort was counted");
+        for (sort, count) in self.sorts.iter().filter(|(sort, _)| !spared(sort)) {
+            assert!(*count >= least, "{sort} came only {count} times");
+        }
+    }
+
+    /// Counts what a table is like, its C left aside.
+    pub fn count_table(&mut self, table: &Table) {
+        let mut depths: Vec<usize> = Vec::with_capacity(table.nodes.len());
+        for node in &table.nodes {
+            depths.push(node.parent.map_or(1, |parent| depths[parent] + 1));
+        }
+        self.count("a path of 64 nodes", depths.contains(&LONGEST_PATH));
+        self.count("1,024 lines", table.nodes.len() == MOST_NODES);
+
+        let (lowest, highest) = (table.lowest, table.highest);
+        let widest = lowest == -FARTHEST_END && highest == FARTHEST_END;
+        self.count("the widest ends", widest);
+        self.count("an end of 0", lowest == 0 || highest == 0);
+        self.count("equal ends", lowest == highest);
+        self.count("both ends below zero", highest < 0);
+        self.count("both ends above zero", lowest > 0);
+    }
+
+    /// Counts the root's kind among these.
+    pub fn count_root(&mut self, kinds: &[Kind], table: &Table) {
+        for kind in kinds {
+            self.count(&format!("root {kind:?}"), table.nodes[0].kind == *kind);
+        }
+    }
+
+    /// Counts the greatest number of C on a path.
+    pub fn count_chances(&mut self, table: &Table) {
+        for (k, sort) in ["K 0", "K 1", "K 2", "K 3", "K 4"].iter().enumerate() {
+            self.count(sort, table.chances as usize == k);
+        }
+    }
+}

@@ -1,0 +1,262 @@
+//! Holds the generator of random tables to its knobs, so that a test which turns
+//! one gets the tables that it asks for; and the benchmark's tables to what they
+//! were.
+
+use compare::hold::seen::Seen;
+use compare::hold::{best_plays, root_children};
+use compare::random::{seed, Random};
+use compare::second::{self, Kind, Table, MOST_CHANCES, MOST_TOTAL};
+use compare::texts::examples::escaped;
+use compare::texts::knobs::{Kinds, Knobs, Order, Shape, Utilities, Weights, ROLLS, WIDEST};
+use compare::texts::{self, bench};
+
+/// A setting and its name.
+type Setting = (&'static str, fn(&mut Random) -> Knobs);
+
+/// Every setting whose tables are valid, and some with knobs turned besides.
+const SETTINGS: [Setting; 16] = [
+    ("any", Knobs::any),
+    ("plain", Knobs::plain),
+    ("close", Knobs::close),
+    ("narrow", Knobs::narrow),
+    ("ties", Knobs::ties),
+    ("forced", Knobs::forced),
+    ("dice", Knobs::dice),
+    ("largest", Knobs::largest),
+    ("largest plain", Knobs::largest_plain),
+    ("largest chains", Knobs::largest_chains),
+    ("largest flat", |random| Knobs::largest_flat(b"N", random)),
+    ("even", |_| Knobs::even(4, 3)),
+    ("benchmark", |_| bench::bushy(256)),
+    ("forced dice", |random| Knobs {
+        forced: true,
+        ..Knobs::dice(random)
+    }),
+    ("one side", |random| Knobs {
+        root: Kinds {
+            sides: b"M",
+            rarity: 0,
+        },
+        inner: Kinds {
+            sides: b"N",
+            rarity: 3,
+        },
+        chances: random.below(1 + MOST_CHANCES),
+        ..Knobs::any(random)
+    }),
+    ("by turns", |random| Knobs {
+        utilities: Utilities::Uniform,
+        order: Order::ByTurns,
+        weights: Weights::Even,
+        ..Knobs::any(random)
+    }),
+];
+
+/// Every setting makes valid tables, and they are as each knob says.
+#[test]
+fn tables_are_as_the_knobs_say() {
+    for (name, setting) in SETTINGS {
+        for number in 0..1_000 {
+            let mut random = Random::of_case(seed(), number);
+            let knobs = setting(&mut random);
+            let text = knobs.text(&mut random);
+            let place = || format!("{name}, case {number}: {knobs:?}\n{}", escaped(&text));
+            let table =
+                second::read(&text).unwrap_or_else(|refusal| panic!("{refusal:?} at {}", place()));
+            let broken = broken_knob(&knobs, &table);
+            assert_eq!(broken, None, "a knob is not obeyed by {}", place());
+        }
+    }
+}
+
+/// The first knob, by name, that a table does not obey.
+fn broken_knob(knobs: &Knobs, table: &Table) -> Option<&'static str> {
+    let fewer = knobs.stops > 0 || knobs.weights == Weights::Dice;
+    let nodes = table.nodes.len();
+    let ends = (table.lowest, table.highest);
+    let decision = matches!(table.nodes[0].kind, Kind::Max | Kind::Min);
+    let forced = !decision || root_children(table) == 1;
+    let knobs_and_tables = [
+        (
+            "nodes",
+            nodes == knobs.nodes || fewer && nodes < knobs.nodes,
+        ),
+        ("totals", knobs.totals == [table.total]),
+        ("ends", ends == knobs.ends),
+        ("utilities", utilities_obey(knobs, table)),
+        ("kinds", kinds_obey(knobs, table)),
+        ("order", order_obeys(knobs.order, table)),
+        ("chances", table.chances as usize <= knobs.chances),
+        ("path", longest_path(table) <= knobs.path),
+        ("shape", shape_obeys(knobs, table)),
+        ("forced", forced || !knobs.forced),
+        ("weights", weights_obey(knobs.weights, table)),
+    ];
+    let broken = knobs_and_tables.iter().find(|(_, obeyed)| !obeyed);
+    broken.map(|(name, _)| *name)
+}
+
+fn utilities_obey(knobs: &Knobs, table: &Table) -> bool {
+    let mut utilities = table.nodes.iter().filter_map(|node| node.utility);
+    match &knobs.utilities {
+        Utilities::OneOf(of) => utilities.all(|utility| of.contains(&utility)),
+        // The reader has held them to the ends.
+        Utilities::Spread | Utilities::Uniform => true,
+    }
+}
+
+fn kinds_obey(knobs: &Knobs, table: &Table) -> bool {
+    // Sides that are set by the order are held to that.
+    let by_order = |node: &second::Node| node.parent.is_some() && knobs.order != Order::Any;
+    table.nodes.iter().all(|node| {
+        let kinds = match node.parent {
+            None => knobs.root,
+            Some(_) => knobs.inner,
+        };
+        match node.kind {
+            Kind::Max => kinds.sides.contains(&b'M') || by_order(node),
+            Kind::Min => kinds.sides.contains(&b'N') || by_order(node),
+            Kind::Chance => kinds.rarity > 0 || knobs.order == Order::Rolls,
+            Kind::Leaf => true,
+        }
+    })
+}
+
+fn order_obeys(order: Order, table: &Table) -> bool {
+    let decides = |node: usize| matches!(table.nodes[node].kind, Kind::Max | Kind::Min);
+    let above = |node: usize| table.nodes[node].parent;
+    (1..table.nodes.len()).all(|node| {
+        let parent = above(node).expect("only the root has none");
+        let mut last = Some(parent);
+        while last.is_some_and(|node| !decides(node)) {
+            last = last.and_then(above);
+        }
+        let other = last.is_none_or(|last| table.nodes[last].kind != table.nodes[node].kind);
+        let turns = !decides(node) || other;
+        let rolls = table.nodes[node].kind == Kind::Leaf || decides(node) != decides(parent);
+        match order {
+            Order::Any => true,
+            Order::ByTurns => turns,
+            Order::Rolls => turns && rolls,
+        }
+    })
+}
+
+fn longest_path(table: &Table) -> usize {
+    let mut depths: Vec<usize> = Vec::new();
+    for node in &table.nodes {
+        depths.push(node.parent.map_or(1, |parent| depths[parent] + 1));
+    }
+    depths.into_iter().max().expect("a node")
+}
+
+/// How many children each inner node has, in line order of the nodes.
+fn children(table: &Table) -> Vec<usize> {
+    let mut children = vec![0; table.nodes.len()];
+    for parent in table.nodes.iter().filter_map(|node| node.parent) {
+        children[parent] += 1;
+    }
+    children.retain(|children| *children > 0);
+    children
+}
+
+fn shape_obeys(knobs: &Knobs, table: &Table) -> bool {
+    let children = children(table);
+    let mut below = children.iter().skip(1);
+    match knobs.shape {
+        // At the last level but one, and at a C, there may be other numbers.
+        Shape::Flat | Shape::Deep | Shape::Bushy(..) | Shape::Any => true,
+        Shape::Even(number) => children.iter().all(|children| *children == number),
+        Shape::Chains => below.all(|children| *children == 1),
+        Shape::Plays(size) => below.all(|children| *children == size - 1),
+    }
+}
+
+fn weights_obey(knob: Weights, table: &Table) -> bool {
+    weights(table).iter().all(|weights| {
+        let doubles = weights.iter().filter(|weight| **weight == 1).count();
+        match knob {
+            Weights::Any | Weights::Uneven => true,
+            Weights::Even => spread(weights) <= 1,
+            Weights::Dice => (weights.len(), doubles, table.total) == (ROLLS, 6, 36),
+        }
+    })
+}
+
+/// The weights under each C.
+fn weights(table: &Table) -> Vec<Vec<i64>> {
+    let mut weights = vec![Vec::new(); table.nodes.len()];
+    for node in &table.nodes {
+        if let (Some(parent), Some(weight)) = (node.parent, node.weight) {
+            weights[parent].push(weight);
+        }
+    }
+    weights.retain(|weights| !weights.is_empty());
+    weights
+}
+
+/// By how much the heaviest outweighs the lightest.
+fn spread(weights: &[i64]) -> i64 {
+    let (least, greatest) = (weights.iter().min(), weights.iter().max());
+    greatest.expect("a child") - least.expect("a child")
+}
+
+/// The knobs that set no bounds move what they should: few utilities make plays
+/// of the same worth, uneven weights are far apart, and with dice there are all
+/// numbers of C on a path.
+#[test]
+fn knobs_move_what_they_should() {
+    let mut seen = Seen::default();
+    for number in 0..2_000 {
+        let mut random = Random::of_case(seed(), number);
+        let mut make = |setting: fn(&mut Random) -> Knobs| {
+            let text = texts::make(setting, &mut random);
+            second::read(&text).expect("valid")
+        };
+        let ties = make(|random| Knobs {
+            ends: WIDEST,
+            utilities: Utilities::OneOf(vec![0, 1]),
+            ..Knobs::plain(random)
+        });
+        let best = best_plays(&ties, &second::worths(&ties));
+        seen.count("several plays of the best worth", best > 1);
+
+        let uneven = make(|random| Knobs {
+            totals: vec![MOST_TOTAL],
+            weights: Weights::Uneven,
+            ..Knobs::narrow(random)
+        });
+        let apart = weights(&uneven).iter().any(|weights| spread(weights) > 20);
+        seen.count("weights that differ by more than 20", apart);
+
+        seen.count_chances(&make(Knobs::dice));
+    }
+    seen.demand(150);
+}
+
+/// The benchmark's figures are compared with those of earlier runs, so every byte
+/// of its tables is as it was.
+#[test]
+fn benchmark_tables() {
+    const SEED: u64 = 20_001;
+    let shapes: [(bench::Shape, u64); 4] = [
+        (bench::flat, 0xe09a_90b8_7de4_822b),
+        (bench::deep, 0xe0e1_b2cf_ca1c_d386),
+        (bench::bushy, 0x6891_846a_0083_aa20),
+        (bench::bushy_plain, 0xbec5_ab31_2ead_d14c),
+    ];
+    for (shape, expected) in shapes {
+        let mut sum: u64 = 0xcbf2_9ce4_8422_2325;
+        for size in [64, 256, 1_024] {
+            let mut random = Random::new(SEED);
+            for _ in 0..8 {
+                let text = shape(size).text(&mut random);
+                // FNV-1a, of 64 bits.
+                for byte in text {
+                    sum = (sum ^ u64::from(byte)).wrapping_mul(0x100_0000_01b3);
+                }
+            }
+        }
+        assert_eq!(sum, expected, "{:?}", shape(64));
+    }
+}
