@@ -17,7 +17,7 @@ use Rattle.judge.specs.Judge.{Judgement, noDecision, judged}
 
 -- the root's children with their worths
 abbrev pub heightWorths : Table → List (Share ℕ)
-heightWorths t = heightShares (t .head .total) (grain t) (children (heightTree t))
+heightWorths t = heightShares (grain t) (children (heightTree t))
 
 abbrev pub heightLoss : Side → (best height : ℕ) → ℕ
 heightLoss AtM best height = best - height

@@ -8,14 +8,14 @@ use lib.ListN.{length, getD, drop}
 use lib.IntN.{ℤ, pos}
 use Rattle.line.specs.Refusal.{Verdict, refused, fine}
 use Rattle.table.specs.Tree.{MAX, Forest}
-use Rattle.table.specs.Accepted.{Filled, Rooted}
+use Rattle.table.specs.Accepted.{Rooted}
 use Rattle.table.specs.Slices.{laid}
 use Rattle.table.specs.declared.Play.{Play}
 use Rattle.table.specs.Root.{Side, AtM, AtN, decided, rootOf, children, numbered, playOf}
 use Rattle.scale.specs.declared.Scale.{Scale}
 use Rattle.worth.specs.Worth.{Share}
-use Rattle.worth.specs.Heights.{heightShares, firstHeight, SmallWorths}
-use Rattle.worth.specs.Inside.{Beside, Reach, Lays, OkScale, ReadyRun}
+use Rattle.worth.specs.Heights.{heightShares, firstHeight}
+use Rattle.worth.specs.Inside.{Beside, Reach, Lays, OkScale, Fits, ReadyRun}
 use Rattle.judge.specs.declared.Judged.{Judged}
 use Rattle.judge.specs.declared.Judged.the-variants.{NoDecision, Loss}
 use Rattle.judge.specs.declared.Opinion.{Opinion}
@@ -51,13 +51,12 @@ heightsIn xs = map (λ (x : Share ℕ). x .worth) xs
 
 -- the worths of nodes with one parent, first to last
 abbrev pub worthsOf : Scale → Forest ℕ → List ℕ
-worthsOf g f = heightsIn (heightShares (g .total) (g .grain) f)
+worthsOf g f = heightsIn (heightShares (g .grain) f)
 
 -- the lines s from node i on are these nodes, and their worths fit
 pub record Here (S : Beside) (g : Scale) (n : ℕ) (s : List ℕ) (i : ℕ) (f : Forest ℕ) : Type 0 where
   pub lays : Lays S i n (drop (25 * i) s) f
-  pub filled : Filled f
-  pub small : SmallWorths (g .total) (g .grain) (g .top) f
+  pub fits : Fits g f
 
 -- how long the lines and the slices are
 pub record Room (S : Beside) (g : Scale) (n : ℕ) (s : List ℕ) : Type 0 where
@@ -119,7 +118,7 @@ meant (Refused r) = refused r
 -- the judgement at the first of the nodes f; for a table's nodes this is `heightJudge`
 abbrev pub forestJudge : Scale → Forest ℕ → ℤ → Verdict Judgement
 forestJudge g f i =
-    heightJudgeAt (rootOf f) (g .grain) (firstHeight (heightShares (g .total) (g .grain) f)) (heightShares (g .total) (g .grain) (children f)) i
+    heightJudgeAt (rootOf f) (g .grain) (firstHeight (heightShares (g .grain) f)) (heightShares (g .grain) (children f)) i
 
 -- the lines of one root with all under it
 pub record WholeLines (S : Beside) (g : Scale) (n : ℕ) (s : List ℕ) : Type 0 where

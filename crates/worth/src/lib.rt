@@ -23,11 +23,11 @@ fn leaf_worth(height: &[u32], i: usize, grain: u64) -> u64
     height[i] as u64 * grain
 }
 
-fn index_at(s: &[u16], i: usize) -> usize
-    requires { ⌜ i < length (now s) ⌝ }
-    ensures { λ r. ⌜ r ≡ getD (now (s .entry)) i 0 ⌝ }
+fn weight_at(weight: &[u8], i: usize) -> u64
+    requires { ⌜ i < length (now weight) ⌝ }
+    ensures { λ r. ⌜ (r ≡ getD (now (weight .entry)) i 0) × (r ≤ 255) ⌝ }
 {
-    s[i] as usize
+    weight[i] as u64
 }
 
 // What stands before the first child of a node of kind k.
@@ -37,23 +37,23 @@ fn before_any(k: u8, top: u64) -> u64
     if k == 2 { top } else { 0 }
 }
 
-// What stands after child i, which is worth h.
-fn take_child(k: u8, a: u64, weight: &[u8], i: usize, h: u64) -> u64
-    requires { ⌜ (i < length (now weight)) × (kindOf k ≡ CHANCE → a + getD (now weight) i 0 * h < 9223372036854775808) ⌝ }
-    ensures { λ r. ⌜ r ≡ taken (kindOf k) a (getD (now (weight .entry)) i 0) h ⌝ }
+// What stands after a child of weight w, which is worth h.
+fn take_child(k: u8, a: u64, w: u64, h: u64) -> u64
+    requires { ⌜ (kindOf k ≡ CHANCE → a + w * h < 9223372036854775808) ⌝ }
+    ensures { λ r. ⌜ r ≡ taken (kindOf k) a w h ⌝ }
 {
     if k == 1 {
-        return if a < h { h } else { a };
+        return numbers::max_of(a, h);
     }
     if k == 2 {
-        return if h < a { h } else { a };
+        return numbers::min_of(a, h);
     }
-    a + weight[i] as u64 * h
+    a + w * h
 }
 
-// What stands after the last child.
+// What stands after the last child, where the weights of all sum to `total`.
 fn seal(k: u8, total: u64, a: u64) -> u64
-    requires { ⌜ 0 < total ⌝ }
+    requires { ⌜ (kindOf k ≡ CHANCE → 0 < total) ⌝ }
     ensures { λ r. ⌜ r ≡ sealed total (kindOf k) a ⌝ }
 {
     if k == 1 {
@@ -80,11 +80,12 @@ fn worth_under(
     ensures { λ r. ⌜ Worthy (beside (now (stop .entry)) (now (weight .entry)) (now (height .entry))) g (kindOf k) c e (now (run .entry)) r ⌝ }
 {
     let mut a = before_any(k, g.top);
+    let mut total: u64 = 0;
     let mut i = c;
     while i < e {
         let at = 25 * (i - c);
         let kind = kind_at(run, at);
-        let s = index_at(stop, i);
+        let s = numbers::node_at(stop, i);
         let mut h: u64 = 0;
         if kind == 0 {
             h = leaf_worth(height, i, g.grain);
@@ -100,10 +101,12 @@ fn worth_under(
                 g,
             );
         }
-        a = take_child(k, a, weight, i, h);
+        let w = weight_at(weight, i);
+        a = take_child(k, a, w, h);
+        total += w;
         i = s;
     }
-    seal(k, g.total, a)
+    seal(k, total, a)
 }
 
 // The worth of one node: its run of lines, nodes c up to e. A run of one line is a leaf.
