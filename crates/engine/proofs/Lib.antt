@@ -1,4 +1,3 @@
-pub mod Known
 pub mod Searching
 pub mod Answered
 pub mod Turning

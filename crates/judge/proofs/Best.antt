@@ -12,10 +12,10 @@ use Rattle.table.specs.Tree.{Kind, MAX, MIN, CHANCE, Forest, end, leaf, inner}
 use Rattle.table.specs.Accepted.{Filled}
 use Rattle.table.specs.Root.{Side, AtM, AtN, undecided, decided, sideOf, rootOf, children}
 use Rattle.worth.specs.Worth.{Share}
-use Rattle.worth.specs.Heights.{tallest, shortest, heightValue, heightShares, firstHeight}
+use Rattle.worth.specs.Inside.Heights.{tallest, shortest, heightValue, heightShares, firstHeight}
 use Rattle.worth.proofs.Bounds.{Each}
 use Rattle.worth.proofs.Shift.{Some, some-shares}
-use Rattle.judge.specs.Heights.{heightLoss, heightLevels, Ahead}
+use Rattle.judge.specs.Inside.Heights.{heightLoss, heightLevels, Ahead}
 
 -- a root is decided or not
 pub no-decision : (s : Side) → undecided ≡ decided s → ⊥

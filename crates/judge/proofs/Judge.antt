@@ -22,12 +22,12 @@ use Rattle.table.specs.Root.{Side, Root, undecided, decided, rootOf, children, 
 use Rattle.table.proofs.Heights.{above, mapForest, heights-map}
 use Rattle.table.proofs.Accepted.{accepted-ranged, accepted-proper, accepted-filled, heights-filled}
 use Rattle.worth.specs.Worth.{Share, shares, worthOf}
-use Rattle.worth.specs.Heights.{heightShares, heightWorth, raised}
+use Rattle.worth.specs.Inside.Heights.{heightShares, heightWorth, raised}
 use Rattle.worth.proofs.Bounds.{Each}
 use Rattle.worth.proofs.Shift.{Divides, shares-shift}
 use Rattle.worth.proofs.Worth.{divides, shift}
 use Rattle.judge.specs.Judge.{childWorths, lossAt, levels, noDecision, judged, judgeChild, judgeAt, judge}
-use Rattle.judge.specs.Heights.{heightWorths, heightLoss, heightLevels, heightJudgeChild, heightJudgeAt, heightJudge, Ahead}
+use Rattle.judge.specs.Inside.Heights.{heightWorths, heightLoss, heightLevels, heightJudgeChild, heightJudgeAt, heightJudge, Ahead}
 use Rattle.judge.proofs.Best.{Met, none-lost, met-level, best-ahead, best-met}
 use Rattle.judge.proofs.Shift.{mapped, numbered-map, numbered-each, loss-shift, levels-shift, judge-shift}
 

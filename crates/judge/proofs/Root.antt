@@ -18,11 +18,11 @@ use Rattle.table.specs.declared.Play.the-variants.{Child, NoPlay}
 use Rattle.table.specs.Root.{Side, AtM, AtN, Root, undecided, decided, rootOf, children, numbered, playOf}
 use Rattle.scale.specs.declared.Scale.{Scale}
 use Rattle.worth.specs.Worth.{Share}
-use Rattle.worth.specs.Heights.{heightValue, heightShares, firstHeight}
+use Rattle.worth.specs.Inside.Heights.{heightValue, heightShares, firstHeight}
 use Rattle.worth.specs.Inside.{kindIn, Beside, Lays, Fits}
 use Rattle.worth.proofs.Run.{lays-le}
 use Rattle.judge.specs.Judge.{noDecision, judged}
-use Rattle.judge.specs.Heights.{heightLoss, heightLevels, heightJudgeChild, heightJudgeAt, Ahead}
+use Rattle.judge.specs.Inside.Heights.{heightLoss, heightLevels, heightJudgeChild, heightJudgeAt, Ahead}
 use Rattle.judge.specs.Inside.{Chained, Chain, heightsIn, Here, Room, Under, Listed, bestIn, AllAhead, levelsIn, forestJudge, Decided}
 use Rattle.judge.proofs.Best.{no-decision, best-ahead}
 use Rattle.judge.proofs.Shift.{numbered-each}

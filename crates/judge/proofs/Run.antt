@@ -12,7 +12,7 @@ use Rattle.table.specs.Slices.{laid}
 use Rattle.table.proofs.Laid.{laid-more}
 use Rattle.scale.specs.declared.Scale.{Scale}
 use Rattle.worth.specs.Worth.{Share}
-use Rattle.worth.specs.Heights.{tallest, heightValue, heightShares}
+use Rattle.worth.specs.Inside.Heights.{tallest, heightValue, heightShares}
 use Rattle.worth.specs.Inside.{kindIn, Beside, Lays, Fits, ReadyRun, Worthy}
 use Rattle.worth.proofs.Run.{drop-take, lays-le, lays-none, reach-less}
 use Rattle.judge.specs.Inside.{heightsIn, worthsOf, Here, Room, Under}

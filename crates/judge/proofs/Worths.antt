@@ -14,10 +14,10 @@ use Rattle.table.specs.Tree.{Forest, end, leaf, inner}
 use Rattle.table.specs.Accepted.{Filled}
 use Rattle.table.specs.Root.{Side, AtM, AtN, decided, rootOf, children, numbered}
 use Rattle.worth.specs.Worth.{Share}
-use Rattle.worth.specs.Heights.{tallest, shortest, heightValue, heightShares, firstHeight}
+use Rattle.worth.specs.Inside.Heights.{tallest, shortest, heightValue, heightShares, firstHeight}
 use Rattle.worth.proofs.Bounds.{Each}
 use Rattle.worth.proofs.Shift.{Some, some-shares}
-use Rattle.judge.specs.Heights.{heightLoss, heightLevels, Ahead}
+use Rattle.judge.specs.Inside.Heights.{heightLoss, heightLevels, Ahead}
 use Rattle.judge.specs.Inside.{heightsIn, better, bestFrom, bestIn, AllAhead, levelOne, levelsIn}
 use Rattle.judge.proofs.Best.{no-decision, kindAt, kind-side}
 

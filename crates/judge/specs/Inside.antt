@@ -1,4 +1,5 @@
 -- The judge by the lines: what its code asks of them and of the slices beside them, and what it answers.
+pub mod Heights
 use Prim.Native.Nat.{ℕ, _+_, _*_, _≤_, _<_, min, max}
 use mathlib.Core.Path.{_≡_}
 use mathlib.Core.Bool.{Bool, true, false, cond}
@@ -14,14 +15,14 @@ use Rattle.table.specs.declared.Play.{Play}
 use Rattle.table.specs.Root.{Side, AtM, AtN, decided, rootOf, children, numbered, playOf}
 use Rattle.scale.specs.declared.Scale.{Scale}
 use Rattle.worth.specs.Worth.{Share}
-use Rattle.worth.specs.Heights.{heightShares, firstHeight}
+use Rattle.worth.specs.Inside.Heights.{heightShares, firstHeight}
 use Rattle.worth.specs.Inside.{Beside, Reach, Lays, OkScale, Fits, ReadyRun}
 use Rattle.judge.specs.declared.Judged.{Judged}
 use Rattle.judge.specs.declared.Judged.the-variants.{NoDecision, Loss}
 use Rattle.judge.specs.declared.Opinion.{Opinion}
 use Rattle.judge.specs.declared.Opinion.the-variants.{Given, Refused}
 use Rattle.judge.specs.Judge.{Judgement, noDecision, judged}
-use Rattle.judge.specs.Heights.{heightLoss, heightJudgeAt, Ahead}
+use Rattle.judge.specs.Inside.Heights.{heightLoss, heightJudgeAt, Ahead}
 
 abbrev pub sideIf : Bool → Side
 sideIf true = AtM

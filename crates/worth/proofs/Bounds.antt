@@ -9,7 +9,7 @@ use native.Mathlib.Omega.{arith}
 use Rattle.table.specs.Tree.{Kind, MAX, MIN, CHANCE, Forest, end, leaf, inner, isChance, weigh}
 use Rattle.table.specs.Accepted.{one, Balanced, Proper}
 use Rattle.worth.specs.Worth.{Share, total}
-use Rattle.worth.specs.Heights.{tallest, shortest, summed, heightValue, heightShares, SmallWorths}
+use Rattle.worth.specs.Inside.Heights.{tallest, shortest, summed, heightValue, heightShares, SmallWorths}
 use Rattle.worth.specs.Inside.{Totals}
 
 -- ---- lists of shares

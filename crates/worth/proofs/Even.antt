@@ -9,7 +9,7 @@ use Rattle.line.proofs.Signs.{true-ne-false}
 use Rattle.table.specs.Tree.{Kind, MAX, MIN, CHANCE, Forest, end, leaf, inner, isChance, weigh}
 use Rattle.table.specs.Accepted.{one, Sums, Balanced, Proper}
 use Rattle.worth.specs.Worth.{Share, total}
-use Rattle.worth.specs.Heights.{summed, heightValue, heightShares, ExactHeights}
+use Rattle.worth.specs.Inside.Heights.{summed, heightValue, heightShares, ExactHeights}
 use Rattle.worth.proofs.Bounds.{Each, tallest-one, shortest-one, weights-shares}
 
 -- a divisor of each worth divides the sum

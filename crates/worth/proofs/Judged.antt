@@ -16,7 +16,7 @@ use Rattle.table.proofs.Complete.{stops-long}
 use Rattle.table.proofs.Laid.{fitted-long}
 use Rattle.table.proofs.Ends.{rooted-some, span-grains}
 use Rattle.scale.specs.declared.Scale.{Scale}
-use Rattle.worth.specs.Heights.{tallest, heightValue, heightShares, firstHeight, heightWorth}
+use Rattle.worth.specs.Inside.Heights.{tallest, heightValue, heightShares, firstHeight, heightWorth}
 use Rattle.worth.specs.Inside.{Beside, beside, Reach, OkScale, Fits, ReadyRun, Worthy}
 use Rattle.worth.proofs.Worth.{heights-small, heights-totals}
 use Rattle.worth.proofs.Text.{accepted-lays}

@@ -8,7 +8,7 @@ use lib.ListN.{getD, take, drop}
 use Rattle.table.specs.Tree.{MAX}
 use Rattle.scale.specs.declared.Scale.{Scale}
 use Rattle.worth.specs.Worth.{Share}
-use Rattle.worth.specs.Heights.{tallest, heightValue, heightShares}
+use Rattle.worth.specs.Inside.Heights.{tallest, heightValue, heightShares}
 use Rattle.worth.specs.Inside.{kindIn, Beside, ReadyRun}
 use Rattle.worth.proofs.Run.{lays-none, Front, front}
 use Rattle.worth.proofs.Shift.{Some, some-shares}

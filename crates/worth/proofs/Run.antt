@@ -11,7 +11,7 @@ use Rattle.table.specs.Inside.{begin, taken, sealed}
 use Rattle.table.proofs.Runs.{kind-code}
 use Rattle.scale.specs.declared.Scale.{Scale}
 use Rattle.worth.specs.Worth.{Share, total}
-use Rattle.worth.specs.Heights.{tallest, shortest, summed, heightValue, heightShares, SmallWorths}
+use Rattle.worth.specs.Inside.Heights.{tallest, shortest, summed, heightValue, heightShares, SmallWorths}
 use Rattle.worth.specs.Inside.{kindIn, Beside, Reach, Lays, takeAll, OkScale, Fits, ReadyRun}
 use Rattle.worth.proofs.Bounds.{Each, shortest-one, summed-le, weights-shares, small-each}
 use Rattle.worth.proofs.Shift.{Some, some-shares}

@@ -17,7 +17,7 @@ use Rattle.table.specs.Accepted.{one, Filled, Proper}
 use Rattle.table.proofs.Heights.{above, mapForest, map-end, map-weigh}
 use Rattle.table.proofs.Ends.{utility-shift}
 use Rattle.worth.specs.Worth.{Share, total, largest, smallest, weighted, value, shares, firstWorth, Exact}
-use Rattle.worth.specs.Heights.{tallest, shortest, summed, heightValue, heightShares, firstHeight, raised, ExactHeights}
+use Rattle.worth.specs.Inside.Heights.{tallest, shortest, summed, heightValue, heightShares, firstHeight, raised, ExactHeights}
 use Rattle.worth.specs.Inside.{Totals}
 use Rattle.worth.proofs.Bounds.{weights-shares}
 

@@ -15,7 +15,7 @@ use Rattle.table.proofs.Heights.{heights-map}
 use Rattle.table.proofs.Accepted.{accepted-ranged, accepted-proper, accepted-filled, accepted-balanced, heights-rooted, heights-proper, heights-balanced}
 use Rattle.table.proofs.Ends.{rooted-some, top}
 use Rattle.worth.specs.Worth.{Share, shares, worthOf, firstWorth, Exact}
-use Rattle.worth.specs.Heights.{heightShares, firstHeight, heightWorth, raised, ExactHeights, SmallWorths}
+use Rattle.worth.specs.Inside.Heights.{heightShares, firstHeight, heightWorth, raised, ExactHeights, SmallWorths}
 use Rattle.worth.specs.Inside.{Totals, OkTotal}
 use Rattle.worth.proofs.Bounds.{Each, small, small-each, own-totals}
 use Rattle.worth.proofs.Even.{exact-heights}

@@ -1,4 +1,5 @@
 -- The worth by a run of lines: how the lines, and the slices beside them, hold nodes, and what the code computes with.
+pub mod Heights
 use Prim.Native.Nat.{ℕ, _+_, _-_, _*_, _≤_, _<_}
 use mathlib.Core.Path.{_≡_}
 use mathlib.Core.Bool.{true, false}
@@ -10,7 +11,7 @@ use Rattle.table.specs.Accepted.{Filled}
 use Rattle.table.specs.Inside.{taken}
 use Rattle.scale.specs.declared.Scale.{Scale}
 use Rattle.worth.specs.Worth.{Share}
-use Rattle.worth.specs.Heights.{heightValue, heightShares, SmallWorths}
+use Rattle.worth.specs.Inside.Heights.{heightValue, heightShares, SmallWorths}
 
 -- the number of the kind that a node line says
 abbrev pub kindIn : List ℕ → ℕ

@@ -1,11 +1,22 @@
-// The exact worth of a run of lines, in grains above the lowest end: the kinds are those of the lines, the numbers those that were decoded.
+// The exact worth: of a run of lines, in grains above the lowest end, with the kinds that the lines say and the numbers that were decoded;
+// and the public call.
 ghost use mathlib.Core.Path.{_≡_};
 ghost use Prim.Native.Nat.{_+_, _*_, _<_, _≤_};
 ghost use lib.ListN.{length, getD, take, drop};
 ghost use Rattle.table.specs.Tree.{MAX, CHANCE, kindOf};
 ghost use Rattle.worth.specs.Inside.{kindIn, beside, ReadyRun, Worthy};
 ghost use Rattle.table.specs.Inside.{begin, taken, sealed};
+ghost use Rattle.table.specs.Table.{readText};
+ghost use Rattle.worth.specs.Call.{exactCall};
+use line::Refusal;
 use scale::Scale;
+use table::Reading;
+
+// The worth in grains and G, or a refusal.
+pub enum Exact {
+    Grains(i64, u64),
+    Refused(Refusal),
+}
 
 // The kind that the line at the byte `at` says.
 fn kind_at(run: &[u8], at: usize) -> u8
@@ -126,4 +137,22 @@ pub fn worth_of(
         return leaf_worth(height, c, g.grain);
     }
     worth_under(1, run, stop, weight, height, c, e, g)
+}
+
+// The exact worth of a table, for any text.
+pub fn exact_worth(text: &[u8]) -> Exact
+    ensures { λ r. ⌜ r ≡ exactCall (readText (now (text .entry))) ⌝ }
+{
+    let mut kind = [0u8; 1024];
+    let mut stop = [0u16; 1024];
+    let mut weight = [0u8; 1024];
+    let mut height = [0u32; 1024];
+    match reading::decode(text, &mut kind, &mut stop, &mut weight, &mut height) {
+        Reading::Refused(r) => Exact::Refused(r),
+        Reading::Accepted(t) => {
+            let g = scale::scale_of(t);
+            let h = worth_of(&text[25..], &stop, &weight, &height, 0, t.nodes, g);
+            Exact::Grains(scale::in_grains(t.lowest, t.grain, h), t.grain)
+        }
+    }
 }

@@ -6,6 +6,7 @@ use native.Mathlib.Omega.{arith}
 use lib.ListN.{take, drop}
 use borrow.Fn.Kinds.{In}
 use borrow.Fn.PlainCycle.{Measures, is, falls, and}
+use Rattle.numbers.proofs.node_at.Reads as node-at-reads
 use Rattle.table.specs.Tree.{kindOf}
 use Rattle.worth.specs.Inside.{beside, ReadyRun}
 use Rattle.worth.proofs.Run.{Child, GoingAll, going-start, going-total, going-end, Next, next-of, Turn, turn-of, child-of, leaf-of, turn-fits, turn-on}
@@ -13,7 +14,6 @@ use Rattle.worth.proofs.worth_under.Reads as worth-under
 use Rattle.worth.proofs.worth_under.Kinds as worth-under-kinds
 use Rattle.worth.proofs.+worth_under.Lts-worth_under as worth-under-lts
 use Rattle.worth.proofs.before_any.Reads as before-any-reads
-use Rattle.numbers.proofs.node_at.Reads as node-at-reads
 use Rattle.worth.proofs.kind_at.Reads as kind-at-reads
 use Rattle.worth.proofs.leaf_worth.Reads as leaf-worth-reads
 use Rattle.worth.proofs.seal.Reads as seal-reads

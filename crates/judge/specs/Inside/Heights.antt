@@ -12,7 +12,7 @@ use Rattle.table.specs.Table.{Table, grain}
 use Rattle.table.specs.Slices.{heightTree}
 use Rattle.table.specs.Root.{Side, AtM, AtN, Root, undecided, decided, rootOf, children, numbered}
 use Rattle.worth.specs.Worth.{Share}
-use Rattle.worth.specs.Heights.{heightShares, heightWorth}
+use Rattle.worth.specs.Inside.Heights.{heightShares, heightWorth}
 use Rattle.judge.specs.Judge.{Judgement, noDecision, judged}
 
 -- the root's children with their worths
