@@ -20,6 +20,8 @@ use Rattle.table.specs.Table.{Table, tree, readText, grain}
 use Rattle.table.specs.Root.{playOf}
 use Rattle.table.specs.declared.Play.the-variants.{Child}
 use Rattle.worth.specs.Worth.{worthOf}
+use Rattle.worth.specs.declared.Exact.the-variants.{Grains}
+use Rattle.worth.specs.Call.{exactCall}
 use Rattle.turn.specs.Text.{tableText}
 use Rattle.turn.specs.Turn.{turnTable, turnedText}
 use Rattle.turn.proofs.Tree.{tree-turned, turn-twice}
@@ -39,8 +41,7 @@ use Rattle.engine.specs.declared.Bounds.{Bounds}
 use Rattle.engine.specs.declared.Bounded.the-variants.{Found, Refused}
 use Rattle.engine.specs.declared.Rolled
 use Rattle.engine.specs.declared.Rolled.the-variants.{Done}
-use Rattle.engine.specs.declared.Exact.the-variants.{Grains}
-use Rattle.engine.specs.Calls.{exactCall, badMargin, boundsOf, searchReads, rolls, rollAnswer, rollList, rollCall, turnOf}
+use Rattle.engine.specs.Calls.{badMargin, boundsOf, searchReads, rolls, rollAnswer, rollList, rollCall, turnOf}
 use Rattle.engine.proofs.Answered.{answered, answers, reads}
 use Rattle.engine.proofs.Turning.{turn-fine}
 use Rattle.demands.specs.Demands.{childWorth, Promised, SameLines, Mirrors, Answers, Sentence1, Sentence2, GivenText, Sentence3, TurnAnswers, TurningTwice, RolloutsEnd, RollAnswers}
