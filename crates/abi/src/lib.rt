@@ -4,16 +4,23 @@ ghost use mathlib.Core.Path.{_≡_};
 ghost use lib.ListN.{length};
 ghost use Rattle.table.specs.Table.{readText, answer};
 ghost use Rattle.table.specs.Slices.{laid, fitted, kindsOf, stopsOf, weightsOf, heightsOf, decoded};
-ghost use Rattle.engine.specs.Calls.{exactCall, judgeCall, searchCall, searchReads};
+ghost use Rattle.worth.specs.Call.{exactCall};
+ghost use Rattle.judge.specs.Call.{judgeCall};
+ghost use Rattle.engine.specs.Calls.{searchCall, searchReads};
 ghost use Rattle.rolling.specs.Call.{rollCall, rollReads, rollStore, recorded};
 ghost use Rattle.turn.specs.Call.{turnCall, turnBytes};
 ghost use Rattle.codes.specs.Numbers.{readCode, numbersOf, worthCode, worthNumbers, judgeCode, judgeNumbers, searchCode, searchNumbers, rollCode, rollNumbers, turnedCode, put};
 use engine::Bounded;
+use engine::Bounds;
 use engine::Exact;
+use engine::Rolled;
+use engine::Turned;
+use judge::Judged;
 use judge::Opinion;
 use rolling::Record;
 use table::Reading;
 use turn::Turned;
+use worth::Exact;
 
 // An accepted table: its numbers of nodes, T, the lowest and the highest end, K, G and its number of leaves go to `numbers`, and its
 // nodes to the four slices, as `reading::read` has them. A refused one: nothing is written.
@@ -48,7 +55,7 @@ pub extern "C" fn margin_worth(text: &[u8], numbers: &mut [i64]) -> u64
     ensures code { λ r. ⌜ r ≡ worthCode (exactCall (readText (now (text .entry)))) ⌝ }
     ensures numbers { λ _. ⌜ now (numbers .exit) ≡ put 0 (worthNumbers (exactCall (readText (now (text .entry))))) (now (numbers .entry)) ⌝ }
 {
-    match engine::exact_worth(text) {
+    match worth::exact_worth(text) {
         Exact::Refused(r) => codes::refusal_code(r),
         Exact::Grains(z, g) => {
             codes::put_worth(z, g, numbers);
@@ -64,7 +71,7 @@ pub extern "C" fn margin_judge(text: &[u8], number: i64, numbers: &mut [u64]) ->
     ensures code { λ r. ⌜ r ≡ judgeCode (judgeCall (readText (now (text .entry))) number) ⌝ }
     ensures numbers { λ _. ⌜ now (numbers .exit) ≡ put 0 (judgeNumbers (judgeCall (readText (now (text .entry))) number)) (now (numbers .entry)) ⌝ }
 {
-    match engine::judge_play(text, number) {
+    match judge::judge_play(text, number) {
         Opinion::Refused(r) => codes::refusal_code(r),
         Opinion::Given(j) => {
             codes::put_judged(j, numbers);

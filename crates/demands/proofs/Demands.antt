@@ -20,6 +20,8 @@ use Rattle.table.specs.Table.{Table, tree, readText, grain}
 use Rattle.table.specs.Root.{playOf}
 use Rattle.table.specs.declared.Play.the-variants.{Child}
 use Rattle.worth.specs.Worth.{worthOf}
+use Rattle.worth.specs.declared.Exact.the-variants.{Grains}
+use Rattle.worth.specs.Call.{exactCall}
 use Rattle.turn.specs.Text.{tableText}
 use Rattle.turn.specs.Turn.{turnTable, turnedText}
 use Rattle.turn.specs.Call.{turnOf}
@@ -40,10 +42,10 @@ use Rattle.rollout.proofs.Demand.{ends-on-worth, no-leaf-twice}
 use Rattle.rolling.specs.declared.Rolled
 use Rattle.rolling.specs.declared.Rolled.the-variants.{Done}
 use Rattle.rolling.specs.Call.{rolls, rollAnswer, rollList, rollCall}
+use Rattle.rolling.specs.declared.Rolled
 use Rattle.engine.specs.declared.Bounds.{Bounds}
 use Rattle.engine.specs.declared.Bounded.the-variants.{Found, Refused}
-use Rattle.engine.specs.declared.Exact.the-variants.{Grains}
-use Rattle.engine.specs.Calls.{exactCall, badMargin, boundsOf, searchReads}
+use Rattle.engine.specs.Calls.{badMargin, boundsOf, searchReads}
 use Rattle.engine.proofs.Answered.{answered, answers, reads}
 use Rattle.demands.specs.Demands.{childWorth, Promised, SameLines, Mirrors, Answers, Sentence1, Sentence2, GivenText, Sentence3, TurnAnswers, TurningTwice, RolloutsEnd, RollAnswers}
 use Rattle.demands.proofs.Utilities.{tree-alike, given-same, given-accepted}

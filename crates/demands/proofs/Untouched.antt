@@ -11,14 +11,16 @@ use Rattle.line.proofs.Numbers.{number-some}
 use Rattle.table.specs.Table.{Table, readText, answer}
 use Rattle.table.specs.Slices.{laid, fitted, kindsOf, stopsOf, weightsOf, heightsOf, decoded}
 use Rattle.table.proofs.Top.{unchanged}
+use Rattle.worth.specs.declared.Exact.{Exact}
+use Rattle.worth.specs.declared.Exact.the-variants.{Grains, Refused}
+use Rattle.worth.specs.Call.{exactCall}
 use Rattle.judge.specs.declared.Opinion
 use Rattle.judge.specs.declared.Opinion.{Opinion}
+use Rattle.judge.specs.Call.{judgeCall}
 use Rattle.turn.specs.Call.{turnOf, turnAnswer, turnWritten}
 use Rattle.rolling.specs.declared.Record.{Record}
 use Rattle.rolling.specs.Call.{rolls, rollAnswer, rollList, rollRecords, recorded}
-use Rattle.engine.specs.declared.Exact.{Exact}
-use Rattle.engine.specs.declared.Exact.the-variants.{Grains, Refused}
-use Rattle.engine.specs.Calls.{exactCall, judgeCall, Sought, sought, searchAnswer, searchList}
+use Rattle.engine.specs.Calls.{Sought, sought, searchAnswer, searchList}
 use Rattle.codes.specs.Numbers.{readCode, numbersOf, worthCode, worthNumbers, judgeCode, judgeNumbers, searchCode, searchNumbers, rollCode, rollNumbers, turnedCode, put}
 use Rattle.demands.specs.Untouched.{Refuses, CodesRefuse, SlicesKept, ReadUntouched, SearchUntouched, TurnUntouched, RollUntouched, CReadUntouched, CWorthUntouched, CJudgeUntouched, CSearchUntouched, CTurnUntouched, CRollUntouched}
 

@@ -15,6 +15,8 @@ use Rattle.line.specs.Line.{Within}
 use Rattle.table.specs.Tree.{leaves}
 use Rattle.table.specs.Table.{Table, tree, readText}
 use Rattle.table.specs.declared.Play.the-variants.{Child}
+use Rattle.worth.specs.declared.Exact.the-variants.{Grains}
+use Rattle.worth.specs.Call.{exactCall}
 use Rattle.turn.specs.Call.{turnOf}
 use Rattle.search.specs.Whole.{playWorth}
 use Rattle.rollout.specs.Leaves.{Distinct}
@@ -23,8 +25,7 @@ use Rattle.rolling.specs.declared.Rolled.the-variants.{Done}
 use Rattle.rolling.specs.Call.{rollCall, rollReads}
 use Rattle.engine.specs.declared.Bounds.{Bounds}
 use Rattle.engine.specs.declared.Bounded.the-variants.{Found}
-use Rattle.engine.specs.declared.Exact.the-variants.{Grains}
-use Rattle.engine.specs.Calls.{exactCall, badMargin, searchCall, searchReads}
+use Rattle.engine.specs.Calls.{badMargin, searchCall, searchReads}
 
 -- ---- the bounds and the play
 

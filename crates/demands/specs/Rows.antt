@@ -11,6 +11,7 @@ use Rattle.table.specs.declared.Play.the-variants.{Child, NoPlay}
 use Rattle.judge.specs.declared.Judged.the-variants.{Loss}
 use Rattle.judge.specs.declared.Opinion.{Opinion}
 use Rattle.judge.specs.declared.Opinion.the-variants.{Given}
+use Rattle.judge.specs.Call.{judgeCall}
 use Rattle.turn.specs.declared.Turned.{Turned}
 use Rattle.turn.specs.declared.Turned.the-variants.{Written}
 use Rattle.turn.specs.Call.{turnCall, turnBytes}
@@ -19,7 +20,7 @@ use Rattle.rolling.specs.declared.Rolled.the-variants.{Done}
 use Rattle.rolling.specs.Call.{rollCall, rollReads}
 use Rattle.engine.specs.declared.Bounded.{Bounded}
 use Rattle.engine.specs.declared.Bounded.the-variants.{Found}
-use Rattle.engine.specs.Calls.{searchCall, searchReads, judgeCall}
+use Rattle.engine.specs.Calls.{searchCall, searchReads}
 
 -- a call with its arguments; leaf lists have 1,024 entries, stores 1,024 records and buffers 25,625 bytes
 pub data Call : Type 0 where

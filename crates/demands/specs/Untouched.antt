@@ -10,13 +10,17 @@ use Rattle.line.specs.Refusal.{Verdict, numberOf, lineOf}
 use Rattle.table.specs.declared.Reading
 use Rattle.table.specs.Table.{Table, readText, answer}
 use Rattle.table.specs.Slices.{laid, fitted, kindsOf, stopsOf, weightsOf, heightsOf, decoded}
+use Rattle.worth.specs.Call.{exactCall}
+use Rattle.judge.specs.Call.{judgeCall}
 use Rattle.turn.specs.declared.Turned
 use Rattle.turn.specs.Call.{turnCall, turnBytes}
+use Rattle.turn.specs.declared.Turned
 use Rattle.rolling.specs.declared.Record.{Record}
 use Rattle.rolling.specs.declared.Rolled
 use Rattle.rolling.specs.Call.{rollCall, rollReads, rollStore, recorded}
+use Rattle.rolling.specs.declared.Rolled
 use Rattle.engine.specs.declared.Bounded
-use Rattle.engine.specs.Calls.{exactCall, judgeCall, searchCall, searchReads}
+use Rattle.engine.specs.Calls.{searchCall, searchReads}
 use Rattle.codes.specs.Numbers.{readCode, numbersOf, worthCode, worthNumbers, judgeCode, judgeNumbers, searchCode, searchNumbers, rollCode, rollNumbers, turnedCode, put}
 
 -- ---- the calls of `table` and `engine`; the exact worth and the judgement are lent nothing but the text

@@ -1,24 +1,17 @@
-// The public calls. Each takes any input, and ends with an answer or a refusal.
+// The public call of the search. It takes any input, and ends with an answer or a refusal.
 ghost use mathlib.Core.Path.{_≡_};
 ghost use lib.ListN.{length};
 ghost use Rattle.table.specs.Root.{playOf};
 ghost use Rattle.table.specs.Table.{readText};
-ghost use Rattle.engine.specs.Calls.{exactCall, judgeCall, badMargin, searchCall, searchReads};
 ghost use Rattle.table.specs.Slices.{laid};
 ghost use Rattle.search.specs.Inside.{playAt};
+ghost use Rattle.engine.specs.Calls.{badMargin, searchCall, searchReads};
 ghost use Rattle.engine.specs.Inside.{ruleFor};
-use judge::Opinion;
 use line::Refusal;
 use scale::Scale;
 use search::Rule;
 use table::Play;
 use table::Reading;
-
-// The worth in grains and G, or a refusal.
-pub enum Exact {
-    Grains(i64, u64),
-    Refused(Refusal),
-}
 
 // What a search answers: two bounds, the best root child entered, how many leaves were read, and G.
 pub struct Bounds {
@@ -33,41 +26,6 @@ pub struct Bounds {
 pub enum Bounded {
     Found(Bounds),
     Refused(Refusal),
-}
-
-// The exact worth of a table, for any text.
-pub fn exact_worth(text: &[u8]) -> Exact
-    ensures { λ r. ⌜ r ≡ exactCall (readText (now (text .entry))) ⌝ }
-{
-    let mut kind = [0u8; 1024];
-    let mut stop = [0u16; 1024];
-    let mut weight = [0u8; 1024];
-    let mut height = [0u32; 1024];
-    match reading::decode(text, &mut kind, &mut stop, &mut weight, &mut height) {
-        Reading::Refused(r) => Exact::Refused(r),
-        Reading::Accepted(t) => {
-            let g = scale::scale_of(t);
-            let h = worth::worth_of(&text[25..], &stop, &weight, &height, 0, t.nodes, g);
-            Exact::Grains(scale::in_grains(t.lowest, t.grain, h), t.grain)
-        }
-    }
-}
-
-// The play of root child `number`, counted from 1, judged: for any text and any number.
-pub fn judge_play(text: &[u8], number: i64) -> Opinion
-    ensures { λ r. ⌜ r ≡ judgeCall (readText (now (text .entry))) number ⌝ }
-{
-    let mut kind = [0u8; 1024];
-    let mut stop = [0u16; 1024];
-    let mut weight = [0u8; 1024];
-    let mut height = [0u32; 1024];
-    match reading::decode(text, &mut kind, &mut stop, &mut weight, &mut height) {
-        Reading::Refused(r) => Opinion::Refused(r),
-        Reading::Accepted(t) => {
-            let g = scale::scale_of(t);
-            judge::judge_table(&text[25..], &stop, &weight, &height, t.nodes, g, number)
-        }
-    }
 }
 
 fn is_bad_margin(margin: i64) -> bool

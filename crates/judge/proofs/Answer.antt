@@ -8,12 +8,11 @@ use Rattle.line.specs.Refusal.{fine}
 use Rattle.line.proofs.Signs.{true-ne-false}
 use Rattle.table.specs.Table.{Table, readText}
 use Rattle.table.specs.Slices.{heightTree}
-use Rattle.table.proofs.Accepted.{heights-rooted, heights-filled}
+use Rattle.table.proofs.Accepted.{heights-rooted}
 use Rattle.table.proofs.Ends.{rooted-some}
 use Rattle.worth.specs.Inside.{beside, Reach}
-use Rattle.worth.proofs.Worth.{heights-small}
 use Rattle.worth.proofs.Text.{accepted-lays}
-use Rattle.worth.proofs.Judged.{scaleOf, lentOf, accepted-ready}
+use Rattle.worth.proofs.Judged.{scaleOf, accepted-fits, lentOf, accepted-ready}
 use Rattle.judge.specs.declared.Opinion.{Opinion}
 use Rattle.judge.specs.Judge.{judge}
 use Rattle.judge.specs.Inside.{meant, WholeLines, WellJudged}
@@ -28,7 +27,8 @@ module _ (s : List ℕ) (t : Table) (h : readText s ≡ fine t) (st w g : List �
         ready = record {
           nodes = heightTree t;
           lays = accepted-lays s t h st w g room;
-          fits = record { filled = heights-filled s t h; small = heights-small s t h; sums = λ i. absurd (true-ne-false (sym i)) };
+          fits = accepted-fits s t h;
+          total = λ i. absurd (true-ne-false (sym i));
           some = rooted-some (heightTree t) (heights-rooted s t h);
           long = R .long;
           room = R .room;

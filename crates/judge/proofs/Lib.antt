@@ -8,4 +8,5 @@ pub mod Run
 pub mod Worths
 pub mod Root
 pub mod Answer
+pub mod Call
 pub mod Plays

@@ -5,8 +5,8 @@ use mathlib.Core.List.{List, [], _∷_}
 use native.Mathlib.Decide.{decLe}
 use native.Mathlib.Omega.{arith}
 use Rattle.table.specs.Tree.{Kind, MAX, MIN, CHANCE}
-use Rattle.rollout.specs.Rollout.{joined, over}
 use Rattle.rollout.specs.Inside.Heights.{natural}
+use Rattle.rollout.specs.Rollout.{joined, over}
 
 abbrev pub Some : {A : Type 0} → List A → Type 0
 Some [] = ⊥

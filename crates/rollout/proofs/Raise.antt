@@ -6,8 +6,8 @@ use mathlib.Core.List.{List, [], _∷_, _++_, map}
 use lib.Dec.{eqb}
 use Rattle.table.specs.Tree.{Kind, MAX, MIN, CHANCE, Forest, end, leaf, inner, leaves}
 use Rattle.table.proofs.Heights.{mapForest, map-leaves}
-use Rattle.rollout.specs.Rollout.{Order, Kept, none, tip, knot, Pair, Walk, Rolled, pick, spend, fresh, lows, highs, records, firstOr, pastTip, pastKnot, joined, over, candidate, candidates, walk, roll, rollouts}
 use Rattle.rollout.specs.Inside.Raised.{mapKept, mapPair, mapWalk, mapRolled}
+use Rattle.rollout.specs.Rollout.{Order, Kept, none, tip, knot, Pair, Walk, Rolled, pick, spend, fresh, lows, highs, records, firstOr, pastTip, pastKnot, joined, over, candidate, candidates, walk, roll, rollouts}
 
 cond-map : {A B : Type 0} (f : A → B) (b : Bool) (x y : A) → cond b (f x) (f y) ≡ f (cond b x y)
 cond-map f true x y = refl

@@ -23,10 +23,10 @@ use Rattle.table.proofs.Accepted.{accepted-ranged, accepted-proper}
 use Rattle.search.specs.Whole.{inGrains}
 use Rattle.search.specs.Heights.{grained}
 use Rattle.search.proofs.Shift.{less-natural, less-whole}
-use Rattle.rollout.specs.Rollout.{fresh, roll, rollouts}
-use Rattle.rollout.specs.Whole.{whole, bottom, top, rolled}
 use Rattle.rollout.specs.Inside.Heights.{natural, heightRolled}
 use Rattle.rollout.specs.Inside.Raised.{mapRolled, above}
+use Rattle.rollout.specs.Rollout.{fresh, roll, rollouts}
+use Rattle.rollout.specs.Whole.{whole, bottom, top, rolled}
 use Rattle.rollout.specs.Store.{afterWalks}
 use Rattle.rollout.proofs.Raise.{Keeps, fresh-map, roll-map, rollouts-map}
 

@@ -8,9 +8,9 @@ use native.Mathlib.Omega.{arith}
 use borrow.Author.Tests.{ltb-true, ltb-false}
 use lib.Dec.{eqb, eqb·suc-zero}
 use Rattle.table.specs.Tree.{Kind}
-use Rattle.rollout.specs.Rollout.{Kept, none, tip, knot, Walk, pick, spend, lows, highs, over, candidate, candidates, walk}
 use Rattle.rollout.specs.Inside.Heights.{natural}
 use Rattle.rollout.specs.Inside.Sound.{SomeNode, Sound}
+use Rattle.rollout.specs.Rollout.{Kept, none, tip, knot, Walk, pick, spend, lows, highs, over, candidate, candidates, walk}
 use Rattle.rollout.proofs.Folds.{Some, Beside, done, also, over-any, Shut, over-shut}
 
 -- One leaf more is read: n, which was unread; the bounds above it are taken again from all children.

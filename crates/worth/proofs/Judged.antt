@@ -11,26 +11,29 @@ use Rattle.table.specs.Tree.{MAX, Forest, end, leaf, inner}
 use Rattle.table.specs.Table.{Table, readText, grain}
 use Rattle.table.specs.Accepted.{span, Rooted}
 use Rattle.table.specs.Slices.{heightOf, stopsOf, weightsOf, heightsOf, fitted, heightTree}
-use Rattle.table.proofs.Accepted.{accepted-ranged, accepted-size, accepted-grain, heights-rooted, heights-filled}
+use Rattle.table.proofs.Accepted.{accepted-size, accepted-grain, heights-rooted, heights-filled}
 use Rattle.table.proofs.Complete.{stops-long}
 use Rattle.table.proofs.Laid.{fitted-long}
 use Rattle.table.proofs.Ends.{rooted-some, span-grains}
 use Rattle.scale.specs.declared.Scale.{Scale}
-use Rattle.worth.specs.Heights.{tallest, heightValue, heightShares, firstHeight, heightWorth}
-use Rattle.worth.specs.Inside.{Beside, beside, Reach, OkScale, ReadyRun, Worthy}
-use Rattle.worth.proofs.Worth.{heights-small}
+use Rattle.worth.specs.Inside.Heights.{tallest, heightValue, heightShares, firstHeight, heightWorth}
+use Rattle.worth.specs.Inside.{Beside, beside, Reach, OkScale, Fits, ReadyRun, Worthy}
+use Rattle.worth.proofs.Worth.{heights-small, heights-totals}
 use Rattle.worth.proofs.Text.{accepted-lays}
 
 -- the numbers of a table
 abbrev pub scaleOf : Table → Scale
-scaleOf t = record { total = t .head .total; grain = grain t; top = span (t .head) * grain t }
+scaleOf t = record { grain = grain t; top = span (t .head) * grain t }
 
 -- one node is worth to a MAX what it is worth
-root-worth : (T G : ℕ) (f : Forest ℕ) → Rooted f → heightValue T MAX (heightShares T G f) ≡ firstHeight (heightShares T G f)
+root-worth : (G : ℕ) (f : Forest ℕ) → Rooted f → heightValue MAX (heightShares G f) ≡ firstHeight (heightShares G f)
 unfolding heightValue heightShares tallest
-root-worth T G end r = absurd r
-root-worth T G (leaf n w h rest) r = rw (r .2) refl
-root-worth T G (inner n w k under rest) r = rw (r .2) refl
+root-worth G end r = absurd r
+root-worth G (leaf n w h rest) r = rw (r .2) refl
+root-worth G (inner n w k under rest) r = rw (r .2) refl
+
+pub accepted-fits : (s : List ℕ) (t : Table) → readText s ≡ fine t → Fits (scaleOf t) (heightTree t)
+accepted-fits s t h = record { filled = heights-filled s t h; small = heights-small s t h; totals = heights-totals s t h }
 
 -- st, w and g are the slices that were lent for the stops, the weights and the heights
 abbrev pub lentOf : Table → (st w g : List ℕ) → Beside
@@ -39,13 +42,7 @@ lentOf t st w g = beside (fitted (stopsOf t) st) (fitted (weightsOf t) w) (fitte
 module _ (s : List ℕ) (t : Table) (h : readText s ≡ fine t) (st w g : List ℕ) (room : Reach (beside st w g) (length (t .lines))) where
   scale-ok : OkScale (scaleOf t)
   scale-ok =
-      let r = accepted-ranged s t h in
-      record {
-        some = r .some;
-        total = r .total;
-        grain = accepted-grain s t h;
-        top = omega (arith, span-grains s t h);
-      }
+      record { grain = accepted-grain s t h; top = omega (arith, span-grains s t h) }
 
   reaches : Reach (lentOf t st w g) (length (t .lines))
   reaches =
@@ -62,11 +59,8 @@ module _ (s : List ℕ) (t : Table) (h : readText s ≡ fine t) (st w g : List �
       record {
         nodes = heightTree t;
         lays = accepted-lays s t h st w g room;
-        fits = record {
-          filled = heights-filled s t h;
-          small = heights-small s t h;
-          sums = λ i. absurd (true-ne-false (sym i));
-        };
+        fits = accepted-fits s t h;
+        total = λ i. absurd (true-ne-false (sym i));
         some = rooted-some (heightTree t) (heights-rooted s t h);
         long = omega (arith, length-drop 25 s, z .2);
         room = reaches;
@@ -76,4 +70,4 @@ module _ (s : List ℕ) (t : Table) (h : readText s ≡ fine t) (st w g : List �
 
   pub judged-worth : (r : ℕ) → Worthy (lentOf t st w g) (scaleOf t) MAX 0 (length (t .lines)) (drop 25 s) r → r ≡ heightWorth t
   unfolding accepted-ready
-  judged-worth r told = told accepted-ready ∙ root-worth (t .head .total) (grain t) (heightTree t) (heights-rooted s t h)
+  judged-worth r told = told accepted-ready ∙ root-worth (grain t) (heightTree t) (heights-rooted s t h)

@@ -8,3 +8,4 @@ pub mod Run
 pub mod Lone
 pub mod Text
 pub mod Judged
+pub mod Call

@@ -1,4 +1,4 @@
--- `engine::judge_play` meets its contract. Assumes nothing.
+-- `judge::judge_play` meets its contract. Assumes nothing.
 use Prim.Native.Nat.{ℕ}
 use mathlib.Core.Path.{_≡_, sym, ap}
 use mathlib.Core.List.{List}
@@ -13,10 +13,10 @@ use Rattle.table.specs.declared.Summary.{Summary}
 use Rattle.table.specs.Table.{Table, readText}
 use Rattle.table.specs.declared.Reading.the-variants.{Refused}
 use Rattle.scale.proofs.Taken.{Taken, refused-by, taken-by, spread-at, long}
-use Rattle.engine.specs.Calls.{judgeCall}
-use Rattle.engine.proofs.Known.{whole-at, given-at}
-use Rattle.engine.proofs.judge_play.Statement.{statement}
-use Rattle.engine.proofs.judge_play.Tie as tie
+use Rattle.judge.specs.Call.{judgeCall}
+use Rattle.judge.proofs.Call.{whole-at, given-at}
+use Rattle.judge.proofs.judge_play.Statement.{statement}
+use Rattle.judge.proofs.judge_play.Tie as tie
 
 abbrev text-of : tie.After-decode → List ℕ
 text-of R = now (R .before .before .before .before .before .before .args .text)

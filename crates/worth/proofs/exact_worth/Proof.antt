@@ -1,4 +1,4 @@
--- `engine::exact_worth` meets its contract. Assumes nothing.
+-- `worth::exact_worth` meets its contract. Assumes nothing.
 use Prim.Native.Nat.{ℕ, _≤_}
 use mathlib.Core.Path.{_≡_, sym, ap, _∙_}
 use mathlib.Core.List.{List}
@@ -11,11 +11,11 @@ use Rattle.table.specs.declared.Summary.{Summary}
 use Rattle.table.specs.Table.{readText}
 use Rattle.table.specs.declared.Reading.the-variants.{Refused}
 use Rattle.scale.proofs.Taken.{Taken, refused-by, taken-by, spread-at, long, grains-ready, grains-at}
-use Rattle.engine.specs.declared.Exact.the-variants.{Grains}
-use Rattle.engine.specs.Calls.{exactCall}
-use Rattle.engine.proofs.Known.{ready-at, low-at, answered-at}
-use Rattle.engine.proofs.exact_worth.Statement.{statement}
-use Rattle.engine.proofs.exact_worth.Tie as tie
+use Rattle.worth.specs.declared.Exact.the-variants.{Grains}
+use Rattle.worth.specs.Call.{exactCall}
+use Rattle.worth.proofs.Call.{ready-at, low-at, answered-at}
+use Rattle.worth.proofs.exact_worth.Statement.{statement}
+use Rattle.worth.proofs.exact_worth.Tie as tie
 
 abbrev text-of : tie.After-decode → List ℕ
 text-of R = now (R .before .before .before .before .before .before .args .text)

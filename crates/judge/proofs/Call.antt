@@ -1,0 +1,39 @@
+-- The lines of an accepted text can be judged, and the call answers with its table's judgement. Assumes nothing.
+use Prim.Native.Nat.{ℕ}
+use mathlib.Core.Path.{_≡_, refl, sym, ap, _∙_}
+use mathlib.Core.List.{List}
+use lib.ListN.{drop}
+use lib.IntN.{ℤ}
+use Rattle.line.specs.Refusal.{Verdict}
+use Rattle.table.specs.declared.Summary.{Summary}
+use Rattle.table.specs.Table.{Table, readText}
+use Rattle.scale.specs.declared.Scale.{Scale}
+use Rattle.scale.specs.Inside.{scaleFor}
+use Rattle.scale.proofs.Taken.{zeros, Taken, of-table}
+use Rattle.worth.specs.Inside.{beside}
+use Rattle.worth.proofs.Call.{zeros-reach, linesOf, from-all}
+use Rattle.judge.specs.declared.Judged.the-variants.{NoDecision, Loss}
+use Rattle.judge.specs.declared.Opinion.{Opinion}
+use Rattle.judge.specs.declared.Opinion.the-variants.{Given, Refused}
+use Rattle.judge.specs.Call.{judgeAnswer, judgeCall}
+use Rattle.judge.specs.Inside.{meant, WholeLines, WellJudged}
+use Rattle.judge.proofs.Answer.{accepted-whole, judged-table}
+
+-- what is answered with a judgement is the opinion that means it
+meant-back : (r : Opinion) → r ≡ judgeAnswer (meant r)
+meant-back (Given NoDecision) = refl
+meant-back (Given (Loss loss level)) = refl
+meant-back (Refused r) = refl
+
+-- g is the scale
+module _ {s : List ℕ} {t : Summary} {K S W H : List ℕ} (G : Taken s t K S W H) {g : Scale} (q : g ≡ scaleFor t) where
+  pub whole-at : WholeLines (beside S W H) g (t .nodes) (linesOf s)
+  whole-at =
+      rw (q, from-all s) (of-table G (λ t K S W H. WholeLines (beside S W H) (scaleFor t) (t .nodes) (drop 25 s)) (λ T p. accepted-whole s T p zeros zeros zeros (zeros-reach s T p)))
+
+  -- r is what `judge_table` gave of the child i
+  pub given-at : (i : ℤ) (r : Opinion) → WellJudged (beside S W H) g (t .nodes) (linesOf s) i r → r ≡ judgeCall (readText s) i
+  given-at i r w =
+      of-table G (λ t K S W H. WellJudged (beside S W H) (scaleFor t) (t .nodes) (drop 25 s) i r → r ≡ judgeCall (readText s) i) (λ T p w.
+      meant-back r ∙ ap judgeAnswer (judged-table s T p zeros zeros zeros (zeros-reach s T p) i r w) ∙ ap (λ (v : Verdict Table). judgeCall v i) (sym p))
+      (rw (q, from-all s) at w)
