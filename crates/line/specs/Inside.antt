@@ -1,59 +1,10 @@
--- What `header` and `node_line` promise to the crate `table`, and what the contracts below them cite. No promise of `table::read` names these.
-use Prim.Native.Nat.{ℕ, zero, suc, _≤_, _<_}
-use mathlib.Core.List.{List, [], _∷_}
-use lib.ListN.{getD}
+-- What contracts of internal functions cite; no promise of a public call names this.
+use Prim.Native.Nat.{_≤_, _<_}
 use lib.Signed.{mag}
-use Rattle.line.specs.declared.Head.{Head}
-use Rattle.line.specs.declared.Entry.{Entry}
 use Rattle.line.specs.declared.Line.{Line}
-use Rattle.line.specs.declared.HeadRead
-use Rattle.line.specs.declared.HeadRead.{HeadRead}
-use Rattle.line.specs.declared.Found.{Found}
-use Rattle.line.specs.declared.Found.the-variants.{At, Nowhere}
-use Rattle.line.specs.declared.Placing
-use Rattle.line.specs.declared.Placing.{Placing}
-use Rattle.line.specs.Refusal.{Verdict, refused, fine, unless}
-use Rattle.line.specs.Line.{Step, Above, wrong, path, stepped, Placed, placed, lateChecks}
-
-abbrev pub headShown : HeadRead → Verdict Head
-headShown (HeadRead.the-variants.Refused r) = refused r
-headShown (HeadRead.the-variants.Fine h) = fine h
 
 -- a line's numbers fit the slices
 pub record Sized (l : Line) : Type 0 where
   pub parent : l .parent < 1024
   pub weight : l .weight ≤ 64
   pub utility : mag (l .utility) ≤ 1000000
-
--- the path that the first d entries of three slices hold, the last entry first
-unfoldable pub pathOf : List ℕ → List ℕ → List ℕ → ℕ → List Step
-pathOf ns ks cs zero = []
-pathOf ns ks cs (suc d) = record { node = getD ns d 0; kind = getD ks d 0; chances = getD cs d 0 } ∷ pathOf ns ks cs d
-
-module _ (ns ks cs : List ℕ) where
-  abbrev pub aboveShown : Found → Above
-  aboveShown Nowhere = wrong
-  aboveShown (At d) = path (pathOf ns ks cs d)
-
-  abbrev pub placingShown : Placing → Verdict Placed
-  placingShown (Placing.the-variants.Refused r) = refused r
-  placingShown (Placing.the-variants.At l d) =
-      fine (record { line = l; steps = record { node = l .node; kind = l .kind; chances = l .chances } ∷ pathOf ns ks cs d })
-
--- node i, of the kind k, below the steps P of its parent, where only 10, 7 and 3 are left to check
-abbrev pub placingOf : Head → ℕ → ℕ → Entry → List Step → Verdict Placed
-placingOf h i k e P = unless (lateChecks h i k e P) (placed i k e (stepped i k P))
-
--- small enough to add 1 to each
-abbrev pub Bounded : List ℕ → Type 0
-Bounded cs = (d : ℕ) → getD cs d 0 ≤ 4
-
--- a depth that was found is at most d
-abbrev pub Upto : ℕ → Found → Type 0
-Upto d Nowhere = Unit {0}
-Upto d (At e) = e ≤ d
-
--- a line has room at its depth
-abbrev pub Roomy : Placing → Type 0
-Roomy (Placing.the-variants.Refused r) = Unit {0}
-Roomy (Placing.the-variants.At l d) = d < 64

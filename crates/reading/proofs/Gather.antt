@@ -14,8 +14,9 @@ use Rattle.line.specs.declared.Line.{Line}
 use Rattle.line.specs.declared.Refusal.{Refusal}
 use Rattle.line.specs.Refusal.{Verdict, refused, fine, next}
 use Rattle.line.specs.Line.{Step, Placed, ancestors, stepsOf, entryOf, nodeLine, Ranged}
-use Rattle.line.specs.Inside.{pathOf, Bounded, Sized}
+use Rattle.line.specs.Inside.{Sized}
 use Rattle.line.proofs.Fine.{Falling, falling-more, Climbs, climbed, Read, line-read, read-sized}
+use Rattle.parsing.specs.Inside.{pathOf, Bounded}
 use Rattle.table.specs.Table.{prefix, nodeLines, greatest, leafLines}
 use Rattle.table.specs.Slices.{heightOf, laid}
 use Rattle.table.proofs.Laid.{laid-more}

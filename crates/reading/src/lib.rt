@@ -11,13 +11,13 @@ ghost use Rattle.table.specs.Slices.{heightOf, fitted, kindsOf, stopsOf, weight
 ghost use Rattle.reading.specs.Inside.{Roomed, Gathered, completeAt, Decoded};
 ghost use Rattle.runs.specs.Inside.{Has};
 use line::Head;
-use line::HeadRead;
 use line::Line;
-use line::Placing;
 use line::Refusal;
 use numbers::index;
 use numbers::max_of;
 use numbers::wide8;
+use parsing::HeadRead;
+use parsing::Placing;
 use table::Reading;
 use table::Summary;
 
@@ -82,7 +82,7 @@ fn node_lines(
     let mut i: usize = 0;
     while i < n {
         let at = 25 * i + 25;
-        match line::node_line(&text[at..at + 25], i, h, &nodes, &kinds, &chances, depth) {
+        match parsing::node_line(&text[at..at + 25], i, h, &nodes, &kinds, &chances, depth) {
             Placing::Refused(r) => {
                 return Lines::Refused(r);
             }
@@ -234,7 +234,7 @@ pub fn decode(
         return Reading::Refused(Refusal::Length);
     }
     let n = text.len() / 25 - 1;
-    match line::header(&text[0..25], n) {
+    match parsing::header(&text[0..25], n) {
         HeadRead::Refused(r) => Reading::Refused(r),
         HeadRead::Fine(h) => decode_lines(text, n, h, kind, stop, weight, height),
     }

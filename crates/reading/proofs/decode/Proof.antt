@@ -7,12 +7,12 @@ use native.Mathlib.Omega.{arith}
 use borrow.Author.Needs.{needs}
 use denote.Ref.{now}
 use lib.ListN.{length, take, getD}
-use Rattle.line.specs.declared.HeadRead
-use Rattle.line.specs.declared.HeadRead.{HeadRead}
 use Rattle.line.specs.declared.Refusal.the-variants.{Length}
 use Rattle.line.specs.Line.{headingOf, header}
-use Rattle.line.specs.Inside.{headShown}
 use Rattle.line.proofs.Fine.{header-ranged}
+use Rattle.parsing.specs.declared.HeadRead
+use Rattle.parsing.specs.declared.HeadRead.{HeadRead}
+use Rattle.parsing.specs.Inside.{headShown}
 use Rattle.table.specs.Table.{badLength, count, readText}
 use Rattle.table.proofs.Top.{good-length, read-length, read-refused, read-lines}
 use Rattle.reading.proofs.Top.{decoded-refused}

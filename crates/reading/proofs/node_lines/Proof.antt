@@ -17,10 +17,11 @@ use mir.ValLaws.{toZ-ofZ}
 use Rattle.field.proofs.Bits.{mag-abs}
 use Rattle.field.proofs.Small.{one-or-none}
 use Rattle.line.specs.declared.Line.{Line}
-use Rattle.line.specs.declared.Placing
-use Rattle.line.specs.declared.Placing.{Placing}
 use Rattle.line.specs.Line.{nodeLine, Ranged}
-use Rattle.line.specs.Inside.{pathOf, placingShown, Sized, Roomy}
+use Rattle.line.specs.Inside.{Sized}
+use Rattle.parsing.specs.declared.Placing
+use Rattle.parsing.specs.declared.Placing.{Placing}
+use Rattle.parsing.specs.Inside.{pathOf, placingShown, Roomy}
 use Rattle.table.specs.Slices.{heightOf}
 use Rattle.reading.proofs.Gather.{bounded-zeros, Gathering, Kept, gathering-kept, gathering-none, gathering-more, gathering-as, sized-here, reading-refused, gathered-refused, gathered-done}
 use Rattle.reading.proofs.node_lines.Statement.{statement}
