@@ -222,7 +222,7 @@ module _ (S : Beside) (g : Scale) (k : Kind) (c e : ℕ) (s : List ℕ) where
             (omega (arith, length-drop (25 * (i - c)) s, R .long, G .from)) (R .room) (R .few) (R .scale),
       )
 
-  pub going-turn : (a w i : ℕ) (R : ReadyRun S g k c e s) (N : Next a w i R) (b v j : ℕ) → j ≡ getD (S .stops) i 0 → b ≡ taken k a v (N .1 .share .worth)
+  going-turn : (a w i : ℕ) (R : ReadyRun S g k c e s) (N : Next a w i R) (b v j : ℕ) → j ≡ getD (S .stops) i 0 → b ≡ taken k a v (N .1 .share .worth)
       → v ≡ N .1 .share .weight → v ≤ 255 → Going S g k c e s (R .nodes) b (w + v) j
   unfolding takeAll total
   going-turn a w i R N b v j stop step weight light =
@@ -271,7 +271,7 @@ sum-so-far : (a most : ℕ) (x : Share ℕ) (xs ys : List (Share ℕ))
 unfolding summed
 sum-so-far a most x xs ys e h = omega (arith, take-sum 0 ys, take-sum a (x ∷ xs))
 
-pub sum-fits : (S : Beside) (g : Scale) (k : Kind) (c e : ℕ) (s : List ℕ) (a w i : ℕ) (R : ReadyRun S g k c e s) (N : Next S g k c e s a w i R)
+sum-fits : (S : Beside) (g : Scale) (k : Kind) (c e : ℕ) (s : List ℕ) (a w i : ℕ) (R : ReadyRun S g k c e s) (N : Next S g k c e s a w i R)
     → k ≡ CHANCE → a + N .1 .share .weight * N .1 .share .worth < 9223372036854775808
 sum-fits S g MAX c e s a w i R N k = absurd (let z : _≡_ {A = Bool} false true = ap isChance k in let y : _≡_ {A = ℕ} 0 1 = cc in omega arith)
 sum-fits S g MIN c e s a w i R N k = absurd (let z : _≡_ {A = Bool} false true = ap isChance k in let y : _≡_ {A = ℕ} 0 1 = cc in omega arith)

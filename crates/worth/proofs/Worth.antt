@@ -1,6 +1,6 @@
 -- The worth of every accepted table: exact, within the ends, and the lowest end with the worth over heights. Assumes nothing.
-use Prim.Native.Nat.{ℕ, _*_, _≤_, _<_}
-use mathlib.Core.Path.{_≡_, sym, ap, ap₂, _∙_}
+use Prim.Native.Nat.{ℕ, _+_, _*_, _≤_, _<_}
+use mathlib.Core.Path.{_≡_, refl, sym, ap, ap₂, _∙_}
 use mathlib.Core.Bool.{true, false}
 use mathlib.Core.List.{List, [], _∷_, map}
 use native.Mathlib.Omega.{arith}
@@ -8,13 +8,14 @@ use lib.IntN.{ℤ, pos, _+ℤ_, _*ℤ_, +ℤ-idr}
 use lib.Signed.{leZ}
 use Rattle.numbers.proofs.Above.{le-above}
 use Rattle.line.specs.Refusal.{fine}
+use Rattle.table.specs.Tree.{Forest, end, leaf, inner, weigh}
 use Rattle.table.specs.Table.{Table, tree, readText, greatest, grain}
 use Rattle.table.specs.Slices.{heightTree}
-use Rattle.table.specs.Accepted.{span}
+use Rattle.table.specs.Accepted.{span, Balanced}
 use Rattle.table.proofs.Heights.{heights-map}
 use Rattle.table.proofs.Accepted.{accepted-ranged, accepted-proper, accepted-filled, accepted-balanced, heights-rooted, heights-proper, heights-balanced}
 use Rattle.table.proofs.Ends.{rooted-some, top}
-use Rattle.worth.specs.Worth.{Share, shares, worthOf, firstWorth, Exact}
+use Rattle.worth.specs.Worth.{Share, total, shares, worthOf, firstWorth, TotalsAre, Exact}
 use Rattle.worth.specs.Inside.Heights.{heightShares, firstHeight, heightWorth, raised, ExactHeights, SmallWorths}
 use Rattle.worth.specs.Inside.{Totals, OkTotal}
 use Rattle.worth.proofs.Bounds.{Each, small, small-each, own-totals}
@@ -25,7 +26,23 @@ first-each : (P : ℕ → Type 0) (xs : List (Share ℕ)) → P 0 → Each P xs 
 first-each P [] z e = z
 first-each P (x ∷ xs) z e = e .0
 
+-- ---- own totals
+
+shares-weigh : (G : ℕ) (F : Forest ℤ) → total (shares G F) ≡ weigh F
+unfolding total shares weigh
+shares-weigh G end = refl
+shares-weigh G (leaf n w u rest) = ap (λ (x : ℕ). w + x) (shares-weigh G rest)
+shares-weigh G (inner n w k under rest) = ap (λ (x : ℕ). w + x) (shares-weigh G rest)
+
+balanced-are : (T G : ℕ) (F : Forest ℤ) → Balanced T F → TotalsAre T G F
+balanced-are T G end b = tt
+balanced-are T G (leaf n w u rest) b = balanced-are T G rest b
+balanced-are T G (inner n w k under rest) b = (λ i. shares-weigh G under ∙ b .0 i, balanced-are T G under (b .1), balanced-are T G rest (b .2))
+
 module _ (s : List ℕ) (t : Table) (h : readText s ≡ fine t) where
+  pub totals-are : TotalsAre (t .head .total) (grain t) (tree t)
+  totals-are = balanced-are (t .head .total) (grain t) (tree t) (accepted-balanced s t h)
+
   -- ---- over heights
 
   pub heights-exact : ExactHeights (grain t) (heightTree t)

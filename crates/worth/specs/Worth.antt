@@ -29,7 +29,7 @@ unfoldable pub weighted : List (Share ℤ) → ℤ
 weighted [] = pos 0
 weighted (x ∷ xs) = pos (x .weight) *ℤ x .worth +ℤ weighted xs
 
--- "A C's weights sum to T": the sum of a node's own weights. That it is T at every C of an accepted table is a theorem (table/Accepted.accepted-balanced).
+-- "A C's weights sum to T": the sum of a node's own weights. That it is T at every C of an accepted table is a theorem (proofs/Worth.totals-are).
 unfoldable pub total : {A : Type 0} → List (Share A) → ℕ
 total [] = 0
 total (x ∷ xs) = x .weight + total xs
@@ -54,6 +54,12 @@ firstWorth (x ∷ xs) = x .worth
 -- the worth of a table, in grains: that of its root
 abbrev pub worthOf : Table → ℤ
 worthOf t = firstWorth (shares (grain t) (tree t))
+
+-- "A C's weights sum to T": at every C of the tree the own total, by which its worth is divided, is T
+abbrev pub TotalsAre : (T G : ℕ) → Forest ℤ → Type 0
+TotalsAre T G end = Unit {0}
+TotalsAre T G (leaf n w u rest) = TotalsAre T G rest
+TotalsAre T G (inner n w k under rest) = (isChance k ≡ true → total (shares G under) ≡ T) × TotalsAre T G under × TotalsAre T G rest
 
 -- "that division never leaves a remainder": at every C of the tree, its own total × its worth is the sum of weight × worth over its children
 abbrev pub Exact : (G : ℕ) → Forest ℤ → Type 0

@@ -54,10 +54,10 @@ fn take_child(k: u8, a: u64, w: u64, h: u64) -> u64
     ensures { λ r. ⌜ r ≡ taken (kindOf k) a w h ⌝ }
 {
     if k == 1 {
-        return numbers::max_of(a, h);
+        return if a < h { h } else { a };
     }
     if k == 2 {
-        return numbers::min_of(a, h);
+        return if h < a { h } else { a };
     }
     a + w * h
 }
