@@ -30,11 +30,11 @@ meant-back (Refused r) = refl
 -- ---- an accepted table
 
 module _ (s : List ℕ) (t : Table) (h : readText s ≡ fine t) where
-  accepted-whole : WholeLines (lent t) (scaleFor (summary t)) (length (t .lines)) (drop 25 s)
+  pub accepted-whole : WholeLines (lent t) (scaleFor (summary t)) (length (t .lines)) (drop 25 s)
   unfolding accepted-ready
   accepted-whole = record { ready = accepted-ready s t h; rooted = heights-rooted s t h }
 
-  judged-table : (i : ℤ) (r : Opinion) → WellJudged (lent t) (scaleFor (summary t)) (length (t .lines)) (drop 25 s) i r → meant r ≡ judge t i
+  pub judged-table : (i : ℤ) (r : Opinion) → WellJudged (lent t) (scaleFor (summary t)) (length (t .lines)) (drop 25 s) i r → meant r ≡ judge t i
   unfolding accepted-whole accepted-ready
   judged-table i r told = told accepted-whole ∙ sym (judge-heights s t h i)
 

@@ -74,7 +74,7 @@ module _ (s : List ℕ) (t : Table) (h : readText s ≡ fine t) where
         scale = scale-ok;
       }
 
-  judged-worth : (r : ℕ) → Worthy (lent t) (scaleFor (summary t)) MAX 0 (length (t .lines)) (drop 25 s) r → r ≡ heightWorth t
+  pub judged-worth : (r : ℕ) → Worthy (lent t) (scaleFor (summary t)) MAX 0 (length (t .lines)) (drop 25 s) r → r ≡ heightWorth t
   unfolding accepted-ready
   judged-worth r told = told accepted-ready ∙ root-worth (grain t) (heightTree t) (heights-rooted s t h)
 
