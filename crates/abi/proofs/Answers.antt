@@ -17,12 +17,12 @@ use Rattle.table.proofs.Places.{refused-line}
 use Rattle.judge.specs.declared.Opinion
 use Rattle.judge.specs.Judge.{Judgement, judge}
 use Rattle.judge.proofs.Judge.{judge-refused}
+use Rattle.searching.specs.declared.Bounds.{Bounds}
+use Rattle.searching.proofs.Answered.{Sizes, PlayBelow}
 use Rattle.engine.specs.declared.Exact.the-variants.{Grains, Refused}
 use Rattle.engine.specs.Calls.{exactCall, judgeAnswer, judgeCall}
-use Rattle.engine.specs.declared.Bounds.{Bounds}
 use Rattle.engine.specs.declared.Rolled
 use Rattle.engine.specs.declared.Rolled.{Rolled}
-use Rattle.engine.proofs.Answered.{Sizes, PlayBelow}
 use Rattle.engine.proofs.RollAnswered.{RollSized}
 use Rattle.abi.specs.Numbers.{nodeNumber, SmallSummary, SmallBounds, SmallRolled}
 

@@ -13,10 +13,11 @@ use Rattle.judge.specs.declared.Judged.{Judged}
 use Rattle.judge.specs.declared.Judged.the-variants.{NoDecision, Loss}
 use Rattle.judge.specs.declared.Opinion
 use Rattle.judge.specs.declared.Opinion.{Opinion}
-use Rattle.engine.specs.declared.Bounds.{Bounds}
-use Rattle.engine.specs.declared.Bounded
-use Rattle.engine.specs.declared.Bounded.{Bounded}
-use Rattle.engine.specs.Calls.{exactNumber, exactLine, judgeNumber, judgeLine, searchNumber, searchLine, rollNumber, rollLine, turnedNumber, turnedLine}
+use Rattle.searching.specs.declared.Bounds.{Bounds}
+use Rattle.searching.specs.declared.Bounded
+use Rattle.searching.specs.declared.Bounded.{Bounded}
+use Rattle.searching.specs.Call.{searchNumber, searchLine}
+use Rattle.engine.specs.Calls.{exactNumber, exactLine, judgeNumber, judgeLine, rollNumber, rollLine, turnedNumber, turnedLine}
 use Rattle.engine.specs.declared.Rolled
 use Rattle.engine.specs.declared.Rolled.{Rolled}
 use Rattle.engine.specs.declared.Turned.{Turned}

@@ -26,22 +26,23 @@ use Rattle.turn.proofs.Tree.{tree-turned, turn-twice}
 use Rattle.turn.proofs.Accepted.{turned-accepted, turned-length}
 use Rattle.search.specs.Search.{Seen, nodeOf}
 use Rattle.search.specs.Whole.{searched}
-use Rattle.search.specs.Unread.{Alike, ReadBy}
-use Rattle.search.specs.Turned.{Turns}
-use Rattle.search.proofs.Demand.{contains, width, play-near}
-use Rattle.search.proofs.Changed as changed
-use Rattle.search.proofs.Turned as mirror
+use Rattle.searching.specs.declared.Bounds.{Bounds}
+use Rattle.searching.specs.declared.Bounded.the-variants.{Found, Refused}
+use Rattle.searching.specs.Call.{badMargin, boundsOf, searchReads}
+use Rattle.searching.proofs.Answered.{answered, answers, reads}
+use Rattle.promise.specs.Unread.{Alike, ReadBy}
+use Rattle.promise.specs.Turned.{Turns}
+use Rattle.promise.proofs.Demand.{contains, width, play-near}
+use Rattle.promise.proofs.Changed as changed
+use Rattle.promise.proofs.Turned as mirror
 use Rattle.rollout.specs.Leaves.{Distinct}
 use Rattle.rollout.specs.Rollout.{Rolled}
 use Rattle.rollout.specs.Whole.{hasChance, rolled, rolledWorth}
 use Rattle.rollout.proofs.Demand.{ends-on-worth, no-leaf-twice}
-use Rattle.engine.specs.declared.Bounds.{Bounds}
-use Rattle.engine.specs.declared.Bounded.the-variants.{Found, Refused}
 use Rattle.engine.specs.declared.Rolled
 use Rattle.engine.specs.declared.Rolled.the-variants.{Done}
 use Rattle.engine.specs.declared.Exact.the-variants.{Grains}
-use Rattle.engine.specs.Calls.{exactCall, badMargin, boundsOf, searchReads, rolls, rollAnswer, rollList, rollCall, turnOf}
-use Rattle.engine.proofs.Answered.{answered, answers, reads}
+use Rattle.engine.specs.Calls.{exactCall, rolls, rollAnswer, rollList, rollCall, turnOf}
 use Rattle.engine.proofs.Turning.{turn-fine}
 use Rattle.demands.specs.Demands.{childWorth, Promised, SameLines, Mirrors, Answers, Sentence1, Sentence2, GivenText, Sentence3, TurnAnswers, TurningTwice, RolloutsEnd, RollAnswers}
 use Rattle.demands.proofs.Utilities.{tree-alike, given-same, given-accepted}

@@ -13,10 +13,11 @@ use Rattle.table.specs.Slices.{laid, fitted, kindsOf, stopsOf, weightsOf, heigh
 use Rattle.table.proofs.Top.{unchanged}
 use Rattle.judge.specs.declared.Opinion
 use Rattle.judge.specs.declared.Opinion.{Opinion}
+use Rattle.searching.specs.Call.{Sought, sought, searchAnswer, searchList}
 use Rattle.rollout.specs.declared.Record.{Record}
 use Rattle.engine.specs.declared.Exact.{Exact}
 use Rattle.engine.specs.declared.Exact.the-variants.{Grains, Refused}
-use Rattle.engine.specs.Calls.{exactCall, judgeCall, Sought, sought, searchAnswer, searchList, turnOf, turnAnswer, turnWritten, rolls, rollAnswer, rollList, rollRecords, recorded}
+use Rattle.engine.specs.Calls.{exactCall, judgeCall, turnOf, turnAnswer, turnWritten, rolls, rollAnswer, rollList, rollRecords, recorded}
 use Rattle.abi.specs.Numbers.{readCode, numbersOf, worthCode, worthNumbers, judgeCode, judgeNumbers, searchCode, searchNumbers, rollCode, rollNumbers, turnedCode, put}
 use Rattle.demands.specs.Untouched.{Refuses, CodesRefuse, SlicesKept, ReadUntouched, SearchUntouched, TurnUntouched, RollUntouched, CReadUntouched, CWorthUntouched, CJudgeUntouched, CSearchUntouched, CTurnUntouched, CRollUntouched}
 

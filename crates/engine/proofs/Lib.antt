@@ -1,6 +1,4 @@
 pub mod Known
-pub mod Searching
-pub mod Answered
 pub mod Turning
 pub mod Rolling
 pub mod Lent

@@ -2,21 +2,13 @@
 use Prim.Native.Nat.{ℕ, _≤_, _<_}
 use mathlib.Core.List.{List}
 use mathlib.Core.Path.{_≡_}
-use lib.IntN.{ℤ}
 use lib.ListN.{length, getD, take}
-use Rattle.line.specs.Line.{toNat}
 use Rattle.line.specs.Refusal.{Verdict}
 use Rattle.table.specs.Table.{Table}
 use Rattle.table.specs.Slices.{laid}
-use Rattle.scale.specs.declared.Scale.{Scale}
-use Rattle.search.specs.declared.Rule.{Rule}
 use Rattle.rollout.specs.Records.{lowsOf, highsOf, risen, SmallHeights}
 use Rattle.engine.specs.declared.Outcome.{Outcome}
 use Rattle.engine.specs.Calls.{rollCall, rollReads, rollStore}
-
--- the numbers that a search goes by
-abbrev pub ruleFor : Scale → ℤ → Rule
-ruleFor g margin = record { margin = toNat margin; top = g .top; total = g .total; grain = g .grain }
 
 -- ---- rollouts
 

@@ -9,7 +9,7 @@ ghost use Rattle.field.specs.Field.{textOf};
 ghost use Rattle.line.specs.Refusal.{lineOf};
 ghost use Rattle.table.specs.Table.{readText};
 ghost use Rattle.table.specs.Slices.{fitted};
-ghost use Rattle.engine.specs.Calls.{sought};
+ghost use Rattle.searching.specs.Call.{sought};
 ghost use Rattle.printing.specs.Program.{marginIn, marginOf, Leaf, columns, rowOf, printed, leafRow, rowsOf, outputOf};
 ghost use Rattle.printing.specs.Inside.{childMark, childMarks, Lined, playMarks, Narrow, boundRows, refusalRows};
 use engine::Bounded;

@@ -153,7 +153,7 @@ fn first_childless(kind: &[u8], stop: &[u16], n: usize) -> usize
 }
 
 // The weights of the children in the entries from c up to e, from child to child.
-fn sum_weights(kind: &[u8], stop: &[u16], weight: &[u8], c: usize, e: usize) -> u64
+pub fn sum_weights(kind: &[u8], stop: &[u16], weight: &[u8], c: usize, e: usize) -> u64
     requires { ⌜ (e ≤ length (now stop)) × (e ≤ length (now weight)) × (e ≤ 1024) × Has (now kind) (now stop) (now weight) c e ⌝ }
     ensures { λ r. ⌜ r ≡ weighAt (now (stop .entry)) (now (weight .entry)) 1024 c e ⌝ }
 {

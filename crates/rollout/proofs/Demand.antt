@@ -20,7 +20,7 @@ use Rattle.table.proofs.Accepted.{accepted-ranged, accepted-proper, accepted-fi
 use Rattle.worth.specs.Worth.{worthOf}
 use Rattle.worth.specs.Heights.{heightWorth}
 use Rattle.worth.proofs.Worth.{shift}
-use Rattle.search.specs.Heights.{grained}
+use Rattle.search.specs.Inside.{grained}
 use Rattle.rollout.specs.Rollout.{Kept, Walk, Rolled, lows, highs, firstOr, records, walk, roll}
 use Rattle.rollout.specs.Whole.{whole, bottom, hasChance, rolled, rolledWorth, rolledStore}
 use Rattle.rollout.specs.Heights.{natural, heightRolled}

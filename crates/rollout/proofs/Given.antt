@@ -11,8 +11,7 @@ use Rattle.table.specs.Tree.{leaves}
 use Rattle.table.specs.Table.{Table, readText, grain, leafLines}
 use Rattle.table.specs.Slices.{kindsOf, stopsOf, weightsOf, heightsOf, heightTree, fitted, laid}
 use Rattle.table.specs.Accepted.{span}
-use Rattle.table.proofs.Accepted.{accepted-lent, heights-leaves}
-use Rattle.search.proofs.Ready.{accepted-search-ready}
+use Rattle.table.proofs.Accepted.{accepted-lent, accepted-holds, heights-leaves}
 use Rattle.rollout.specs.Rollout.{Pair}
 use Rattle.rollout.specs.Whole.{rolled, rolledWorth, rolledStore}
 use Rattle.rollout.specs.Records.{lowsOf, highsOf}
@@ -81,7 +80,7 @@ module _ (s : List ℕ) (t : Table) (h : readText s ≡ fine t) where
     pub accepted-roll-ready : (room : ℕ) → leafLines (t .lines) ≤ room
         → ReadyRoll (fitted (kindsOf t) K) (fitted (stopsOf t) S) (fitted (heightsOf t) H) (grain t) nodes st0 room
     accepted-roll-ready room enough =
-        let R = accepted-search-ready s t h 0 (omega arith) K S W H roomK roomS roomW roomH room enough in
+        let R = accepted-holds s t h K S W H roomK roomS roomW roomH in
         record {
           text = s;
           table = t;
@@ -91,9 +90,9 @@ module _ (s : List ℕ) (t : Table) (h : readText s ≡ fine t) where
           grained = refl;
           size = refl;
           ready = begun;
-          kinds = R .holds .kinds;
-          stops = R .holds .stops;
-          heights = R .holds .heights;
+          kinds = R .kinds;
+          stops = R .stops;
+          heights = R .heights;
           space = omega (arith, heights-leaves s t h);
         }
 

@@ -14,7 +14,7 @@ use Rattle.table.proofs.Heights.{above as height, height-back, mapForest, map-p
 use Rattle.worth.specs.Worth.{value, shares, firstWorth}
 use Rattle.worth.specs.Heights.{heightValue, heightShares}
 use Rattle.worth.proofs.Shift.{shares-shift}
-use Rattle.search.specs.Heights.{grained}
+use Rattle.search.specs.Inside.{grained}
 use Rattle.rollout.specs.Rollout.{Kept, none, tip, knot, Pair, fresh, records, over}
 use Rattle.rollout.specs.Heights.{natural}
 use Rattle.rollout.specs.Raised.{mapPair}

@@ -9,12 +9,11 @@ use lib.ListN.{length, getD, set, drop, length-append}
 use lib.Seq.{drop-cons, set-append-seam}
 use Rattle.table.specs.Tree.{Forest, end, leaf, inner, leaves}
 use Rattle.table.specs.Table.{grain}
-use Rattle.table.specs.Slices.{heightTree, laid}
+use Rattle.table.specs.Slices.{heightTree, laid, slices}
 use Rattle.table.specs.Accepted.{span}
 use Rattle.table.proofs.Accepted.{accepted-size, accepted-grain, heights-rooted}
 use Rattle.table.proofs.Runs.{size}
-use Rattle.search.specs.Inside.{slices}
-use Rattle.search.proofs.Call.{root-some}
+use Rattle.table.proofs.Nodes.{root-some}
 use Rattle.rollout.specs.declared.Step.{Step}
 use Rattle.rollout.specs.Rollout.{firstOr, candidate}
 use Rattle.rollout.specs.Heights.{natural}

@@ -10,7 +10,7 @@ use Rattle.line.proofs.Signs.{true-ne-false}
 use Rattle.table.specs.Tree.{Kind, Forest, end, leaf, inner}
 use Rattle.table.specs.Slices.{Slices, Spans}
 use Rattle.table.proofs.Spans.{spans-le}
-use Rattle.search.proofs.Forest.{restOf, stopOf}
+use Rattle.table.proofs.Nodes.{restOf, stopOf}
 use Rattle.rollout.specs.Rollout.{joined, over, candidate}
 use Rattle.rollout.specs.Heights.{natural}
 use Rattle.rollout.specs.Lists.{Store, lowAt, highAt, runs, candidatesS}

@@ -19,7 +19,7 @@ use Rattle.table.proofs.Runs.{size, Numbered}
 use Rattle.table.proofs.Ends.{rooted-some}
 use Rattle.worth.specs.Worth.{Share}
 use Rattle.worth.specs.Heights.{heightShares, firstHeight, heightWorth}
-use Rattle.search.specs.Heights.{grained}
+use Rattle.search.specs.Inside.{grained}
 use Rattle.rollout.specs.Rollout.{Kept, fresh, firstOr, roll}
 use Rattle.rollout.specs.Whole.{hasChance}
 use Rattle.rollout.specs.Heights.{natural, heightRolled}

@@ -7,12 +7,10 @@ use native.Mathlib.Omega.{arith}
 use lib.Dec.{eqb}
 use lib.ListN.{getD}
 use Rattle.table.specs.Tree.{Kind, Forest, end, leaf, inner, codeOf, kindOf}
-use Rattle.table.specs.Slices.{Slices, Spans}
+use Rattle.table.specs.Slices.{Slices, Spans, slices}
 use Rattle.table.proofs.Spans.{spans-le}
 use Rattle.table.proofs.Runs.{kind-code}
-use Rattle.search.specs.Inside.{slices}
-use Rattle.search.proofs.Forest.{stopOf}
-use Rattle.search.proofs.Rules.{code-pos}
+use Rattle.table.proofs.Nodes.{stopOf, code-pos}
 use Rattle.rollout.specs.Rollout.{pick, spend, over, candidate}
 use Rattle.rollout.specs.Heights.{natural}
 use Rattle.rollout.specs.Sound.{SomeNode, Sound}

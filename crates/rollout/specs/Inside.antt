@@ -8,9 +8,8 @@ use lib.ListN.{length, getD, set, drop}
 use Rattle.line.specs.Refusal.{fine}
 use Rattle.table.specs.Tree.{Kind, kindOf, Forest, end, leaf, inner, leaves}
 use Rattle.table.specs.Table.{Table, readText, grain}
-use Rattle.table.specs.Slices.{Spans, heightTree, laid}
+use Rattle.table.specs.Slices.{Spans, heightTree, laid, slices}
 use Rattle.table.specs.Accepted.{span}
-use Rattle.search.specs.Inside.{slices}
 use Rattle.rollout.specs.declared.Step.{Step}
 use Rattle.rollout.specs.Rollout.{pick, over, candidate}
 use Rattle.rollout.specs.Heights.{natural}

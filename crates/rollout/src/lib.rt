@@ -8,11 +8,11 @@ ghost use Rattle.rollout.specs.Rollout.{spend, joined, candidate};
 ghost use Rattle.rollout.specs.Heights.{natural};
 ghost use Rattle.rollout.specs.Records.{SmallHeights, risen, filled};
 ghost use Rattle.rollout.specs.Inside.{stored, Children, Counted, Choice, Named, Chosen, Extreme, Updated, ReadyDown, WentDown, Climb, Climbed, ReadyWalk, Walked, ReadyRoll, WellRolled};
+use numbers::at8;
 use numbers::index;
 use numbers::max_of;
-use search::kind_at;
-use search::min_of;
-use search::wide32;
+use numbers::min_of;
+use numbers::wide32;
 
 // Where a walk ends: the leaf, how many inner nodes lead to it, and how many policy bytes are used.
 struct Step {
@@ -214,7 +214,7 @@ fn down(
     let mut a = alpha;
     let mut b = beta;
     loop {
-        if kind_at(kind, c) == 0 {
+        if at8(kind, c) == 0 {
             return Step {
                 leaf: c,
                 depth: depth,
@@ -241,7 +241,7 @@ fn up(kind: &[u8], stop: &[u16], low: &mut [u64], high: &mut [u64], path: &[u16]
     while 0 < d {
         d = d - 1;
         let c = node_at(path, d);
-        update(kind_at(kind, c), stop, low, high, c, node_at(stop, c));
+        update(at8(kind, c), stop, low, high, c, node_at(stop, c));
     }
 }
 

@@ -50,8 +50,8 @@ ready : (l : tie.At-loop Inv-loop μ-loop)
     ReadyNode (now (a .kind)) (now (a .stop)) (s .pre .heights) (s .pre .grain) (l .loop .c) (l .loop .a) (l .loop .b) (stored (now (a .low)) (now (a .high)))
 ready l = descent l .ready
 
-kind-at-requires : tie.Need-kind-at-requires Inv-loop μ-loop
-kind-at-requires c κs = let R = ready c in omega (arith, R .some, R .kinds)
+at8-requires : tie.Need-at8-requires Inv-loop μ-loop
+at8-requires c κs = let R = ready c in omega (arith, R .some, R .kinds)
 
 same-length : tie.Need-same-length Inv-loop μ-loop
 same-length c = c .before .before .loop .inv .0
@@ -59,7 +59,7 @@ same-length c = c .before .before .loop .inv .0
 returns : tie.Need-returns Inv-loop μ-loop
 returns c =
     let l = c .before .before in
-    let k = c .before .kind-at in
+    let k = c .before .at8 in
     λ H G R. descent-end (l .loop .inv .1 H G R) (omega (arith, start-of l .pre .path, l .loop .inv .0)) (k .result) (k .ensures) (c .if1 .taken)
 
 list-node-requires : tie.Need-list-node-requires Inv-loop μ-loop
@@ -91,12 +91,12 @@ at-of c = c .before .before .before .before .before .before .before .before .bef
 window : (c : tie.After-node-at Inv-loop μ-loop)
     → let l = at-of c in
     let a = start-of l .args in
-    Window (now (a .kind)) (now (a .stop)) (stored (now (a .low)) (now (a .high))) (l .loop .c) (l .loop .a) (l .loop .b) (c .before .before .before .before .before .before .before .before .before .before .kind-at .result)
+    Window (now (a .kind)) (now (a .stop)) (stored (now (a .low)) (now (a .high))) (l .loop .c) (l .loop .a) (l .loop .b) (c .before .before .before .before .before .before .before .before .before .before .at8 .result)
     (c .node-at .result) (c .before .before .before .max-of .result) (c .before .min-of .result)
 window c =
     let l = at-of c in
     record {
-      kind = c .before .before .before .before .before .before .before .before .before .before .kind-at .ensures;
+      kind = c .before .before .before .before .before .before .before .before .before .before .at8 .ensures;
       inside = c .before .before .before .before .before .before .before .before .before .if1 .left;
       stop = c .node-at .ensures;
       alpha = c .before .before .before .max-of .ensures ∙ ap (max (l .loop .a)) (c .before .before .before .before .bound-at .ensures);
@@ -160,7 +160,7 @@ down-spec =
     Inv-loop
     μ-loop
     loop-holds
-    kind-at-requires
+    at8-requires
     same-length
     returns
     list-node-requires

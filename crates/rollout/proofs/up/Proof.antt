@@ -36,8 +36,8 @@ sub-d c = omega (arith, c .loop-test .taken)
 node-at-requires : tie.Need-node-at-requires Inv-loop μ-loop
 node-at-requires c κs = omega (arith, c .loop-test .taken, climb c .path)
 
-kind-at-requires : tie.Need-kind-at-requires Inv-loop μ-loop
-kind-at-requires c κs =
+at8-requires : tie.Need-at8-requires Inv-loop μ-loop
+at8-requires c κs =
     let i = c .before in
     let n = climb-within (climb i) (i .loop-test .taken) (c .node-at .result) (c .node-at .ensures) in
     omega (arith, n, climb i .kinds)
@@ -63,7 +63,7 @@ loop-again c =
     let i = c .before .before .before .before .before .before .before .before .before .before in
     let l = i .before .loop in
     let s = c .before .before .before .before .before .before .before .before .before .node-at in
-    let k = c .before .before .before .before .before .before .before .before .kind-at in
+    let k = c .before .before .before .before .before .before .before .before .at8 in
     let e = U .before .node-at2 in (
       U .update .kept .1 .1 .0 ∙ l .inv .0,
       U .update .kept .1 .1 .1 .0 ∙ l .inv .1,
@@ -88,7 +88,7 @@ up-spec =
     loop-holds
     sub-d
     node-at-requires
-    kind-at-requires
+    at8-requires
     node-at-requires-2
     update-requires
     loop-less
