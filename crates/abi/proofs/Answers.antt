@@ -19,11 +19,12 @@ use Rattle.judge.specs.declared.Opinion
 use Rattle.judge.specs.Judge.{Judgement, judge}
 use Rattle.judge.specs.Call.{judgeAnswer, judgeCall}
 use Rattle.judge.proofs.Judge.{judge-refused}
+use Rattle.searching.specs.declared.Bounds.{Bounds}
+use Rattle.searching.proofs.Answered.{Sizes, PlayBelow}
 use Rattle.rolling.specs.declared.Rolled
 use Rattle.rolling.specs.declared.Rolled.{Rolled}
+use Rattle.rolling.specs.declared.Rolled
 use Rattle.rolling.proofs.Answered.{RollSized}
-use Rattle.engine.specs.declared.Bounds.{Bounds}
-use Rattle.engine.proofs.Answered.{Sizes, PlayBelow}
 use Rattle.codes.specs.Numbers.{nodeNumber}
 use Rattle.codes.specs.Inside.{SmallSummary, SmallBounds, SmallRolled}
 

@@ -6,13 +6,13 @@ ghost use Rattle.table.specs.Table.{readText, answer};
 ghost use Rattle.table.specs.Slices.{laid, fitted, kindsOf, stopsOf, weightsOf, heightsOf, decoded};
 ghost use Rattle.worth.specs.Call.{exactCall};
 ghost use Rattle.judge.specs.Call.{judgeCall};
-ghost use Rattle.engine.specs.Calls.{searchCall, searchReads};
+ghost use Rattle.searching.specs.Call.{searchCall, searchReads};
 ghost use Rattle.rolling.specs.Call.{rollCall, rollReads, rollStore, recorded};
 ghost use Rattle.turn.specs.Call.{turnCall, turnBytes};
 ghost use Rattle.codes.specs.Numbers.{readCode, numbersOf, worthCode, worthNumbers, judgeCode, judgeNumbers, searchCode, searchNumbers, rollCode, rollNumbers, turnedCode, put};
-use engine::Bounded;
-use engine::Bounds;
-use engine::Exact;
+use searching::Bounded;
+use searching::Bounds;
+use worth::Exact;
 use engine::Rolled;
 use engine::Turned;
 use judge::Judged;
@@ -93,7 +93,7 @@ pub extern "C" fn margin_search(
     ensures numbers { λ _. ⌜ now (numbers .exit) ≡ put 0 (searchNumbers (searchCall (readText (now (text .entry))) margin (length (now (leaves .entry))))) (now (numbers .entry)) ⌝ }
     ensures lists { λ _. ⌜ now (leaves .exit) ≡ laid (searchReads (readText (now (text .entry))) margin (length (now (leaves .entry)))) (now (leaves .entry)) ⌝ }
 {
-    match engine::search_table(text, margin, leaves) {
+    match searching::search_table(text, margin, leaves) {
         Bounded::Refused(r) => codes::refusal_code(r),
         Bounded::Found(b) => {
             codes::put_bounds(b, numbers);

@@ -12,6 +12,7 @@ use Rattle.worth.specs.Call.{exactNumber, exactLine}
 use Rattle.worth.specs.declared.Exact
 use Rattle.worth.specs.declared.Exact.{Exact}
 use Rattle.worth.specs.declared.Exact
+use Rattle.worth.specs.declared.Exact
 use Rattle.judge.specs.declared.Judged.{Judged}
 use Rattle.judge.specs.declared.Judged.the-variants.{NoDecision, Loss}
 use Rattle.judge.specs.declared.Opinion
@@ -19,14 +20,15 @@ use Rattle.judge.specs.declared.Opinion.{Opinion}
 use Rattle.judge.specs.Call.{judgeNumber, judgeLine}
 use Rattle.turn.specs.Call.{turnedNumber, turnedLine}
 use Rattle.turn.specs.declared.Turned.{Turned}
+use Rattle.searching.specs.declared.Bounds.{Bounds}
+use Rattle.searching.specs.declared.Bounded
+use Rattle.searching.specs.declared.Bounded.{Bounded}
+use Rattle.searching.specs.Call.{searchNumber, searchLine}
+use Rattle.searching.specs.declared.Bounded
 use Rattle.rolling.specs.Call.{rollNumber, rollLine}
 use Rattle.rolling.specs.declared.Rolled
 use Rattle.rolling.specs.declared.Rolled.{Rolled}
 use Rattle.rolling.specs.declared.Rolled
-use Rattle.engine.specs.declared.Bounds.{Bounds}
-use Rattle.engine.specs.declared.Bounded
-use Rattle.engine.specs.declared.Bounded.{Bounded}
-use Rattle.engine.specs.Calls.{searchNumber, searchLine}
 
 -- 0, or the refusal's line and number as one: the number in the last two decimal digits, so that 309 is refusal 9 at line 3
 abbrev pub readCode : Reading → ℕ

@@ -30,11 +30,15 @@ use Rattle.turn.proofs.Accepted.{turned-accepted, turned-length}
 use Rattle.turn.proofs.Call.{turn-fine}
 use Rattle.search.specs.Search.{Seen, nodeOf}
 use Rattle.search.specs.Whole.{searched}
-use Rattle.search.specs.Unread.{Alike, ReadBy}
-use Rattle.search.specs.Turned.{Turns}
-use Rattle.search.proofs.Demand.{contains, width, play-near}
-use Rattle.search.proofs.Changed as changed
-use Rattle.search.proofs.Turned as mirror
+use Rattle.searching.specs.declared.Bounds.{Bounds}
+use Rattle.searching.specs.declared.Bounded.the-variants.{Found, Refused}
+use Rattle.searching.specs.Call.{badMargin, boundsOf, searchReads}
+use Rattle.searching.proofs.Answered.{answered, answers, reads}
+use Rattle.promise.specs.Unread.{Alike, ReadBy}
+use Rattle.promise.specs.Turned.{Turns}
+use Rattle.promise.proofs.Demand.{contains, width, play-near}
+use Rattle.promise.proofs.Changed as changed
+use Rattle.promise.proofs.Turned as mirror
 use Rattle.rollout.specs.Leaves.{Distinct}
 use Rattle.rollout.specs.Rollout.{Rolled}
 use Rattle.rollout.specs.Whole.{hasChance, rolled, rolledWorth}
@@ -43,10 +47,6 @@ use Rattle.rolling.specs.declared.Rolled
 use Rattle.rolling.specs.declared.Rolled.the-variants.{Done}
 use Rattle.rolling.specs.Call.{rolls, rollAnswer, rollList, rollCall}
 use Rattle.rolling.specs.declared.Rolled
-use Rattle.engine.specs.declared.Bounds.{Bounds}
-use Rattle.engine.specs.declared.Bounded.the-variants.{Found, Refused}
-use Rattle.engine.specs.Calls.{badMargin, boundsOf, searchReads}
-use Rattle.engine.proofs.Answered.{answered, answers, reads}
 use Rattle.demands.specs.Demands.{childWorth, Promised, SameLines, Mirrors, Answers, Sentence1, Sentence2, GivenText, Sentence3, TurnAnswers, TurningTwice, RolloutsEnd, RollAnswers}
 use Rattle.demands.proofs.Utilities.{tree-alike, given-same, given-accepted}
 

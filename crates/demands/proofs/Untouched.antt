@@ -18,9 +18,9 @@ use Rattle.judge.specs.declared.Opinion
 use Rattle.judge.specs.declared.Opinion.{Opinion}
 use Rattle.judge.specs.Call.{judgeCall}
 use Rattle.turn.specs.Call.{turnOf, turnAnswer, turnWritten}
+use Rattle.searching.specs.Call.{Sought, sought, searchAnswer, searchList}
 use Rattle.rolling.specs.declared.Record.{Record}
 use Rattle.rolling.specs.Call.{rolls, rollAnswer, rollList, rollRecords, recorded}
-use Rattle.engine.specs.Calls.{Sought, sought, searchAnswer, searchList}
 use Rattle.codes.specs.Numbers.{readCode, numbersOf, worthCode, worthNumbers, judgeCode, judgeNumbers, searchCode, searchNumbers, rollCode, rollNumbers, turnedCode, put}
 use Rattle.demands.specs.Untouched.{Refuses, CodesRefuse, SlicesKept, ReadUntouched, SearchUntouched, TurnUntouched, RollUntouched, CReadUntouched, CWorthUntouched, CJudgeUntouched, CSearchUntouched, CTurnUntouched, CRollUntouched}
 

@@ -21,7 +21,7 @@ use Rattle.turn.specs.Text.{tableText}
 use Rattle.turn.proofs.Said.{entryFor, utility-short}
 use Rattle.turn.proofs.Checks.{unless-passed}
 use Rattle.turn.proofs.Kept.{Stands, Standing, standing-none, standing-more, kept-accepted}
-use Rattle.search.specs.Unread.{Alike, alike-end, alike-leaf, alike-inner}
+use Rattle.promise.specs.Unread.{Alike, alike-end, alike-leaf, alike-inner}
 use Rattle.demands.specs.Demands.{withUtility, SameLines, same-none, same-more, Given, given-none, given-kept, given-new}
 
 -- ---- the tree

@@ -19,13 +19,14 @@ use Rattle.worth.specs.declared.Exact.the-variants.{Grains}
 use Rattle.worth.specs.Call.{exactCall}
 use Rattle.turn.specs.Call.{turnOf}
 use Rattle.search.specs.Whole.{playWorth}
+use Rattle.searching.specs.declared.Bounds.{Bounds}
+use Rattle.searching.specs.declared.Bounded.the-variants.{Found}
+use Rattle.searching.specs.Call.{badMargin, searchCall, searchReads}
+use Rattle.promise.specs.Play.{playWorth}
 use Rattle.rollout.specs.Leaves.{Distinct}
 use Rattle.rollout.specs.Whole.{hasChance}
 use Rattle.rolling.specs.declared.Rolled.the-variants.{Done}
 use Rattle.rolling.specs.Call.{rollCall, rollReads}
-use Rattle.engine.specs.declared.Bounds.{Bounds}
-use Rattle.engine.specs.declared.Bounded.the-variants.{Found}
-use Rattle.engine.specs.Calls.{badMargin, searchCall, searchReads}
 
 -- ---- the bounds and the play
 

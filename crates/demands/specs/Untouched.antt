@@ -15,12 +15,13 @@ use Rattle.judge.specs.Call.{judgeCall}
 use Rattle.turn.specs.declared.Turned
 use Rattle.turn.specs.Call.{turnCall, turnBytes}
 use Rattle.turn.specs.declared.Turned
+use Rattle.searching.specs.declared.Bounded
+use Rattle.searching.specs.Call.{searchCall, searchReads}
+use Rattle.searching.specs.declared.Bounded
 use Rattle.rolling.specs.declared.Record.{Record}
 use Rattle.rolling.specs.declared.Rolled
 use Rattle.rolling.specs.Call.{rollCall, rollReads, rollStore, recorded}
 use Rattle.rolling.specs.declared.Rolled
-use Rattle.engine.specs.declared.Bounded
-use Rattle.engine.specs.Calls.{searchCall, searchReads}
 use Rattle.codes.specs.Numbers.{readCode, numbersOf, worthCode, worthNumbers, judgeCode, judgeNumbers, searchCode, searchNumbers, rollCode, rollNumbers, turnedCode, put}
 
 -- ---- the calls of `table` and `engine`; the exact worth and the judgement are lent nothing but the text

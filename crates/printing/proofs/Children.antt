@@ -26,7 +26,7 @@ use Rattle.table.proofs.Runs.{size, Numbered, flat-length}
 use Rattle.table.proofs.Known.{read-numbered}
 use Rattle.table.proofs.Accepted.{checked, accepted-size, accepted-flat, accepted-rooted}
 use Rattle.worth.specs.Worth.{shares, value}
-use Rattle.search.specs.Whole.{worthAt, playWorth}
+use Rattle.promise.specs.Play.{worthAt, playWorth}
 use Rattle.printing.specs.Program.{place}
 use Rattle.printing.specs.Inside.{childMarks}
 

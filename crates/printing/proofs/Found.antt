@@ -26,10 +26,10 @@ use Rattle.table.proofs.Ends.{span-grains}
 use Rattle.scale.proofs.Sums.{few-digits}
 use Rattle.search.specs.Search.{Seen, nodeOf}
 use Rattle.search.specs.Whole.{searched}
-use Rattle.search.proofs.Demand.{heights-hold, heights-order, shifted, play-near, play-small, reads-few}
-use Rattle.engine.specs.declared.Bounds.{Bounds}
-use Rattle.engine.specs.declared.Bounded.the-variants.{Found, Refused}
-use Rattle.engine.specs.Calls.{badMargin, Sought, sought, boundsOf, searchAnswer}
+use Rattle.searching.specs.declared.Bounds.{Bounds}
+use Rattle.searching.specs.declared.Bounded.the-variants.{Found, Refused}
+use Rattle.searching.specs.Call.{badMargin, Sought, sought, boundsOf, searchAnswer}
+use Rattle.promise.proofs.Demand.{heights-hold, heights-order, shifted, play-near, play-small, reads-few}
 use Rattle.printing.specs.Program.{playNumber, leafRow, rowsOf}
 use Rattle.printing.specs.Inside.{Lined, playMarks, Narrow, boundRows}
 use Rattle.printing.proofs.Marks.{marks-few}

@@ -7,17 +7,15 @@ use lib.IntN.{ℤ}
 use lib.ListN.{length, getD, take, length-map}
 use lib.Seq.{length-take-le}
 use Rattle.line.specs.Refusal.{fine}
-use Rattle.line.specs.declared.Line.{Line}
 use Rattle.table.specs.Tree.{leaves}
 use Rattle.table.specs.Table.{Table, readText, grain, leafLines}
-use Rattle.table.specs.Slices.{heightOf, kindsOf, stopsOf, weightsOf, heightsOf, heightTree, fitted, laid}
+use Rattle.table.specs.Slices.{kindsOf, stopsOf, weightsOf, heightsOf, heightTree, fitted, laid}
 use Rattle.table.specs.Accepted.{span}
-use Rattle.table.proofs.Accepted.{accepted-lent, heights-leaves}
-use Rattle.table.proofs.Laid.{fitted-long}
-use Rattle.table.proofs.Complete.{stops-long}
+use Rattle.table.proofs.Accepted.{accepted-lent, heights-leaves, accepted-holds}
 use Rattle.rollout.specs.Rollout.{Pair}
 use Rattle.rollout.specs.Whole.{rolled, rolledWorth, rolledStore}
 use Rattle.rollout.specs.Inside.Raised.{mapPair, above}
+use Rattle.rollout.specs.Inside.{stored, ReadyRoll, WellRolled}
 use Rattle.rolling.specs.Inside.Records.{lowsOf, highsOf}
 use Rattle.rolling.specs.Inside.Lists.{Store, lowAt, highAt, pairs, RolledS, rollS, AtEnds}
 use Rattle.rolling.specs.Inside.Contracts.{stored, ReadyRoll, WellRolled}
@@ -83,6 +81,7 @@ module _ (s : List ℕ) (t : Table) (h : readText s ≡ fine t) where
     pub accepted-roll-ready : (room : ℕ) → leafLines (t .lines) ≤ room
         → ReadyRoll (fitted (kindsOf t) K) (fitted (stopsOf t) S) (fitted (heightsOf t) H) (grain t) nodes st0 room
     accepted-roll-ready room enough =
+        let R = accepted-holds s t h K S W H roomK roomS roomW roomH in
         record {
           text = s;
           table = t;
@@ -92,9 +91,9 @@ module _ (s : List ℕ) (t : Table) (h : readText s ≡ fine t) where
           grained = refl;
           size = refl;
           ready = begun;
-          kinds = fitted-long (kindsOf t) K nodes (length-map (t .lines) (λ (l : Line). l .kind)) roomK;
-          stops = fitted-long (stopsOf t) S nodes (stops-long (t .lines)) roomS;
-          heights = fitted-long (heightsOf t) H nodes (length-map (t .lines) (heightOf (t .head .lowest))) roomH;
+          kinds = R .kinds;
+          stops = R .stops;
+          heights = R .heights;
           space = omega (arith, heights-leaves s t h);
         }
 

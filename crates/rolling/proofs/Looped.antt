@@ -13,10 +13,11 @@ use Rattle.table.specs.Slices.{heightTree, laid, slices}
 use Rattle.table.specs.Accepted.{span}
 use Rattle.table.proofs.Accepted.{accepted-size, accepted-grain, heights-rooted}
 use Rattle.table.proofs.Runs.{size}
-use Rattle.table.proofs.Spans.{root-some}
+use Rattle.table.proofs.Nodes.{root-some}
 use Rattle.rollout.specs.Rollout.{firstOr, candidate}
 use Rattle.rollout.specs.Inside.Heights.{natural}
 use Rattle.rollout.specs.Inside.Sound.{Sound}
+use Rattle.rollout.specs.Inside.{ReadyNode, WalkLeft, Walked, ReadyRoll, RolledIn}
 use Rattle.rollout.proofs.Table.{height-numbered}
 use Rattle.rolling.specs.declared.Step.{Step}
 use Rattle.rolling.specs.Inside.Lists.{Store, lowAt, highAt, WalkS, keep, walkS, rollS, AtEnds}

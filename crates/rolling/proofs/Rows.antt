@@ -9,7 +9,8 @@ use lib.ListN.{getD}
 use Rattle.line.proofs.Signs.{true-ne-false}
 use Rattle.table.specs.Tree.{MAX, MIN, CHANCE, Kind, Forest, end, leaf, inner}
 use Rattle.table.specs.Slices.{Slices, Spans}
-use Rattle.table.proofs.Spans.{spans-le, restOf, stopOf}
+use Rattle.table.proofs.Spans.{spans-le}
+use Rattle.table.proofs.Nodes.{restOf, stopOf}
 use Rattle.rollout.specs.Rollout.{joined, over, candidate}
 use Rattle.rollout.specs.Inside.Heights.{natural}
 use Rattle.rolling.specs.Inside.Lists.{Store, lowAt, highAt, runs, candidatesS}

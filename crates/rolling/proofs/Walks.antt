@@ -8,11 +8,13 @@ use lib.Dec.{eqb}
 use lib.ListN.{getD}
 use Rattle.table.specs.Tree.{Kind, Forest, end, leaf, inner, codeOf, kindOf}
 use Rattle.table.specs.Slices.{Slices, Spans, slices}
-use Rattle.table.proofs.Spans.{spans-le, stopOf}
-use Rattle.table.proofs.Runs.{kind-code, code-pos}
+use Rattle.table.proofs.Spans.{spans-le}
+use Rattle.table.proofs.Nodes.{stopOf, code-pos}
+use Rattle.table.proofs.Runs.{kind-code}
 use Rattle.rollout.specs.Rollout.{pick, spend, over, candidate}
 use Rattle.rollout.specs.Inside.Heights.{natural}
 use Rattle.rollout.specs.Inside.Sound.{SomeNode, Sound}
+use Rattle.rollout.specs.Inside.{Siblings, boundsIn, chosen, Choice, Named, Chosen, ReadyNode, readAt, updated, Rung}
 use Rattle.rollout.proofs.Folds.{Some, over-any}
 use Rattle.rollout.proofs.Turns.{pick-less}
 use Rattle.rolling.specs.Inside.Lists.{Store, lowAt, highAt, putBoth, lowsS, highsS, candidatesS, WalkS, keep, walkS}

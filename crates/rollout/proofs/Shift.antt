@@ -21,7 +21,7 @@ use Rattle.table.specs.Accepted.{span, Proper}
 use Rattle.table.proofs.Heights.{above as height, height-back, mapForest, heights-map}
 use Rattle.table.proofs.Accepted.{accepted-ranged, accepted-proper}
 use Rattle.search.specs.Whole.{inGrains}
-use Rattle.search.specs.Heights.{grained}
+use Rattle.search.specs.Inside.{grained}
 use Rattle.search.proofs.Shift.{less-natural, less-whole}
 use Rattle.rollout.specs.Inside.Heights.{natural, heightRolled}
 use Rattle.rollout.specs.Inside.Raised.{mapRolled, above}

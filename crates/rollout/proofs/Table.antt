@@ -19,7 +19,9 @@ use Rattle.table.proofs.Runs.{size, Numbered}
 use Rattle.table.proofs.Ends.{rooted-some}
 use Rattle.worth.specs.Worth.{Share}
 use Rattle.worth.specs.Inside.Heights.{heightShares, firstHeight, heightWorth}
+use Rattle.worth.specs.Heights.{heightShares, firstHeight, heightWorth}
 use Rattle.search.specs.Heights.{grained}
+use Rattle.search.specs.Inside.{grained}
 use Rattle.rollout.specs.Inside.Heights.{natural, heightRolled}
 use Rattle.rollout.specs.Inside.Sound.{SomeNode, Sound}
 use Rattle.rollout.specs.Rollout.{Kept, fresh, firstOr, roll}

@@ -7,7 +7,7 @@ use Rattle.field.proofs.Small.{choose}
 use Rattle.table.specs.Tree.{Kind, MAX, MIN, CHANCE, Forest, end, leaf, inner, weigh}
 use Rattle.table.specs.Inside.{taken, sealed}
 use Rattle.search.specs.Search.{Frame, Seen, State, Rules, begin, lower, upper, update, finish, cut, stop, point, scan}
-use Rattle.search.specs.Heights.{natural}
+use Rattle.search.specs.Inside.{natural}
 use Rattle.search.proofs.Steps.{seenUnder, seenAfter}
 use Rattle.search.proofs.Heights.{Paid, Sound, Within, start, total, worth}
 

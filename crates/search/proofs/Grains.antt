@@ -1,17 +1,24 @@
--- What an accepted table's tree of heights, in grains, has: every height within the ends, weights of at least 1, and what divides them. Assumes nothing.
-use Prim.Native.Nat.{ℕ, suc, _+_, _*_, _^_, _≤_, _<_}
-use mathlib.Core.Path.{_≡_, refl, sym, ap, _∙_}
+-- What an accepted table's tree of heights, in grains, has: every height within the ends, and weights of at least 1. Assumes nothing.
+use Prim.Native.Nat.{ℕ, suc, _+_, _*_, _≤_, _<_}
+use mathlib.Core.Path.{_≡_, refl, ap, ap₂}
 use mathlib.Core.Bool.{Bool}
-use native.Mathlib.Nat.{mul-le-mul-right, dvd-mul-left-of-dvd, dvd-zero, le-refl, add-zero}
+use native.Mathlib.Nat.{mul-le-mul-right, le-refl}
 use native.Mathlib.Omega.{arith}
-use Rattle.numbers.proofs.Powers.{power-dvd, power-more}
-use Rattle.line.specs.Line.{Weighs}
-use Rattle.table.specs.Tree.{Kind, MAX, MIN, CHANCE, Forest, end, leaf, inner, isChance, weigh}
+use lib.IntN.{ℤ, pos, _*ℤ_}
+use Rattle.line.specs.declared.Head.{Head}
+use Rattle.line.specs.Line.{Weighs, Within as Between}
+use Rattle.table.specs.Tree.{Kind, MAX, MIN, CHANCE, Forest, end, leaf, inner, isChance, weigh, leaves}
 use Rattle.table.specs.Accepted.{one, Sums, Balanced, Proper}
-use Rattle.search.specs.Search.{Frame}
-use Rattle.search.specs.Heights.{grained, frameOf}
-use Rattle.search.proofs.Heights.{Sound, Within, grade, Fit, Pays, Positive}
-use Rattle.search.proofs.Worths.{plain}
+use Rattle.table.proofs.Heights.{above, mapForest}
+use Rattle.table.proofs.Ends.{utility-shift}
+use Rattle.search.specs.Search.{Frame, framed}
+use Rattle.search.specs.Whole.{inGrains}
+use Rattle.search.specs.Inside.{grained}
+use Rattle.search.proofs.Heights.{Sound, Within, Pays, Positive, shift}
+
+-- the ends 0 and S at every node
+abbrev pub plain : ℕ → ℕ → Forest ℕ → Frame ℕ
+plain S n f = framed 0 S f
 
 pub grained-weigh : (G : ℕ) (f : Forest ℕ) → weigh (grained G f) ≡ weigh f
 unfolding grained weigh
@@ -19,14 +26,18 @@ grained-weigh G end = refl
 grained-weigh G (leaf n w h rest) = ap (λ (x : ℕ). w + x) (grained-weigh G rest)
 grained-weigh G (inner n w k under rest) = ap (λ (x : ℕ). w + x) (grained-weigh G rest)
 
-module _ (T S G : ℕ) (some : 0 < T) where
-  abbrev frame : ℕ → Forest ℕ → Frame ℕ
-  frame = plain (S * G) T
+-- grains change no leaf's place
+pub grains-leaves : (G : ℕ) (f : Forest ℤ) → leaves (inGrains G f) ≡ leaves f
+unfolding inGrains leaves
+grains-leaves G end = refl
+grains-leaves G (leaf n w u rest) = ap (λ (a : ℕ). 1 + a) (grains-leaves G rest)
+grains-leaves G (inner n w k under rest) = ap₂ (λ (a b : ℕ). a + b) (grains-leaves G under) (grains-leaves G rest)
 
-  sound : (k : Kind) (f : Forest ℕ) → Sums k T (weigh f) → Sound (frameOf (S * G) T) k (grained G f)
+module _ (T S G : ℕ) (some : 0 < T) where
+  sound : (k : Kind) (f : Forest ℕ) → Sums k T (weigh f) → Sound (framed 0 (S * G) (grained G f)) k (grained G f)
   sound MAX f b = record { ends = omega arith; paid = tt; weighed = tt }
   sound MIN f b = record { ends = omega arith; paid = tt; weighed = tt }
-  sound CHANCE f b = record { ends = omega arith; paid = some; weighed = grained-weigh G f ∙ b refl }
+  sound CHANCE f b = record { ends = omega arith; paid = omega (arith, grained-weigh G f, b refl); weighed = refl }
 
   pays : (k : Kind) (w : ℕ) → Weighs (isChance k) T w → Pays k w
   pays MAX w h = tt
@@ -37,16 +48,18 @@ module _ (T S G : ℕ) (some : 0 < T) where
     abbrev Ok : ℕ → Type 0
     Ok x = x ≤ S
 
-    pub within : (d c : ℕ) (u : Bool) (f : Forest ℕ) → Proper T K Ok d c u f → Balanced T f → Within frame (frameOf (S * G) T) (grained G f)
+    -- whatever the parent's total N
+    pub within : (N d c : ℕ) (u : Bool) (f : Forest ℕ) → Proper T K Ok d c u f → Balanced T f
+        → Within (plain (S * G)) (record { bottom = 0; top = S * G; total = N }) (grained G f)
     unfolding grained
-    within d c u end p b = tt
-    within d c u (leaf n w h rest) p b = (omega arith, mul-le-mul-right G (p .1), within d c u rest (p .4) b)
-    within d c u (inner n w k under rest) p b = (
+    within N d c u end p b = tt
+    within N d c u (leaf n w h rest) p b = (omega arith, mul-le-mul-right G (p .1), within N d c u rest (p .4) b)
+    within N d c u (inner n w k under rest) p b = (
       omega arith,
       le-refl (S * G),
       sound k under (b .0),
-      within (suc d) (c + one k) (isChance k) under (p .3) (b .1),
-      within d c u rest (p .4) (b .2),
+      within _ (suc d) (c + one k) (isChance k) under (p .3) (b .1),
+      within N d c u rest (p .4) (b .2),
     )
 
     pub positive : (d c : ℕ) (k : Kind) (f : Forest ℕ) → Proper T K Ok d c (isChance k) f → Positive k (grained G f)
@@ -55,20 +68,11 @@ module _ (T S G : ℕ) (some : 0 < T) where
     positive d c k (leaf n w h rest) p = (pays k w (p .0), positive d c k rest (p .4))
     positive d c k (inner n w j under rest) p = (pays k w (p .0), positive (suc d) (c + one j) j under (p .3), positive d c k rest (p .4))
 
-module _ (T S K : ℕ) where
-  -- one C more
-  grade-power : (k : Kind) (c : ℕ) → grade (frameOf (S * T ^ K) T) k (T ^ c) ≡ T ^ (c + one k)
-  grade-power MAX c = rw (add-zero c) refl
-  grade-power MIN c = rw (add-zero c) refl
-  grade-power CHANCE c = sym (power-more T c)
-
-  -- below c C
-  pub fit : (d c : ℕ) (u : Bool) (f : Forest ℕ) → Proper T K (λ (x : ℕ). x ≤ S) d c u f → Fit (plain (S * T ^ K) T) (T ^ c) (grained (T ^ K) f)
-  unfolding grained
-  fit d c u end p = tt
-  fit d c u (leaf n w h rest) p = (dvd-mul-left-of-dvd (T ^ c) (power-dvd T c K (p .3)) h, fit d c u rest (p .4))
-  fit d c u (inner n w k under rest) p = rw (grade-power k c) (
-    (dvd-zero (T ^ (c + one k)), dvd-mul-left-of-dvd (T ^ (c + one k)) (power-dvd T (c + one k) K (p .2)) S),
-    fit (suc d) (c + one k) (isChance k) under (p .3),
-    fit d c u rest (p .4),
-  )
+-- leaves in grains, from the lowest end up
+pub grains-shift : (T G K : ℕ) (h : Head) (d c : ℕ) (u : Bool) (f : Forest ℤ) → Proper T K (Between h) d c u f
+    → inGrains G f ≡ shift (h .lowest *ℤ pos G) (grained G (mapForest (above (h .lowest)) f))
+unfolding inGrains shift grained
+grains-shift T G K h d c u end p = refl
+grains-shift T G K h d c u (leaf n w v rest) p = rw (utility-shift G h v (p .1), grains-shift T G K h d c u rest (p .4)) refl
+grains-shift T G K h d c u (inner n w k under rest) p =
+    rw (grains-shift T G K h (suc d) (c + one k) (isChance k) under (p .3), grains-shift T G K h d c u rest (p .4)) refl

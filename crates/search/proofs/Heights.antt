@@ -1,5 +1,5 @@
 -- Trees of heights that the search can take, and their worth child by child. Assumes nothing.
-use Prim.Native.Nat.{ℕ, _*_, _≤_, _<_, _∣_}
+use Prim.Native.Nat.{ℕ, _≤_, _<_}
 use mathlib.Core.Path.{_≡_}
 use lib.IntN.{ℤ, pos, _+ℤ_}
 use Rattle.table.specs.Tree.{Kind, MAX, MIN, CHANCE, Forest, end, leaf, inner, weigh}
@@ -22,13 +22,6 @@ module _ (frame : ℕ → Forest ℕ → Frame ℕ) where
   unfoldable pub worth : Frame ℕ → Kind → Forest ℕ → ℕ
   worth e k f = sealed (e .total) k (total k f (start e k))
 
-  -- the child of number m is worth v
-  pub data Child (m v : ℕ) : Forest ℕ → Type 0 where
-    here-leaf : {w : ℕ} {rest : Forest ℕ} → Child m v (leaf m w v rest)
-    here-inner : {w : ℕ} {c : Kind} {under rest : Forest ℕ} → v ≡ worth (frame m under) c under → Child m v (inner m w c under rest)
-    next-leaf : {n w h : ℕ} {rest : Forest ℕ} → Child m v rest → Child m v (leaf n w h rest)
-    next-inner : {n w : ℕ} {c : Kind} {under rest : Forest ℕ} → Child m v rest → Child m v (inner n w c under rest)
-
 -- ---- frames
 
 -- a C's total is at least 1
@@ -37,7 +30,7 @@ Paid e MAX = Unit {0}
 Paid e MIN = Unit {0}
 Paid e CHANCE = 0 < e .total
 
--- "A C's weights sum to T"
+-- a C's weights sum to its total
 abbrev pub Weighed : Frame ℕ → Kind → Forest ℕ → Type 0
 Weighed e MAX f = Unit {0}
 Weighed e MIN f = Unit {0}
@@ -59,25 +52,6 @@ Within frame e (inner n w k under rest) =
     × Sound (frame n under) k under
     × Within frame (frame n under) under
     × Within frame e rest
-
--- ---- divisors
-
--- what divides the worths of a node's children, where g divides its own
-abbrev pub grade : Frame ℕ → Kind → ℕ → ℕ
-grade e MAX g = g
-grade e MIN g = g
-grade e CHANCE g = e .total * g
-
--- g divides both ends
-abbrev pub Even : ℕ → Frame ℕ → Type 0
-Even g e = (g ∣ e .bottom) × (g ∣ e .top)
-
--- g divides the worth of these nodes, and no division under them leaves a remainder
-abbrev pub Fit : (ℕ → Forest ℕ → Frame ℕ) → ℕ → Forest ℕ → Type 0
-Fit frame g end = Unit {0}
-Fit frame g (leaf n w h rest) = (g ∣ h) × Fit frame g rest
-Fit frame g (inner n w k under rest) =
-    Even (grade (frame n under) k g) (frame n under) × Fit frame (grade (frame n under) k g) under × Fit frame g rest
 
 -- ---- the integers
 

@@ -1,14 +1,21 @@
 -- No number of the search is above the highest end, and no difference is below zero. Assumes nothing.
 use Prim.Native.Nat.{ℕ, _+_, _*_, _-_, _/_, max, _≤_, _<_}
+use mathlib.Core.Path.{_≡_}
 use mathlib.Core.Bool.{Bool, true, false, cond}
 use mathlib.Core.List.{List}
 use native.Mathlib.Nat.{mul-le-mul-left, mul-sub, mul-div-le, le-of-mul-le-mul-left, le-trans, sub-le, min-le-left}
 use native.Mathlib.Omega.{arith}
 use Rattle.table.specs.Tree.{Kind, MAX, MIN, CHANCE, Forest, weigh}
 use Rattle.search.specs.Search.{Frame, Play, noPlay, child, Seen, State, begin, lower, upper, beats, better, update}
-use Rattle.search.specs.Heights.{natural}
+use Rattle.search.specs.Inside.{natural}
 use Rattle.search.proofs.Heights.{Sound, total}
-use Rattle.search.proofs.Width.{drop, drop-top}
+
+-- the same distances from the bottom
+pub drop : (B : ℕ) {x y : ℕ} → x ≤ y → x - B ≤ y - B
+drop B h = omega arith
+
+pub drop-top : (B S rh : ℕ) → B ≤ rh → S - B - (rh - B) ≡ S - rh
+drop-top B S rh p = omega arith
 
 -- a child's share off the top leaves at least nothing
 pub share-fits : (D T w W lo hi rh y : ℕ) → 0 < T → T * y ≤ w * (D - rh) → T * lo + (w + W) * D ≤ T * hi → y ≤ hi

@@ -13,17 +13,20 @@ use Rattle.numbers.proofs.Signs.{same-test, Is, is-eq, is-add, is-neg, is-minus
 use Rattle.table.specs.Tree.{Kind, MAX, MIN, CHANCE, Forest, end, leaf, inner, isEnd, weigh}
 use Rattle.search.specs.Search.{Frame, Play, noPlay, child, Seen, State, Rules, begin, lower, upper, beats, better, update, finish, cut, stop, point, scan, search, searchRoot}
 use Rattle.search.specs.Whole.{whole, downZ, upZ, gainZ, lossZ}
-use Rattle.search.specs.Heights.{natural, ceil}
+use Rattle.search.specs.Inside.{natural, ceil}
 use Rattle.search.proofs.Steps.{seenUnder, seenAfter}
 use Rattle.search.proofs.Heights.{Sound, Within, Pays, Positive, shift, total}
 use Rattle.search.proofs.Contain.{contained, Holding, hold-point, hold-under}
-use Rattle.search.proofs.Width.{ceil-le, drop-top}
-use Rattle.search.proofs.Safe.{share-fits, Safe, safe-begin, safe-lower, safe-upper, safe-update}
+use Rattle.search.proofs.Safe.{drop-top, share-fits, Safe, safe-begin, safe-lower, safe-upper, safe-update}
 
 -- m - n is the quotient of a - b by w, rounded up
 is-ceil : (w : ℕ) (z : ℤ) (a b m n : ℕ) → 0 < w → Is z a b → a + w * n ≤ w * m + b → w * m + b < a + w * n + w → Is (ceilZ z w) m n
 unfolding ceilZ
 is-ceil w z a b m n w-pos p l u = is-neg (floorZ (negℤ z) w) n m (is-floor w (negℤ z) b a n m w-pos (is-neg z a b p) (omega arith) (omega arith))
+
+pub ceil-le : (x w : ℕ) → 0 < w → x ≤ w * ceil x w
+unfolding ceil
+ceil-le x w p = omega (arith, lt-mul-div-succ (x + (w - 1)) p)
 
 ceil-lt : (x w : ℕ) → 0 < w → w * ceil x w < x + w
 unfolding ceil
@@ -44,6 +47,12 @@ unfolding shift
 isEnd-shift Lo end = refl
 isEnd-shift Lo (leaf n w h rest) = refl
 isEnd-shift Lo (inner n w k under rest) = refl
+
+pub shift-weigh : (Lo : ℤ) (f : Forest ℕ) → weigh (shift Lo f) ≡ weigh f
+unfolding shift weigh
+shift-weigh Lo end = refl
+shift-weigh Lo (leaf n w h rest) = ap (λ (x : ℕ). w + x) (shift-weigh Lo rest)
+shift-weigh Lo (inner n w k under rest) = ap (λ (x : ℕ). w + x) (shift-weigh Lo rest)
 
 pick-rel : {A B : Type 0} (R : A → B → Type 0) (x y : A) (x2 y2 : B) (b c : Bool) → c ≡ b → R x x2 → (Holds (not b) → R y y2)
     → R (cond b x y) (cond c x2 y2)

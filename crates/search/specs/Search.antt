@@ -4,9 +4,9 @@ use Prim.Native.Nat.{ℕ}
 use mathlib.Core.Bool.{Bool, false, not, _&&_, cond}
 use mathlib.Core.List.{List, [], _∷_, _++_}
 use mathlib.Core.Option.{Option, none, some}
-use Rattle.table.specs.Tree.{Kind, MAX, MIN, CHANCE, Forest, end, leaf, inner, isEnd}
+use Rattle.table.specs.Tree.{Kind, MAX, MIN, CHANCE, Forest, end, leaf, inner, isEnd, weigh}
 
--- What Algorithm 1 knows of a node: v_min and v_max, and the total T, with "π as weight/T".
+-- What Algorithm 1 knows of a node: v_min and v_max, and the total of its children's weights, "π as weight/T".
 pub record Frame (A : Type 0) : Type 0 where
   pub bottom : A
   pub top : A
@@ -52,6 +52,11 @@ pub record Rules (A : Type 0) : Type 0 where
   pub margin : ℕ
 
 module _ {A : Type 0} where
+  -- The frame of a node with these children, between two ends. T is the node's own total; that in an accepted table every C's weights sum to the
+  -- header's T is the theorem table/proofs/Accepted.accepted-balanced.
+  abbrev pub framed : (bottom top : A) (under : Forest A) → Frame A
+  framed bottom top under = record { bottom = bottom; top = top; total = weigh under }
+
   -- lines 3 to 5: L(n) and U(n), best_U at MAX and best_L at MIN, before the first child
   unfoldable pub firstLow : (e : Frame A) (k : Kind) → A
   firstLow e MAX = e .bottom

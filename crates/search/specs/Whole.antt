@@ -1,16 +1,11 @@
 -- The paper's arithmetic, whole numbers of grains, and the search of a table. Document 01, 'Grains' and 'The search'.
 use Prim.Native.Nat.{ℕ}
-use mathlib.Core.Bool.{cond}
-use mathlib.Core.Option.{Option, none, some}
-use lib.Dec.{eqb}
 use lib.IntN.{ℤ, pos, _+ℤ_, _-ℤ_, _*ℤ_}
 use lib.Signed.{ltZ, leZ}
 use Rattle.numbers.specs.Integers.{maxZ, minZ, floorZ, ceilZ}
 use Rattle.table.specs.Tree.{Forest, end, leaf, inner}
 use Rattle.table.specs.Table.{Table, tree, grain}
-use Rattle.table.specs.Root.{children}
-use Rattle.worth.specs.Worth.{shares, value}
-use Rattle.search.specs.Search.{Frame, Arith, Rules, Seen, searchRoot}
+use Rattle.search.specs.Search.{Frame, Arith, Rules, Seen, framed, searchRoot}
 
 -- Line 9, from α(p(n)) and U(p(n)): "rounded outward: the new alpha down". π is w / T, and U(n) of a node not yet searched is v_max.
 unfoldable pub downZ : (e : Frame ℤ) (w : ℕ) (α U : ℤ) → ℤ
@@ -46,21 +41,13 @@ inGrains G (leaf n w u rest) = leaf n w (u *ℤ pos G) (inGrains G rest)
 inGrains G (inner n w k under rest) = inner n w k (inGrains G under) (inGrains G rest)
 
 -- "Algorithm 1 in grains, with the ends times G as its least and greatest values and π as weight/T"
-abbrev pub ends : Table → Frame ℤ
-ends t = record { bottom = t .head .lowest *ℤ pos (grain t); top = t .head .highest *ℤ pos (grain t); total = t .head .total }
-
 abbrev pub rules : Table → (ε : ℕ) → Rules ℤ
-rules t ε = record { frame = λ (n : ℕ) (f : Forest ℤ). ends t; margin = ε }
+rules t ε =
+    record {
+      frame = λ (n : ℕ) (f : Forest ℤ). framed (t .head .lowest *ℤ pos (grain t)) (t .head .highest *ℤ pos (grain t)) f;
+      margin = ε;
+    }
 
 -- the search of a table at the margin ε
 abbrev pub searched : Table → (ε : ℕ) → Seen ℤ
 searched t ε = searchRoot whole (rules t ε) (inGrains (grain t) (tree t))
-
--- "a play is worth the exact worth of the root child that it names": the worth of the node m among nodes with one parent, if it is there
-unfoldable pub worthAt : (T G m : ℕ) → Forest ℤ → Option ℤ
-worthAt T G m end = none
-worthAt T G m (leaf n w u rest) = cond (eqb n m) (some (u *ℤ pos G)) (worthAt T G m rest)
-worthAt T G m (inner n w k under rest) = cond (eqb n m) (some (value T k (shares T G under))) (worthAt T G m rest)
-
-abbrev pub playWorth : Table → (m : ℕ) → Option ℤ
-playWorth t m = worthAt (t .head .total) (grain t) m (children (tree t))

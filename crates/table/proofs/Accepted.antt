@@ -21,11 +21,11 @@ use Rattle.table.specs.declared.Summary.{Summary}
 use Rattle.table.specs.declared.Reading.the-variants.{Accepted, Refused}
 use Rattle.table.specs.Tree.{Kind, Forest, end, leaf, inner, isChance, isEnd, weigh, nodesWhere, childless, unbalanced, leaves}
 use Rattle.table.specs.Table.{Table, badLength, nodeLines, tree, complete, count, readText, greatest, leafLines, grain, summary, answer}
-use Rattle.table.specs.Slices.{heightOf, kindsOf, stopsOf, weightsOf, heightsOf, fitted, Slices, Spans, heightTree, slicesOf}
+use Rattle.table.specs.Slices.{heightOf, kindsOf, stopsOf, weightsOf, heightsOf, fitted, Spans, Holds, heightTree, slicesOf, lent}
 use Rattle.table.specs.Accepted.{span, flat, Sums, Filled, Balanced, Proper, Rooted}
 use Rattle.table.proofs.Grown.{fine-refused, next-fine}
 use Rattle.table.proofs.Heights.{above, height-back, height-span, map-leaves, map-filled, map-balanced, map-rooted, map-proper, heights-map}
-use Rattle.table.proofs.Laid.{fitted-all}
+use Rattle.table.proofs.Laid.{fitted-all, fitted-long}
 use Rattle.table.proofs.Complete.{stops-long, completed, spans}
 use Rattle.table.proofs.Top.{good-length}
 use Rattle.table.proofs.Known.{read-length, read-few, read-flat, read-rooted, read-proper, read-leaves, read-spans}
@@ -178,18 +178,30 @@ module _ (s : List ℕ) (t : Table) (h : readText s ≡ fine t) where
   accepted-spans = read-spans t (count s) (drop 25 s) (checked s t h .lines) some
 
   -- and so do lent slices with room for it, as `table::read` leaves them
-  pub accepted-lent : (k st w g : List ℕ) → length (t .lines) ≤ length k → length (t .lines) ≤ length st → length (t .lines) ≤ length w → length (t .lines) ≤ length g
-      → Spans (record { kinds = fitted (kindsOf t) k; stops = fitted (stopsOf t) st; weights = fitted (weightsOf t) w; heights = fitted (heightsOf t) g }) 0 (length (t .lines)) (heightTree t)
-  accepted-lent k st w g hk hs hw hg =
-      let C = checked s t h in
-      let ls : List Line = t .lines in
-      let S : Slices = record { kinds = fitted (kindsOf t) k; stops = fitted (stopsOf t) st; weights = fitted (weightsOf t) w; heights = fitted (heightsOf t) g } in
-      subst (λ (m : ℕ). Spans S 0 m (heightTree t)) (sym (read-length t (count s) (drop 25 s) (C .lines)))
-      (spans (t .head) (count s) (drop 25 s) ls (C .lines) some k st w g (fitted (kindsOf t) k) (fitted (stopsOf t) st) (fitted (weightsOf t) w) (fitted (heightsOf t) g)
-      (fitted-all (kindsOf t) k (omega (arith, length-map ls (λ (l : Line). l .kind), hk)))
-      (fitted-all (stopsOf t) st (omega (arith, stops-long ls, hs)))
-      (fitted-all (weightsOf t) w (omega (arith, length-map ls (λ (l : Line). l .weight), hw)))
-      (fitted-all (heightsOf t) g (omega (arith, length-map ls (heightOf (t .head .lowest)), hg))))
+  -- in slices that are long enough
+  module _ (K S W H : List ℕ) (roomK : length (t .lines) ≤ length K) (roomS : length (t .lines) ≤ length S) (roomW : length (t .lines) ≤ length W)
+      (roomH : length (t .lines) ≤ length H) where
+    pub accepted-lent : Spans (lent t K S W H) 0 (length (t .lines)) (heightTree t)
+    accepted-lent =
+        let C = checked s t h in
+        let ls : List Line = t .lines in
+        subst (λ (m : ℕ). Spans (lent t K S W H) 0 m (heightTree t)) (sym (read-length t (count s) (drop 25 s) (C .lines)))
+        (spans (t .head) (count s) (drop 25 s) ls (C .lines) some K S W H (fitted (kindsOf t) K) (fitted (stopsOf t) S) (fitted (weightsOf t) W) (fitted (heightsOf t) H)
+        (fitted-all (kindsOf t) K (omega (arith, length-map ls (λ (l : Line). l .kind), roomK)))
+        (fitted-all (stopsOf t) S (omega (arith, stops-long ls, roomS)))
+        (fitted-all (weightsOf t) W (omega (arith, length-map ls (λ (l : Line). l .weight), roomW)))
+        (fitted-all (heightsOf t) H (omega (arith, length-map ls (heightOf (t .head .lowest)), roomH))))
+
+    pub accepted-holds : Holds (lent t K S W H) (length (t .lines))
+    accepted-holds =
+        let n : ℕ = length (t .lines) in
+        record {
+          kinds = fitted-long (kindsOf t) K n (length-map (t .lines) (λ (l : Line). l .kind)) roomK;
+          stops = fitted-long (stopsOf t) S n (stops-long (t .lines)) roomS;
+          weights = fitted-long (weightsOf t) W n (length-map (t .lines) (λ (l : Line). l .weight)) roomW;
+          heights = fitted-long (heightsOf t) H n (length-map (t .lines) (heightOf (t .head .lowest))) roomH;
+          few = accepted-size .1;
+        }
 
 -- a leaf's utility from its height
 pub whole-height : (h : Head) (l : Line) → Within h (l .utility) → l .kind ≡ 0 → h .lowest +ℤ pos (heightOf (h .lowest) l) ≡ l .utility

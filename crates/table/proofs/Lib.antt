@@ -3,6 +3,7 @@ pub mod Runs
 pub mod Grown
 pub mod Heights
 pub mod Spans
+pub mod Nodes
 pub mod Known
 pub mod Complete
 pub mod Top

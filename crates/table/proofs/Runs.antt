@@ -41,11 +41,6 @@ code-inner MAX = refl
 code-inner MIN = refl
 code-inner CHANCE = refl
 
-pub code-pos : (k : Kind) → 0 < codeOf k
-code-pos MAX = omega arith
-code-pos MIN = omega arith
-code-pos CHANCE = omega arith
-
 pub code-chance : (k : Kind) → eqb (codeOf k) 3 ≡ isChance k
 code-chance MAX = refl
 code-chance MIN = refl

@@ -14,15 +14,6 @@ use Rattle.table.specs.Accepted.{flat, one, Rooted}
 use Rattle.table.proofs.Runs.{size, Numbered, flat-length, Outside, outside-more, flat-outside, run-outside, run-under}
 use Rattle.table.proofs.Heights.{mapForest, above}
 
-abbrev pub stopOf : Slices → ℕ → ℕ
-stopOf t c = getD (t .stops) c 0
-
--- nodes with one parent without the first
-abbrev pub restOf : Forest ℕ → Forest ℕ
-restOf end = end
-restOf (leaf i w h rest) = rest
-restOf (inner i w k under rest) = rest
-
 -- the entries of nodes go from c up to e
 pub spans-le : (t : Slices) (c e : ℕ) (f : Forest ℕ) → Spans t c e f → c ≤ e
 unfolding Spans
@@ -31,15 +22,6 @@ spans-le t c e (leaf n w h rest) x = omega (arith, spans-le t (c + 1) e rest (x 
 spans-le t c e (inner n w k under rest) x =
     let j : ℕ = getD (t .stops) c 0 in
     omega (arith, spans-le t (c + 1) j under (x .3), spans-le t j e rest (x .4))
-
-pub root-some : (t : Slices) (n : ℕ) (F : Forest ℕ) → Spans t 0 n F → Rooted F → 0 < n
-unfolding Spans
-root-some t n end s r = absurd r
-root-some t n (leaf i w h rest) s r = let x = spans-le t 1 n rest (s .5) in omega arith
-root-some t n (inner i w k under rest) s r =
-    let x = spans-le t 1 (stopOf t 0) under (s .3) in
-    let y = spans-le t (stopOf t 0) n rest (s .4) in
-    omega arith
 
 -- ---- an entry of a slice, by the lines from there on
 

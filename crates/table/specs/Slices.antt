@@ -1,5 +1,5 @@
 -- The decoded table: number slices, one entry for each node, by node number. Document 01, 'The table on paper'.
-use Prim.Native.Nat.{ℕ, _+_}
+use Prim.Native.Nat.{ℕ, _+_, _≤_}
 use mathlib.Core.Bool.{cond}
 use mathlib.Core.List.{List, [], _∷_, _++_, map}
 use mathlib.Core.Path.{_≡_}
@@ -57,6 +57,14 @@ pub record Slices : Type 0 where
 abbrev pub slices : (K S W H : List ℕ) → Slices
 slices K S W H = record { kinds = K; stops = S; weights = W; heights = H }
 
+-- the slices have the entries up to e
+pub record Holds (s : Slices) (e : ℕ) : Type 0 where
+  pub kinds : e ≤ length (s .kinds)
+  pub stops : e ≤ length (s .stops)
+  pub weights : e ≤ length (s .weights)
+  pub heights : e ≤ length (s .heights)
+  pub few : e ≤ 1024
+
 -- the entries from c up to e are these nodes with one parent
 unfoldable pub Spans : Slices → ℕ → ℕ → Forest ℕ → Type 0
 Spans s c e end = c ≡ e
@@ -79,4 +87,8 @@ abbrev pub heightTree : Table → Forest ℕ
 heightTree t = forest (heightOf (t .head .lowest)) (length (t .lines)) (t .lines)
 
 abbrev pub slicesOf : Table → Slices
-slicesOf t = record { kinds = kindsOf t; stops = stopsOf t; weights = weightsOf t; heights = heightsOf t }
+slicesOf t = slices (kindsOf t) (stopsOf t) (weightsOf t) (heightsOf t)
+
+-- four slices with the table's numbers at their fronts
+abbrev pub lent : Table → (K S W H : List ℕ) → Slices
+lent t K S W H = slices (fitted (kindsOf t) K) (fitted (stopsOf t) S) (fitted (weightsOf t) W) (fitted (heightsOf t) H)

@@ -5,7 +5,7 @@ use lib.Dec.{ltb}
 use Rattle.table.specs.Table.{Table, grain}
 use Rattle.table.specs.Slices.{heightTree}
 use Rattle.table.specs.Accepted.{span}
-use Rattle.search.specs.Heights.{grained}
+use Rattle.search.specs.Inside.{grained}
 use Rattle.rollout.specs.Rollout.{Order, Rolled, rollouts}
 
 abbrev pub natural : Order ℕ

@@ -1,0 +1,83 @@
+-- Two accepted tables that differ in utilities of unread leaves alone: the same answer, and what it says is still true. Assumes nothing.
+use Prim.Native.Nat.{ℕ, _+_, _^_, max}
+use mathlib.Core.Path.{_≡_, refl, sym, ap, ap₂, subst, _∙_}
+use mathlib.Core.Bool.{true}
+use mathlib.Core.List.{List, [], _∷_, _++_}
+use mathlib.Core.Option.{some}
+use native.Mathlib.Omega.{arith}
+use lib.IntN.{ℤ, pos, _+ℤ_, _*ℤ_}
+use lib.Signed.{leZ}
+use Rattle.line.specs.declared.Head.{Head}
+use Rattle.line.specs.declared.Line.{Line}
+use Rattle.line.specs.Refusal.{fine}
+use Rattle.table.specs.Tree.{Forest}
+use Rattle.table.specs.Table.{Table, tree, readText, greatest, grain}
+use Rattle.table.specs.Accepted.{one, flat}
+use Rattle.table.proofs.Accepted.{accepted-flat}
+use Rattle.worth.specs.Worth.{worthOf}
+use Rattle.search.specs.Search.{Seen, searchRoot, nodeOf}
+use Rattle.search.specs.Whole.{whole, inGrains, rules, searched}
+use Rattle.promise.specs.Play.{playWorth}
+use Rattle.promise.specs.Unread.{ReadBy, Alike, alike-end, alike-leaf, alike-inner}
+use Rattle.promise.proofs.Unread.{unread-root}
+use Rattle.promise.proofs.Demand.{contains, play-near}
+
+alike-grains : {P : ℕ → Type 0} (G : ℕ) {f g : Forest ℤ} → Alike P f g → Alike P (inGrains G f) (inGrains G g)
+unfolding inGrains
+alike-grains G alike-end = alike-end
+alike-grains G (alike-leaf q a) = alike-leaf (λ p. ap (λ (v : ℤ). v *ℤ pos G) (q p)) (alike-grains G a)
+alike-grains G (alike-inner u a) = alike-inner (alike-grains G u) (alike-grains G a)
+
+-- ---- K is that of the lines without their utilities
+
+max-max : (a b c : ℕ) → max a (max b c) ≡ max (max a b) c
+max-max a b c = omega arith
+
+pub greatest-both : (xs ys : List Line) → greatest (xs ++ ys) ≡ max (greatest xs) (greatest ys)
+unfolding greatest
+greatest-both [] ys = omega arith
+greatest-both (x ∷ xs) ys = ap (max (x .chances)) (greatest-both xs ys) ∙ max-max (x .chances) (greatest xs) (greatest ys)
+
+alike-greatest : {P : ℕ → Type 0} (p c : ℕ) {f g : Forest ℤ} → Alike P f g → greatest (flat p c f) ≡ greatest (flat p c g)
+unfolding greatest flat
+alike-greatest p c alike-end = refl
+alike-greatest p c (alike-leaf q a) = ap (max c) (alike-greatest p c a)
+alike-greatest p c (alike-inner {n} {w} {k} {under} {under2} {rest} {rest2} u a) =
+    ap (max (c + one k)) (
+    greatest-both (flat n (c + one k) under) (flat p c rest)
+    ∙ ap₂ max (alike-greatest n (c + one k) u) (alike-greatest p c a)
+    ∙ sym (greatest-both (flat n (c + one k) under2) (flat p c rest2)))
+
+-- ---- the same header, and trees that differ in unread leaves alone
+
+module _ (a b : List ℕ) (t u : Table) (p : readText a ≡ fine t) (q : readText b ≡ fine u) (ε : ℕ) (same : u .head ≡ t .head)
+    (alike : Alike (ReadBy (searched t ε)) (tree t) (tree u)) where
+  same-greatest : greatest (u .lines) ≡ greatest (t .lines)
+  same-greatest =
+      ap greatest (sym (accepted-flat b u q)) ∙ sym (alike-greatest 0 0 alike) ∙ ap greatest (accepted-flat a t p)
+
+  pub same-grain : grain u ≡ grain t
+  same-grain = ap₂ (λ (h : Head) (k : ℕ). h .total ^ k) same same-greatest
+
+  -- the search from the header, G and the tree
+  abbrev searchOf : Head → ℕ → Forest ℤ → Seen ℤ
+  searchOf h G f =
+      searchRoot whole
+      (record { frame = λ (n : ℕ) (f : Forest ℤ). record { bottom = h .lowest *ℤ pos G; top = h .highest *ℤ pos G; total = h .total }; margin = ε })
+      (inGrains G f)
+
+  -- "The same answer means that every part of it is equal, low, high, play and number of leaves read, and every entry of the reading sequence too"
+  pub same-answer : searched u ε ≡ searched t ε
+  same-answer =
+      ap₂ (λ (h : Head) (G : ℕ). searchOf h G (tree u)) same same-grain
+      ∙ sym
+      (unread-root whole (rules t ε) (inGrains (grain t) (tree t)) (inGrains (grain t) (tree u)) (λ n x y i. refl) (alike-grains (grain t) alike))
+
+  -- "the exact worth, taken afresh with the new utilities, lies within those same bounds"
+  pub still-contains : (leZ (searched t ε .low) (worthOf u) ≡ true) × (leZ (worthOf u) (searched t ε .high) ≡ true)
+  still-contains = subst (λ (r : Seen ℤ). (leZ (r .low) (worthOf u) ≡ true) × (leZ (worthOf u) (r .high) ≡ true)) same-answer (contains b u q ε)
+
+  -- "and .. the play's worth, taken afresh too, is within the margin of it"
+  pub still-near : (m : ℕ) → nodeOf (searched t ε .play) ≡ some m
+      → (v : ℤ) × (playWorth u m ≡ some v) × (leZ v (worthOf u +ℤ pos ε) ≡ true) × (leZ (worthOf u) (v +ℤ pos ε) ≡ true)
+  still-near m e = play-near b u q ε m (ap (λ (r : Seen ℤ). nodeOf (r .play)) same-answer ∙ e)

@@ -1,0 +1,15 @@
+pub mod Exact
+pub mod Width
+pub mod Play
+pub mod Named
+pub mod Worths
+pub mod Unread
+pub mod Grains
+pub mod Root
+pub mod Children
+pub mod Remainder
+pub mod Demand
+pub mod Changed
+pub mod Turn
+pub mod Turned
+pub mod Worked

@@ -1,0 +1,239 @@
+-- The play named at an M or N root is the first best child entered, and no play is named at any other, over any arithmetic whose `less` is a
+-- strict order. Document 01, 'The search'. Assumes nothing.
+use Prim.Native.Nat.{ℕ}
+use mathlib.Core.Path.{_≡_, refl, sym, ap, subst, _∙_}
+use mathlib.Core.Logic.{_⊎_, inl, inr}
+use mathlib.Core.Bool.{Bool, true, false, cond}
+use mathlib.Core.List.{List, [], _∷_, _++_, append-nil, append-assoc, List·Memᴰ, List·Memᴰ·append-cases, List·Memᴰ·cases-cons, List·Memᴰ·eq-of-singleton, List·Memᴰ·not-nil}
+use mathlib.Core.Option.{none, some}
+use native.Mathlib.Omega.{arith}
+use borrow.Author.Tests.{ltb-true, ltb-false, lt-ltb, le-ltb}
+use lib.Dec.{ltb}
+use lib.IntN.{ℤ, pos, negsuc}
+use lib.Signed.{ltZ}
+use Rattle.line.proofs.Signs.{true-ne-false}
+use Rattle.table.specs.Tree.{Kind, MAX, MIN, CHANCE, Forest, end, leaf, inner, isEnd}
+use Rattle.table.specs.Accepted.{Filled}
+use Rattle.table.specs.Root.{Side, AtM, AtN, Root, undecided, decided, sideOf, rootOf, children}
+use Rattle.search.specs.Search.{Frame, Play, noPlay, child, Seen, State, Arith, Rules, begin, finish, cut, point, beats, better, prefer, update, stop, scan, search, searchRoot, nodeOf}
+use Rattle.search.specs.Whole.{inGrains}
+use Rattle.search.proofs.Steps.{seenUnder, seenAfter}
+use Rattle.promise.specs.Entered.{Entered, asEntered, entered, enteredRoot, worse, FirstBest}
+
+-- what is asked of `less`: where a is below c, b is above a or below c
+pub record Strict {A : Type 0} (less : A → A → Bool) : Type 0 where
+  pub asym : (a b : A) → less a b ≡ true → less b a ≡ false
+  pub past : (a b c : A) → less a c ≡ true → less a b ≡ false → less b c ≡ true
+
+-- a property of either pair of answers of one test
+both : {A B : Type 0} {x y : A} {u v : B} (P : A → B → Type 0) (b : Bool) → P x u → P y v → P (cond b x y) (cond b u v)
+both P true h k = h
+both P false h k = k
+
+-- the play of a root whose children entered are xs: "either a root child or none", "at C and L there is none"
+abbrev pub Chosen : {A : Type 0} → Arith A → Root → List (Entered A) → Play A → Type 0
+Chosen O undecided xs p = nodeOf p ≡ none
+Chosen {A} O (decided side) xs p = (x : Entered A) × (nodeOf p ≡ some (x .node)) × FirstBest O side xs x
+
+-- the play so far, where the children entered so far are xs
+module _ {A : Type 0} (O : Arith A) where
+  abbrev Held : Root → List (Entered A) → Play A → Type 0
+  Held undecided xs p = nodeOf p ≡ none
+  Held (decided side) xs noPlay = xs ≡ []
+  Held (decided side) xs (child m l h) = FirstBest O side xs (record { node = m; low = l; high = h })
+
+  held-chosen : (q : Root) (xs : List (Entered A)) (p : Play A) → (xs ≡ [] → ⊥) → Held q xs p → Chosen O q xs p
+  held-chosen undecided xs p x h = h
+  held-chosen (decided side) xs noPlay x h = absurd (x h)
+  held-chosen (decided side) xs (child m l b) x F = (record { node = m; low = l; high = b }, refl, F)
+
+module _ {A : Type 0} (O : Arith A) (strict : Strict (O .less)) where
+  past-false : (a b c : A) → O .less c a ≡ true → O .less b a ≡ false → O .less c b ≡ true
+  past-false a b c h k = go (O .less c b) refl
+    where
+      go : (t : Bool) → O .less c b ≡ t → O .less c b ≡ true
+      go true e = e
+      go false e = absurd (true-ne-false (sym (strict .past c b a h e) ∙ k))
+
+  worse-asym : (side : Side) (x y : Entered A) → worse O side x y ≡ true → worse O side y x ≡ false
+  worse-asym AtM x y h = strict .asym (x .low) (y .low) h
+  worse-asym AtN x y h = strict .asym (y .high) (x .high) h
+
+  worse-past : (side : Side) (x y z : Entered A) → worse O side x z ≡ true → worse O side x y ≡ false → worse O side y z ≡ true
+  worse-past AtM x y z h k = strict .past (x .low) (y .low) (z .low) h k
+  worse-past AtN x y z h k = past-false (x .high) (y .high) (z .high) h k
+
+  module _ (side : Side) where
+    -- one child more, which is not better
+    best-stays : (xs : List (Entered A)) (b x : Entered A) → worse O side b x ≡ false → FirstBest O side xs b → FirstBest O side (xs ++ (x ∷ [])) b
+    best-stays xs b x h F = record {
+      before = F .before;
+      later = F .later ++ (x ∷ []);
+      among = ap (λ (l : List (Entered A)). l ++ (x ∷ [])) (F .among) ∙ append-assoc (F .before) (b ∷ F .later) (x ∷ []);
+      earlier-worse = F .earlier-worse;
+      later-no-better = λ y m. ahead y (List·Memᴰ·append-cases (F .later) m);
+    }
+      where
+        ahead : (y : Entered A) → List·Memᴰ y (F .later) ⊎ List·Memᴰ y (x ∷ []) → worse O side b y ≡ false
+        ahead y (inl i) = F .later-no-better y i
+        ahead y (inr i) = subst (λ (z : Entered A). worse O side b z ≡ false) (sym (List·Memᴰ·eq-of-singleton i)) h
+
+    -- one child more, which is
+    best-moves : (xs : List (Entered A)) (b x : Entered A) → worse O side b x ≡ true → FirstBest O side xs b → FirstBest O side (xs ++ (x ∷ [])) x
+    best-moves xs b x h F = record {
+      before = xs;
+      later = [];
+      among = refl;
+      earlier-worse = λ y m. behind y (List·Memᴰ·append-cases (F .before) (subst (List·Memᴰ y) (F .among) m));
+      later-no-better = λ y m. absurd (List·Memᴰ·not-nil m);
+    }
+      where
+        level : (y : Entered A) → (y ≡ b) ⊎ List·Memᴰ y (F .later) → worse O side y x ≡ true
+        level y (inl e) = subst (λ (z : Entered A). worse O side z x ≡ true) (sym e) h
+        level y (inr i) = worse-past side b y x h (F .later-no-better y i)
+
+        behind : (y : Entered A) → List·Memᴰ y (F .before) ⊎ List·Memᴰ y (b ∷ F .later) → worse O side y x ≡ true
+        behind y (inl i) = worse-past side b y x h (worse-asym side y b (F .earlier-worse y i))
+        behind y (inr i) = level y (List·Memᴰ·cases-cons i)
+
+    best-alone : (x : Entered A) → FirstBest O side (x ∷ []) x
+    best-alone x = record { before = []; later = []; among = refl; earlier-worse = λ y m. absurd (List·Memᴰ·not-nil m); later-no-better = λ y m. absurd (List·Memᴰ·not-nil m) }
+
+    -- which of the two it is, is asked by `better`
+    better-best : (k : Kind) (n : ℕ) (xs : List (Entered A)) (b : Entered A) (r : Seen A)
+        → beats O k (r .low) (r .high) (b .low) (b .high) ≡ worse O side b (asEntered n r) → FirstBest O side xs b
+        → Held O (decided side) (xs ++ (asEntered n r ∷ [])) (better O k n (child (b .node) (b .low) (b .high)) r)
+    unfolding better
+    better-best k n xs b r is F = rw is (go (worse O side b (asEntered n r)) refl)
+      where
+        go : (t : Bool) → worse O side b (asEntered n r) ≡ t
+            → Held O (decided side) (xs ++ (asEntered n r ∷ [])) (cond t (child n (r .low) (r .high)) (child (b .node) (b .low) (b .high)))
+        go true e = best-moves xs b (asEntered n r) e F
+        go false e = best-stays xs b (asEntered n r) e F
+
+    better-held : (k : Kind) (n : ℕ) (xs : List (Entered A)) (p : Play A) (r : Seen A)
+        → ((b : Entered A) → beats O k (r .low) (r .high) (b .low) (b .high) ≡ worse O side b (asEntered n r)) → Held O (decided side) xs p
+        → Held O (decided side) (xs ++ (asEntered n r ∷ [])) (better O k n p r)
+    unfolding better
+    better-held k n xs noPlay r is h =
+        subst (λ (l : List (Entered A)). FirstBest O side (l ++ (asEntered n r ∷ [])) (asEntered n r)) (sym h) (best-alone (asEntered n r))
+    better-held k n xs (child m l b) r is F = better-best k n xs (record { node = m; low = l; high = b }) r (is (record { node = m; low = l; high = b })) F
+
+  update-held : (e : Frame A) (k : Kind) (n w : ℕ) (s : State A) (r : Seen A) (xs : List (Entered A)) → Held O (sideOf k) xs (s .play)
+      → Held O (sideOf k) (xs ++ (asEntered n r ∷ [])) (update O e k n w s r .play)
+  unfolding update prefer beats
+  update-held e MAX n w s r xs h = better-held AtM MAX n xs (s .play) r (λ b. refl) h
+  update-held e MIN n w s r xs h = better-held AtN MIN n xs (s .play) r (λ b. refl) h
+  update-held e CHANCE n w s r xs h = refl
+
+  cut-play : (e : Frame A) (k : Kind) (s : State A) → cut e k s .play ≡ s .play
+  unfolding cut
+  cut-play e MAX s = refl
+  cut-play e MIN s = refl
+  cut-play e CHANCE s = refl
+
+  module _ (R : Rules A) where
+    after-held : (e : Frame A) (k : Kind) (rest : Forest A) (t : State A) (xs : List (Entered A)) (x : Entered A)
+        → Held O (sideOf k) (xs ++ (x ∷ [])) (t .play)
+        → Held O (sideOf k) (xs ++ (x ∷ []) ++ entered O R e k rest t) (scan O R e k rest t .play)
+        → Held O (sideOf k) (xs ++ (x ∷ cond (stop O (R .margin) rest t) [] (entered O R e k rest t))) (seenAfter O R e k rest t .play)
+    after-held e k rest t xs x h i =
+        both (λ (l : List (Entered A)) (r : Seen A). Held O (sideOf k) (xs ++ (x ∷ l)) (r .play)) (stop O (R .margin) rest t) (rw (cut-play e k t) h)
+        (subst (λ (l : List (Entered A)). Held O (sideOf k) l (scan O R e k rest t .play)) (append-assoc xs (x ∷ []) (entered O R e k rest t)) i)
+
+    scan-held : (e : Frame A) (k : Kind) (f : Forest A) (s : State A) (xs : List (Entered A)) → Held O (sideOf k) xs (s .play)
+        → Held O (sideOf k) (xs ++ entered O R e k f s) (scan O R e k f s .play)
+    unfolding scan entered finish
+    scan-held e k end s xs h = subst (λ (l : List (Entered A)). Held O (sideOf k) l (s .play)) (sym (append-nil xs)) h
+    scan-held e k (leaf n w v rest) s xs h =
+        let r : Seen A = point n v (s .read) in
+        let t : State A = update O e k n w s r in
+        let j = update-held e k n w s r xs h in
+        after-held e k rest t xs (asEntered n r) j (scan-held e k rest t (xs ++ (asEntered n r ∷ [])) j)
+    scan-held e k (inner n w c under rest) s xs h =
+        let r : Seen A = seenUnder O R e k n w c under s in
+        let t : State A = update O e k n w s r in
+        let j = update-held e k n w s r xs h in
+        after-held e k rest t xs (asEntered n r) j (scan-held e k rest t (xs ++ (asEntered n r ∷ [])) j)
+
+    begin-held : (e : Frame A) (k : Kind) (a b : A) (l : List ℕ) → Held O (sideOf k) [] (begin e k a b l .play)
+    unfolding begin
+    begin-held e MAX a b l = refl
+    begin-held e MIN a b l = refl
+    begin-held e CHANCE a b l = refl
+
+    -- the first child is entered
+    entered-some : (e : Frame A) (k : Kind) (f : Forest A) (s : State A) → isEnd f ≡ false → entered O R e k f s ≡ [] → ⊥
+    unfolding entered
+    entered-some e k end s x q = true-ne-false x
+    entered-some e k (leaf n w v rest) s x q = let z : _≡_ {A = ℕ} 0 1 = cc in omega arith
+    entered-some e k (inner n w c under rest) s x q = let z : _≡_ {A = ℕ} 0 1 = cc in omega arith
+
+    pub root-entered : (f : Forest A) → isEnd (children f) ≡ false → enteredRoot O R f ≡ [] → ⊥
+    unfolding enteredRoot
+    root-entered end x q = true-ne-false x
+    root-entered (leaf n w v rest) x q = true-ne-false x
+    root-entered (inner n w k under rest) x q = entered-some (R .frame n under) k under _ x q
+
+    pub root-named : (f : Forest A) → Filled f → Chosen O (rootOf f) (enteredRoot O R f) (searchRoot O R f .play)
+    unfolding searchRoot search point enteredRoot
+    root-named end x = refl
+    root-named (leaf n w v rest) x = refl
+    root-named (inner n w k under rest) x =
+        let e : Frame A = R .frame n under in
+        let s : State A = begin e k (e .bottom) (e .top) [] in
+        held-chosen O (sideOf k) (entered O R e k under s) (scan O R e k under s .play) (entered-some e k under s (x .0))
+        (scan-held e k under s [] (begin-held e k (e .bottom) (e .top) []))
+
+-- ---- the order of the integers
+
+pastN : (a b c : ℕ) → ltb a c ≡ true → ltb a b ≡ false → ltb b c ≡ true
+pastN a b c h k = lt-ltb b c (omega (arith, ltb-true a c h, ltb-false a b k))
+
+asymN : (a b : ℕ) → ltb a b ≡ true → ltb b a ≡ false
+asymN a b h = le-ltb b a (omega (arith, ltb-true a b h))
+
+asymZ : (a b : ℤ) → ltZ a b ≡ true → ltZ b a ≡ false
+asymZ (pos m) (pos n) h = asymN m n h
+asymZ (pos m) (negsuc n) h = absurd (true-ne-false (sym h))
+asymZ (negsuc m) (pos n) h = refl
+asymZ (negsuc m) (negsuc n) h = asymN n m h
+
+pastZ : (a b c : ℤ) → ltZ a c ≡ true → ltZ a b ≡ false → ltZ b c ≡ true
+pastZ (pos a) (pos b) (pos c) h k = pastN a b c h k
+pastZ (pos a) (pos b) (negsuc c) h k = absurd (true-ne-false (sym h))
+pastZ (pos a) (negsuc b) (pos c) h k = refl
+pastZ (pos a) (negsuc b) (negsuc c) h k = absurd (true-ne-false (sym h))
+pastZ (negsuc a) (pos b) (pos c) h k = absurd (true-ne-false k)
+pastZ (negsuc a) (pos b) (negsuc c) h k = absurd (true-ne-false k)
+pastZ (negsuc a) (negsuc b) (pos c) h k = refl
+pastZ (negsuc a) (negsuc b) (negsuc c) h k = lt-ltb c b (omega (arith, ltb-true c a h, ltb-false b a k))
+
+pub strict-whole : Strict ltZ
+strict-whole = record { asym = asymZ; past = pastZ }
+
+-- ---- the same nodes in grains
+
+grains-end : (G : ℕ) (f : Forest ℤ) → isEnd (inGrains G f) ≡ isEnd f
+unfolding inGrains
+grains-end G end = refl
+grains-end G (leaf n w v rest) = refl
+grains-end G (inner n w k under rest) = refl
+
+pub grains-filled : (G : ℕ) (f : Forest ℤ) → Filled f → Filled (inGrains G f)
+unfolding inGrains
+grains-filled G end x = tt
+grains-filled G (leaf n w v rest) x = grains-filled G rest x
+grains-filled G (inner n w k under rest) x = (grains-end G under ∙ x .0, grains-filled G under (x .1), grains-filled G rest (x .2))
+
+pub grains-root : (G : ℕ) (f : Forest ℤ) → rootOf (inGrains G f) ≡ rootOf f
+unfolding inGrains
+grains-root G end = refl
+grains-root G (leaf n w v rest) = refl
+grains-root G (inner n w k under rest) = refl
+
+pub grains-children : (G : ℕ) (f : Forest ℤ) → isEnd (children (inGrains G f)) ≡ isEnd (children f)
+unfolding inGrains
+grains-children G end = refl
+grains-children G (leaf n w v rest) = refl
+grains-children G (inner n w k under rest) = grains-end G under

@@ -1,0 +1,156 @@
+-- The divisions of lines 20 and 21 leave no remainder: over heights, and so over the integers. Assumes nothing.
+use Prim.Native.Nat.{ℕ, _+_, _*_, _-_, _/_, _≤_, _<_}
+use mathlib.Core.Path.{_≡_, refl, sym, _∙_}
+use mathlib.Core.Bool.{false}
+use mathlib.Core.List.{[]}
+use native.Mathlib.Nat.{dvd-sub, mul-div-le, lt-mul-div-succ, mul-sub, mul-le-mul-left, le-trans}
+use native.Mathlib.Omega.{arith}
+use lib.IntN.{ℤ, pos, _+ℤ_, _-ℤ_, _*ℤ_}
+use Rattle.numbers.specs.Integers.{floorZ}
+use Rattle.numbers.proofs.Signs.{Is, is-unique, is-eq, is-minus, is-mul, is-floor}
+use Rattle.table.specs.Tree.{Kind, MAX, MIN, CHANCE, Forest, end, leaf, inner, isEnd, weigh}
+use Rattle.search.specs.Search.{Frame, Seen, State, Rules, begin, point, lower, upper, update, stop}
+use Rattle.search.specs.Whole.{whole}
+use Rattle.search.specs.Inside.{natural}
+use Rattle.search.proofs.Steps.{seenUnder}
+use Rattle.search.proofs.Heights.{Paid, Within, grade, Even, Fit, Positive, shift}
+use Rattle.search.proofs.Contain.{Holding, hold-point, hold-under, contained}
+use Rattle.search.proofs.Safe.{Safe, safe-begin, safe-lower, safe-upper, safe-update}
+use Rattle.search.proofs.Shift.{Rel, RelFrame, RelState, RelSeen, Open, rel-begin, rel-lower, rel-upper, rel-update, rel-point, rel-stop, open-begin, open-update, shifted}
+use Rattle.promise.specs.Exact.{AtChance, EachTaken, EachTakenRoot, WholeQuotients}
+use Rattle.promise.proofs.Exact.{share, even, EvenR, even-begin, below}
+
+-- ---- over heights
+
+abbrev pub WholeHeights : Frame ℕ → ℕ → Seen ℕ → Type 0
+WholeHeights e w r =
+    (e .total * (w * (r .low - e .bottom) / e .total) ≡ w * (r .low - e .bottom)) ×
+    (e .total * (w * (e .top - r .high) / e .total) ≡ w * (e .top - r .high))
+
+module _ (R : Rules ℕ) where
+  whole-at : (e : Frame ℕ) (k : Kind) (g w : ℕ) (r : Seen ℕ) → Even (grade e k g) e → EvenR (grade e k g) r → AtChance natural R WholeHeights e k w r
+  whole-at e MAX g w r h x = tt
+  whole-at e MIN g w r h x = tt
+  whole-at e CHANCE g w r h x =
+      (share (e .total) g w (dvd-sub (e .total * g) (x .0) (h .0)), share (e .total) g w (dvd-sub (e .total * g) (h .1) (x .1)))
+
+  whole-heights : (e : Frame ℕ) (k : Kind) (f : Forest ℕ) (s : State ℕ) (g : ℕ) → Paid e k → Within (R .frame) e f → Even (grade e k g) e
+      → Fit (R .frame) (grade e k g) f → EachTaken natural R WholeHeights e k f s
+  unfolding point
+  whole-heights e k end s g q y h i = tt
+  whole-heights e k (leaf n w v rest) s g q y h i =
+      (whole-at e k g w (point n v (s .read)) h (i .0, i .0), λ _. whole-heights e k rest _ g q (y .2) h (i .1))
+  whole-heights e k (inner n w c under rest) s g q y h i =
+      let d : Frame ℕ = R .frame n under in
+      let j : ℕ = grade e k g in
+      let la : ℕ = lower natural e k w s in
+      let ub : ℕ = upper natural e k w s in
+      let u : EvenR j (seenUnder natural R e k n w c under s) =
+      even R d c under (begin d c la ub (s .read)) j (y .2 .paid) (y .3) (i .0) (i .1)
+      (even-begin d c j la ub (s .read) (below d c j (i .0 .0), below d c j (i .0 .1))) in (
+        whole-at e k g w (seenUnder natural R e k n w c under s) h u,
+        whole-heights d c under (begin d c la ub (s .read)) j (y .2 .paid) (y .3) (i .0) (i .1),
+        λ _. whole-heights e k rest _ g q (y .4) h (i .2),
+      )
+
+-- ---- over the integers
+
+-- a quotient without a remainder: x is a - b
+floor-whole : (T : ℕ) (z : ℤ) (a b x : ℕ) → 0 < T → Is z a b → a ≡ x + b → T * (x / T) ≡ x → pos T *ℤ floorZ z T ≡ z
+floor-whole T z a b x T-pos i e h =
+    let f : Is (floorZ z T) (x / T) 0 = is-floor T z a b (x / T) 0 T-pos i (omega (arith, mul-div-le x T)) (omega (arith, lt-mul-div-succ x T-pos)) in
+    is-unique (pos T *ℤ floorZ z T) z a b (is-eq (pos T *ℤ floorZ z T) (T * (x / T)) (T * 0) a b (is-mul T (floorZ z T) (x / T) 0 f) (omega arith)) i
+
+module _ (p q : ℕ) where
+  -- w times the difference of two integers of heights a and b
+  share-whole : (T w a b : ℕ) (y z : ℤ) → 0 < T → b ≤ a → Rel p q a y → Rel p q b z → T * (w * (a - b) / T) ≡ w * (a - b)
+      → pos T *ℤ floorZ (pos w *ℤ (y -ℤ z)) T ≡ pos w *ℤ (y -ℤ z)
+  share-whole T w a b y z T-pos le i j h =
+      floor-whole T (pos w *ℤ (y -ℤ z)) (w * (p + a + q)) (w * (q + (p + b))) (w * (a - b)) T-pos
+      (is-mul w (y -ℤ z) (p + a + q) (q + (p + b)) (is-minus y z (p + a) q (p + b) q i j))
+      (omega (arith, mul-sub w a b, mul-le-mul-left w le)) h
+
+  module _ (Lo : ℤ) (isLo : Is Lo p q) (S : ℕ) (R : Rules ℕ) (frameZ : ℕ → Forest ℤ → Frame ℤ)
+      (frames : (n : ℕ) (f : Forest ℕ) → RelFrame p q (R .frame n f) (frameZ n (shift Lo f)))
+      (flat : (n : ℕ) (f : Forest ℕ) → (R .frame n f .bottom ≡ 0) × (R .frame n f .top ≡ S)) where
+    abbrev Z : Rules ℤ
+    Z = record { frame = frameZ; margin = R .margin }
+
+    at-shift : (e : Frame ℕ) (ez : Frame ℤ) (k : Kind) (w W v : ℕ) (s : State ℕ) (r : Seen ℕ) (x : Seen ℤ) → RelFrame p q e ez → Holding e v r
+        → Safe S e k W s
+        → RelSeen p q r x → AtChance natural R WholeHeights e k w r → AtChance whole Z WholeQuotients ez k w x
+    at-shift e ez MAX w W v s r x f h j o a = tt
+    at-shift e ez MIN w W v s r x f h j o a = tt
+    at-shift e ez CHANCE w W v s r x f h j o a = rw (f .total) (
+      share-whole (e .total) w (r .low) (e .bottom) (x .low) (ez .bottom) (j .4) (h .0) (o .low) (f .bottom) (a .0),
+      share-whole (e .total) w (e .top) (r .high) (ez .top) (x .high) (j .4) (h .3) (f .top) (o .high) (a .1),
+    )
+
+    -- what is left to do once a child has given r, over the integers x
+    rest-shift : (e : Frame ℕ) (ez : Frame ℤ) (k : Kind) (n w : ℕ) (rest : Forest ℕ) (s : State ℕ) (z : State ℤ) (r : Seen ℕ) (x : Seen ℤ) (v : ℕ)
+        → RelFrame p q e ez → e .top ≤ S → Holding e v r → Safe S e k (w + weigh rest) s → RelState p q s z → RelSeen p q r x
+        → (stop natural (R .margin) rest (update natural e k n w s r) ≡ false → EachTaken natural R WholeHeights e k rest (update natural e k n w s r))
+        → ((t : State ℕ) (y : State ℤ) → Safe S e k (weigh rest) t → Open k (isEnd rest) t → RelState p q t y → EachTaken natural R WholeHeights e k rest t
+        → EachTaken whole Z WholeQuotients ez k (shift Lo rest) y)
+        → stop whole (R .margin) (shift Lo rest) (update whole ez k n w z x) ≡ false
+        → EachTaken whole Z WholeQuotients ez k (shift Lo rest) (update whole ez k n w z x)
+    rest-shift e ez k n w rest s z r x v f t h j i o a ih c =
+        let lh = le-trans (h .1) (h .2) in
+        let j2 = safe-update S e k n w (weigh rest) s r t (h .0) lh (h .3) j in
+        let i2 = rel-update p q S e ez k n w (weigh rest) s z r x f (h .0) lh (h .3) j i o in
+        let d : stop natural (R .margin) rest (update natural e k n w s r) ≡ false =
+        sym (rel-stop p q Lo isLo S R frameZ frames flat rest (update natural e k n w s r) (update whole ez k n w z x) i2) ∙ c in
+        ih (update natural e k n w s r) (update whole ez k n w z x) j2 (open-update (R .margin) e k n w s r rest (rw d tt)) i2 (a d)
+
+    taken-shift : (e : Frame ℕ) (ez : Frame ℤ) (k : Kind) (f : Forest ℕ) (s : State ℕ) (z : State ℤ) → RelFrame p q e ez → e .bottom ≤ e .top
+        → e .top ≤ S
+        → Within (R .frame) e f → Positive k f → Safe S e k (weigh f) s → Open k (isEnd f) s → RelState p q s z
+        → EachTaken natural R WholeHeights e k f s → EachTaken whole Z WholeQuotients ez k (shift Lo f) z
+    unfolding shift weigh
+    taken-shift e ez k end s z f b t i o j r g a = tt
+    taken-shift e ez k (leaf n w h rest) s z f b t i o j r g a =
+        let v = hold-point e n h (s .read) (i .0, i .1) in
+        let u = rel-point p q Lo isLo S R frameZ frames flat n h (s .read) (z .read) (g .read) in (
+          at-shift e ez k w _ h s (point n h (s .read)) (point n (Lo +ℤ pos h) (z .read)) f v j u (a .0),
+          rest-shift e ez k n w rest s z (point n h (s .read)) (point n (Lo +ℤ pos h) (z .read)) h f t v j g u (a .1)
+              (λ x y j2 r2 g2 a2. taken-shift e ez k rest x y f b t (i .2) (o .1) j2 r2 g2 a2),
+        )
+    taken-shift e ez k (inner n w c under rest) s z f b t i o j r g a =
+        let d : Frame ℕ = R .frame n under in
+        let dz : Frame ℤ = frameZ n (shift Lo under) in
+        let la : ℕ = lower natural e k w s in
+        let ub : ℕ = upper natural e k w s in
+        let y : Seen ℕ = seenUnder natural R e k n w c under s in
+        let v = hold-under e d _ y (i .0) (i .1) (contained R d c under la ub (s .read) (i .2) (i .3)) in
+        let la-fits : la ≤ S = safe-lower S e k w _ s (le-trans b t) t j in
+        let ub-fits : ub ≤ S = safe-upper S e k w _ s t j in
+        let s2 : State ℕ = begin d c la ub (s .read) in
+        let z2 : State ℤ = begin dz c (lower whole ez k w z) (upper whole ez k w z) (z .read) in
+        let j2 = safe-begin S d c under la ub (s .read) (i .2) (le-trans (i .1) t) la-fits ub-fits in
+        let r2 = open-begin d c (isEnd under) la ub (s .read) (let q = flat n under in (rw (q .0) (omega arith), rw (q .1) la-fits)) in
+        let g2 = rel-begin p q d dz c la ub (lower whole ez k w z) (upper whole ez k w z) (s .read) (z .read) (frames n under)
+        (rel-lower p q e ez k w s z (o .0) b f r g) (rel-upper p q e ez k w s z (o .0) b f r g) (g .read) in
+        let u = shifted p q Lo isLo S R frameZ frames flat d dz c under s2 z2 (frames n under) (i .2 .ends) (le-trans (i .1) t) (i .3)
+        (o .1) j2 r2 g2 in (
+          at-shift e ez k w _ _ s y (seenUnder whole Z ez k n w c (shift Lo under) z) f v j u (a .0),
+          taken-shift d dz c under s2 z2 (frames n under) (i .2 .ends) (le-trans (i .1) t) (i .3) (o .1) j2 r2 g2 (a .1),
+          rest-shift e ez k n w rest s z y (seenUnder whole Z ez k n w c (shift Lo under) z) _ f t v j g u (a .2)
+              (λ x y j2 r2 g2 a2. taken-shift e ez k rest x y f b t (i .4) (o .2) j2 r2 g2 a2),
+        )
+
+    -- in the search of a root that is not below a C
+    pub whole-root : (e : Frame ℕ) (g : ℕ) (f : Forest ℕ) → e .top ≤ S → Within (R .frame) e f → Positive MAX f → Fit (R .frame) g f
+        → EachTakenRoot whole Z WholeQuotients (shift Lo f)
+    unfolding shift
+    whole-root e g end t i o x = tt
+    whole-root e g (leaf n w h rest) t i o x = tt
+    whole-root e g (inner n w k under rest) t i o x =
+        let d : Frame ℕ = R .frame n under in
+        let dz : Frame ℤ = frameZ n (shift Lo under) in
+        let y : RelFrame p q d dz = frames n under in
+        let u : d .top ≤ S = le-trans (i .1) t in
+        taken-shift d dz k under (begin d k (d .bottom) (d .top) []) (begin dz k (dz .bottom) (dz .top) []) y (i .2 .ends) u (i .3) (o .1)
+        (safe-begin S d k under (d .bottom) (d .top) [] (i .2) u (le-trans (i .2 .ends) u) u)
+        (open-begin d k (isEnd under) (d .bottom) (d .top) [] (i .2 .ends, i .2 .ends))
+        (rel-begin p q d dz k (d .bottom) (d .top) (dz .bottom) (dz .top) [] [] y (y .bottom) (y .top) refl)
+        (whole-heights R d k under (begin d k (d .bottom) (d .top) []) g (i .2 .paid) (i .3) (x .0) (x .1))

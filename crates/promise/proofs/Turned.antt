@@ -1,0 +1,204 @@
+-- The search of the turned table: bounds negated and exchanged, the same play and the same reading sequence. Document 01, 'The search'. Assumes nothing.
+use Prim.Native.Nat.{ℕ, suc, _+_, _*_, _-_, _^_, max, _≤_}
+use mathlib.Core.Path.{_≡_, refl, sym, ap, ap₂, subst, _∙_}
+use mathlib.Core.Bool.{Bool, false}
+use mathlib.Core.List.{List, _++_}
+use native.Mathlib.Nat.{le-refl, le-trans, mul-sub}
+use native.Mathlib.Omega.{arith}
+use lib.IntN.{ℤ, pos, negsuc, negℤ, _+ℤ_, _-ℤ_, _*ℤ_}
+use Rattle.numbers.proofs.Signs.{Is, plus, minus, parts, is-unique, is-eq, is-neg, is-minus}
+use Rattle.numbers.proofs.Above.{is-times, lift}
+use Rattle.line.specs.declared.Head.{Head}
+use Rattle.line.specs.Refusal.{fine}
+use Rattle.line.specs.Line.{toNat, Within}
+use Rattle.table.specs.Tree.{Kind, MAX, MIN, CHANCE, Forest, end, leaf, inner, isChance}
+use Rattle.table.specs.Table.{Table, tree, readText, greatest, grain}
+use Rattle.table.specs.Slices.{heightTree}
+use Rattle.table.specs.Accepted.{span, one, flat, Proper}
+use Rattle.table.proofs.Heights.{above, mapForest, height-back, heights-map}
+use Rattle.table.proofs.Accepted.{accepted-flat, accepted-ranged, accepted-proper, heights-proper, heights-balanced}
+use Rattle.table.proofs.Ends.{top}
+use Rattle.worth.specs.Worth.{worthOf}
+use Rattle.worth.specs.Heights.{heightWorth}
+use Rattle.worth.proofs.Worth.{shift as worth-shift}
+use Rattle.turn.specs.Turn.{turnKind, turnHead, turnTree}
+use Rattle.search.specs.Search.{Play, noPlay, child, Seen, searchRoot, nodeOf}
+use Rattle.search.specs.Whole.{searched}
+use Rattle.search.specs.Inside.{natural, grained, frameOf, heightRules, heightSearched}
+use Rattle.search.proofs.Grains.{within}
+use Rattle.promise.specs.Turned.{Turns}
+use Rattle.promise.proofs.Worths.{plain}
+use Rattle.promise.proofs.Turn.{turn, turnFrame, turnPlay, turnSeen, turned-root}
+use Rattle.promise.proofs.Changed.{greatest-both}
+use Rattle.promise.proofs.Demand.{heights-width, shifted, heights-hold, heights-order}
+
+-- ---- G is the same
+
+one-turn : (k : Kind) → one (turnKind k) ≡ one k
+one-turn MAX = refl
+one-turn MIN = refl
+one-turn CHANCE = refl
+
+turned-greatest : (p c : ℕ) (f : Forest ℤ) → greatest (flat p c (turnTree f)) ≡ greatest (flat p c f)
+unfolding greatest flat turnTree
+turned-greatest p c end = refl
+turned-greatest p c (leaf n w v rest) = ap (max c) (turned-greatest p c rest)
+turned-greatest p c (inner n w k under rest) =
+    ap₂ (λ (j g : ℕ). max (c + j) g) (one-turn k) (
+    ap (λ (j : ℕ). greatest (flat n (c + j) (turnTree under) ++ flat p c (turnTree rest))) (one-turn k)
+    ∙ greatest-both (flat n (c + one k) (turnTree under)) (flat p c (turnTree rest))
+    ∙ ap₂ max (turned-greatest n (c + one k) under) (turned-greatest p c rest)
+    ∙ sym (greatest-both (flat n (c + one k) under) (flat p c rest)))
+
+-- ---- heights from the other end
+
+natural-is : (z : ℤ) (a b : ℕ) → Is z a b → toNat z ≡ a - b
+natural-is (pos n) a b i = omega arith
+natural-is (negsuc n) a b i = omega arith
+
+-- minus a minus minus b is b minus a
+turn-minus : (a b : ℤ) → negℤ a -ℤ negℤ b ≡ b -ℤ a
+turn-minus a b =
+    is-unique (negℤ a -ℤ negℤ b) (b -ℤ a) (minus a + plus b) (plus a + minus b)
+    (is-minus (negℤ a) (negℤ b) (minus a) (plus a) (minus b) (plus b) (is-neg a (plus a) (minus a) (parts a)) (is-neg b (plus b) (minus b) (parts b)))
+    (is-eq (b -ℤ a) (plus b + minus a) (minus b + plus a) (minus a + plus b) (plus a + minus b) (is-minus b a (plus b) (minus b) (plus a) (minus a) (parts b) (parts a)) (omega arith))
+
+span-turn : (h : Head) → span (turnHead h) ≡ span h
+span-turn h = ap toNat (turn-minus (h .lowest) (h .highest))
+
+-- the height of a leaf above the turned table's lowest end
+above-turn : (h : Head) (v : ℤ) → Within h v → above (negℤ (h .highest)) (negℤ v) ≡ span h - above (h .lowest) v
+above-turn h v w =
+    let lo : ℤ = h .lowest in
+    let hi : ℤ = h .highest in
+    let x : ℕ = above lo v in
+    let iv : Is v (plus lo + x) (minus lo) = subst (λ (z : ℤ). Is z (plus lo + x) (minus lo)) (height-back lo v (w .0))
+    (lift lo (plus lo) (minus lo) x (parts lo)) in
+    let a : toNat (hi -ℤ v) ≡ plus hi + minus lo - (minus hi + (plus lo + x)) =
+    natural-is (hi -ℤ v) (plus hi + minus lo) (minus hi + (plus lo + x))
+    (is-minus hi v (plus hi) (minus hi) (plus lo + x) (minus lo) (parts hi) iv) in
+    let b : span h ≡ plus hi + minus lo - (minus hi + plus lo) =
+    natural-is (hi -ℤ lo) (plus hi + minus lo) (minus hi + plus lo)
+    (is-minus hi lo (plus hi) (minus hi) (plus lo) (minus lo) (parts hi) (parts lo)) in
+    ap toNat (turn-minus v hi) ∙ omega arith
+
+sub-times : (a b G : ℕ) → (a - b) * G ≡ a * G - b * G
+sub-times a b G = omega (arith, mul-sub G a b)
+
+turned-heights : (h : Head) (T K G d c : ℕ) (u : Bool) (f : Forest ℤ) → Proper T K (Within h) d c u f
+    → grained G (mapForest (above (negℤ (h .highest))) (turnTree f)) ≡ turn (span h * G) (grained G (mapForest (above (h .lowest)) f))
+unfolding grained turnTree turn
+turned-heights h T K G d c u end p = refl
+turned-heights h T K G d c u (leaf n w v rest) p =
+    ap₂ (leaf n w) (ap (λ (x : ℕ). x * G) (above-turn h v (p .1)) ∙ sub-times (span h) (above (h .lowest) v) G)
+    (turned-heights h T K G d c u rest (p .4))
+turned-heights h T K G d c u (inner n w k under rest) p =
+    ap₂ (inner n w (turnKind k)) (turned-heights h T K G (suc d) (c + one k) (isChance k) under (p .3)) (turned-heights h T K G d c u rest (p .4))
+
+-- ---- back to the integers
+
+times-neg : (z : ℤ) (G : ℕ) → negℤ z *ℤ pos G ≡ negℤ (z *ℤ pos G)
+times-neg z G =
+    is-unique (negℤ z *ℤ pos G) (negℤ (z *ℤ pos G)) (G * minus z) (G * plus z)
+    (is-times G (negℤ z) (minus z) (plus z) (is-neg z (plus z) (minus z) (parts z)))
+    (is-neg (z *ℤ pos G) (G * plus z) (G * minus z) (is-times G z (plus z) (minus z) (parts z)))
+
+-- x above b is, seen from the other end, S - x above minus the end
+turn-back : (b : ℤ) (S x : ℕ) → x ≤ S → negℤ (b +ℤ pos S) +ℤ pos (S - x) ≡ negℤ (b +ℤ pos x)
+turn-back b S x h =
+    let i : Is (negℤ (b +ℤ pos S)) (minus b) (plus b + S) = is-neg (b +ℤ pos S) (plus b + S) (minus b) (lift b (plus b) (minus b) S (parts b)) in
+    is-unique (negℤ (b +ℤ pos S) +ℤ pos (S - x)) (negℤ (b +ℤ pos x)) (minus b) (plus b + x)
+    (is-eq (negℤ (b +ℤ pos S) +ℤ pos (S - x)) (minus b + (S - x)) (plus b + S) (minus b) (plus b + x)
+    (lift (negℤ (b +ℤ pos S)) (minus b) (plus b + S) (S - x) i) (omega arith))
+    (is-neg (b +ℤ pos x) (plus b + x) (minus b) (lift b (plus b) (minus b) x (parts b)))
+
+turn-node : (S : ℕ) (u : Play ℕ) → nodeOf (turnPlay S u) ≡ nodeOf u
+turn-node S noPlay = refl
+turn-node S (child m l h) = refl
+
+-- ---- the table u is t turned
+
+module _ (a b : List ℕ) (t u : Table) (p : readText a ≡ fine t) (q : readText b ≡ fine u) (ε : ℕ) (turns : Turns t u) where
+  abbrev G : ℕ
+  G = grain t
+
+  abbrev S : ℕ
+  S = span (t .head) * G
+
+  same-greatest : greatest (u .lines) ≡ greatest (t .lines)
+  same-greatest =
+      ap greatest (sym (accepted-flat b u q)) ∙ ap (λ (f : Forest ℤ). greatest (flat 0 0 f)) (turns .nodes) ∙ turned-greatest 0 0 (tree t)
+      ∙ ap greatest (accepted-flat a t p)
+
+  pub same-grain : grain u ≡ grain t
+  same-grain = ap₂ (λ (h : Head) (k : ℕ). h .total ^ k) (turns .head) same-greatest
+
+  heights-turn : grained (grain u) (heightTree u) ≡ turn S (grained G (heightTree t))
+  heights-turn =
+      ap₂ grained same-grain (heights-map u ∙ ap₂ (λ (h : Head) (f : Forest ℤ). mapForest (above (h .lowest)) f) (turns .head) (turns .nodes))
+      ∙ turned-heights (t .head) (t .head .total) (greatest (t .lines)) G 0 0 false (tree t) (accepted-proper a t p)
+      ∙ ap (λ (f : Forest ℕ). turn S (grained G f)) (sym (heights-map t))
+
+  same-top : span (u .head) * grain u ≡ S
+  same-top = ap₂ _*_ (ap span (turns .head) ∙ span-turn (t .head)) same-grain
+
+  frame-turn : (T : ℕ) → frameOf S T ≡ turnFrame S (frameOf S T)
+  frame-turn T = let x : 0 ≡ S - S = omega arith in let y : S ≡ S - 0 = omega arith in λ i. record { bottom = x i; top = y i; total = T }
+
+  seen-turn : heightSearched u ε ≡ turnSeen S (heightSearched t ε)
+  seen-turn =
+      ap₂ (λ (M T : ℕ). searchRoot natural (heightRules M T ε) (grained (grain u) (heightTree u))) same-top
+      (ap (λ (h : Head). h .total) (turns .head))
+      ∙ ap (searchRoot natural (heightRules S (t .head .total) ε)) heights-turn
+      ∙ turned-root S (heightRules S (t .head .total) ε) (plain S (t .head .total)) (λ n f. frame-turn (t .head .total)) (frameOf S (t .head .total))
+      (grained G (heightTree t)) (le-refl S)
+      (within (t .head .total) (span (t .head)) G (accepted-ranged a t p .some) (greatest (t .lines)) 0 0 false (heightTree t) (heights-proper a t p) (heights-balanced a t p))
+
+  -- the turned table's lowest end in grains
+  base-turn : u .head .lowest *ℤ pos (grain u) ≡ negℤ (t .head .lowest *ℤ pos G +ℤ pos S)
+  base-turn =
+      ap₂ (λ (h : Head) (g : ℕ). h .lowest *ℤ pos g) (turns .head) same-grain ∙ times-neg (t .head .highest) G ∙ ap negℤ (top a t p)
+
+  bound-turn : (x y : ℕ) → x ≡ S - y → y ≤ S → u .head .lowest *ℤ pos (grain u) +ℤ pos x ≡ negℤ (t .head .lowest *ℤ pos G +ℤ pos y)
+  bound-turn x y e h = ap₂ (λ (z : ℤ) (k : ℕ). z +ℤ pos k) base-turn e ∙ turn-back (t .head .lowest *ℤ pos G) S y h
+
+  -- "its low is minus the old high"
+  pub turned-low : searched u ε .low ≡ negℤ (searched t ε .high)
+  turned-low =
+      shifted b u q ε .0
+      ∙ bound-turn (heightSearched u ε .low) (heightSearched t ε .high) (ap (λ (r : Seen ℕ). r .low) seen-turn) (heights-hold a t p ε .2)
+      ∙ ap negℤ (sym (shifted a t p ε .1))
+
+  -- "its high is minus the old low"
+  pub turned-high : searched u ε .high ≡ negℤ (searched t ε .low)
+  turned-high =
+      shifted b u q ε .1
+      ∙ bound-turn (heightSearched u ε .high) (heightSearched t ε .low) (ap (λ (r : Seen ℕ). r .high) seen-turn)
+      (le-trans (heights-order a t p ε) (heights-hold a t p ε .2))
+      ∙ ap negℤ (sym (shifted a t p ε .0))
+
+  -- "its play is the same child or again none"
+  pub turned-play : nodeOf (searched u ε .play) ≡ nodeOf (searched t ε .play)
+  turned-play =
+      shifted b u q ε .2 ∙ ap (λ (r : Seen ℕ). nodeOf (r .play)) seen-turn ∙ turn-node S (heightSearched t ε .play) ∙ sym (shifted a t p ε .2)
+
+  -- "and its reading sequence is equal entry by entry"
+  pub turned-read : searched u ε .read ≡ searched t ε .read
+  turned-read = shifted b u q ε .3 ∙ ap (λ (r : Seen ℕ). r .read) seen-turn ∙ sym (shifted a t p ε .3)
+
+-- ---- the exact worth
+
+-- at margin 0 both bounds are the worth
+module _ (s : List ℕ) (t : Table) (r : readText s ≡ fine t) where
+  closed : (x : ℕ) → heightWorth t ≡ x → worthOf t ≡ t .head .lowest *ℤ pos (grain t) +ℤ pos x
+  closed x e = worth-shift s t r ∙ ap (λ (y : ℕ). t .head .lowest *ℤ pos (grain t) +ℤ pos y) e
+
+  closed-low : worthOf t ≡ searched t 0 .low
+  closed-low = closed (heightSearched t 0 .low) (omega (arith, heights-hold s t r 0, heights-width s t r 0)) ∙ sym (shifted s t r 0 .0)
+
+  closed-high : worthOf t ≡ searched t 0 .high
+  closed-high = closed (heightSearched t 0 .high) (omega (arith, heights-hold s t r 0, heights-width s t r 0)) ∙ sym (shifted s t r 0 .1)
+
+-- the turned table is worth minus what the table is worth
+pub turned-worth : (a b : List ℕ) (t u : Table) → readText a ≡ fine t → readText b ≡ fine u → Turns t u → worthOf u ≡ negℤ (worthOf t)
+turned-worth a b t u p q turns = closed-low b u q ∙ turned-low a b t u p q 0 turns ∙ ap negℤ (sym (closed-high a t p))

@@ -1,0 +1,5 @@
+pub mod Play
+pub mod Unread
+pub mod Entered
+pub mod Exact
+pub mod Turned

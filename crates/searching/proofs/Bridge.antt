@@ -1,0 +1,199 @@
+-- The code's states stand for those of Algorithm 1 over heights. Assumes nothing.
+-- The code keeps the number of the best child alone: that child's low is the low of an M so far, and its high the high of an N.
+use Prim.Native.Nat.{ℕ, _*_, _≤_, _<_}
+use mathlib.Core.Path.{_≡_, refl, sym, ap, ap₂, _∙_}
+use mathlib.Core.Bool.{Bool, true, false, cond}
+use mathlib.Core.List.{List, [], _∷_, _++_, append-nil, append-assoc}
+use native.Mathlib.Omega.{arith}
+use borrow.Author.Tests.{ltb-true, ltb-false, ne-eqb}
+use lib.Dec.{ltb}
+use Rattle.line.proofs.Signs.{true-ne-false}
+use Rattle.table.specs.Tree.{Kind, MAX, MIN, CHANCE, Forest, end, leaf, inner, isEnd}
+use Rattle.table.proofs.Nodes.{restOf, numberOf, weightOf}
+use Rattle.search.specs.Search as alg
+use Rattle.search.specs.Search.{Frame, Play, noPlay, child, Seen, Arith, Rules, begin, finish, cut, point, lower, upper, beats, prefer, update, stop, scan, framed, nodeOf}
+use Rattle.search.specs.Inside.{natural, grained}
+use Rattle.search.proofs.Steps.{seenUnder, seenAfter}
+use Rattle.searching.specs.declared.Rule.{Rule}
+use Rattle.searching.specs.declared.Ends.{Ends}
+use Rattle.searching.specs.declared.State.{State}
+use Rattle.searching.specs.declared.Window.{Window}
+use Rattle.searching.specs.Inside.{lift, windowFor, preferred, after, rulesOf, seenIn, playAt}
+
+-- ---- the leaves read before change nothing else
+
+cond-map : {A B : Type 0} (h : A → B) (x y : A) (b : Bool) → cond b (h x) (h y) ≡ h (cond b x y)
+cond-map h x y true = refl
+cond-map h x y false = refl
+
+module _ {A : Type 0} where
+  abbrev pub ahead : List ℕ → Seen A → Seen A
+  ahead l r = record { low = r .low; high = r .high; play = r .play; read = l ++ r .read }
+
+  abbrev aheadS : List ℕ → alg.State A → alg.State A
+  aheadS l s = record { alpha = s .alpha; beta = s .beta; lo = s .lo; hi = s .hi; play = s .play; read = l ++ s .read }
+
+  module _ (O : Arith A) (R : Rules A) where
+    prefer-ahead : (k : Kind) (n : ℕ) (p : Play A) (l : List ℕ) (r : Seen A) → prefer O k n p (ahead l r) ≡ prefer O k n p r
+    unfolding prefer
+    prefer-ahead MAX n noPlay l r = refl
+    prefer-ahead MAX n (child m a b) l r = refl
+    prefer-ahead MIN n noPlay l r = refl
+    prefer-ahead MIN n (child m a b) l r = refl
+    prefer-ahead CHANCE n p l r = refl
+
+    update-ahead : (e : Frame A) (k : Kind) (n w : ℕ) (s : alg.State A) (l : List ℕ) (r : Seen A)
+        → update O e k n w (aheadS l s) (ahead l r) ≡ aheadS l (update O e k n w s r)
+    unfolding update
+    update-ahead e k n w s l r =
+        let t : alg.State A = update O e k n w s r in
+        λ i. record { alpha = t .alpha; beta = t .beta; lo = t .lo; hi = t .hi; play = prefer-ahead k n (s .play) l r i; read = l ++ r .read }
+
+    lower-ahead : (e : Frame A) (k : Kind) (w : ℕ) (s : alg.State A) (l : List ℕ) → lower O e k w (aheadS l s) ≡ lower O e k w s
+    unfolding lower
+    lower-ahead e MAX w s l = refl
+    lower-ahead e MIN w s l = refl
+    lower-ahead e CHANCE w s l = refl
+
+    upper-ahead : (e : Frame A) (k : Kind) (w : ℕ) (s : alg.State A) (l : List ℕ) → upper O e k w (aheadS l s) ≡ upper O e k w s
+    unfolding upper
+    upper-ahead e MAX w s l = refl
+    upper-ahead e MIN w s l = refl
+    upper-ahead e CHANCE w s l = refl
+
+    after-ahead : (e : Frame A) (k : Kind) (rest : Forest A) (t : alg.State A) (l : List ℕ)
+        → scan O R e k rest (aheadS l t) ≡ ahead l (scan O R e k rest t) → seenAfter O R e k rest (aheadS l t) ≡ ahead l (seenAfter O R e k rest t)
+    unfolding cut stop
+    after-ahead e k rest t l x =
+        ap (λ (y : Seen A). cond (stop O (R .margin) rest t) (ahead l (cut e k t)) y) x
+        ∙ cond-map (ahead l) (cut e k t) (scan O R e k rest t) (stop O (R .margin) rest t)
+
+    step-ahead : (e : Frame A) (k : Kind) (n w : ℕ) (rest : Forest A) (s : alg.State A) (l : List ℕ) (r r2 : Seen A) → r2 ≡ ahead l r
+        → ((t : alg.State A) → scan O R e k rest (aheadS l t) ≡ ahead l (scan O R e k rest t))
+        → seenAfter O R e k rest (update O e k n w (aheadS l s) r2) ≡ ahead l (seenAfter O R e k rest (update O e k n w s r))
+    step-ahead e k n w rest s l r r2 q ih =
+        ap (λ (x : Seen A). seenAfter O R e k rest (update O e k n w (aheadS l s) x)) q
+        ∙ ap (seenAfter O R e k rest) (update-ahead e k n w s l r)
+        ∙ after-ahead e k rest (update O e k n w s r) l (ih (update O e k n w s r))
+
+    begin-ahead : (e : Frame A) (k : Kind) (a b : A) (l m : List ℕ) → begin e k a b (l ++ m) ≡ aheadS l (begin e k a b m)
+    unfolding begin
+    begin-ahead e k a b l m = refl
+
+    scan-ahead : (e : Frame A) (k : Kind) (f : Forest A) (s : alg.State A) (l : List ℕ) → scan O R e k f (aheadS l s) ≡ ahead l (scan O R e k f s)
+    unfolding scan finish point
+    scan-ahead e k end s l = refl
+    scan-ahead e k (leaf n w v rest) s l =
+        step-ahead e k n w rest s l (point n v (s .read)) (point n v (l ++ s .read))
+        (ap (λ (x : List ℕ). record { low = v; high = v; play = noPlay; read = x }) (append-assoc l (s .read) (n ∷ []))) (λ t. scan-ahead e k rest t l)
+    scan-ahead e k (inner n w c under rest) s l =
+        let d : Frame A = R .frame n under in
+        step-ahead e k n w rest s l (seenUnder O R e k n w c under s) (seenUnder O R e k n w c under (aheadS l s))
+        (ap₂ (λ (x y : A). scan O R d c under (begin d c x y (l ++ s .read))) (lower-ahead e k w s l) (upper-ahead e k w s l)
+        ∙ ap (scan O R d c under) (begin-ahead d c (lower O e k w s) (upper O e k w s) l (s .read))
+        ∙ scan-ahead d c under (begin d c (lower O e k w s) (upper O e k w s) (s .read)) l) (λ t. scan-ahead e k rest t l)
+
+-- ---- one child
+
+-- what the search of the first node gives in the window w
+abbrev pub nodeSeen : Rule → Ends → Forest ℕ → Window → Seen ℕ
+nodeSeen g v end w = record { low = 0; high = 0; play = noPlay; read = [] }
+nodeSeen g v (leaf n x h rest) w = point n (h * g .grain) []
+nodeSeen g v (inner n x j under rest) w = seenIn g v j under w
+
+lower-lift : (e : Frame ℕ) (k : Kind) (w : ℕ) (s : State) (p : Play ℕ) (l : List ℕ) → lower natural e k w (lift s p l) ≡ windowFor e k w s .alpha
+unfolding lower
+lower-lift e MAX w s p l = refl
+lower-lift e MIN w s p l = refl
+lower-lift e CHANCE w s p l = refl
+
+upper-lift : (e : Frame ℕ) (k : Kind) (w : ℕ) (s : State) (p : Play ℕ) (l : List ℕ) → upper natural e k w (lift s p l) ≡ windowFor e k w s .beta
+unfolding upper
+upper-lift e MAX w s p l = refl
+upper-lift e MIN w s p l = refl
+upper-lift e CHANCE w s p l = refl
+
+pub update-lift : (e : Frame ℕ) (k : Kind) (i w : ℕ) (s : State) (p : Play ℕ) (l : List ℕ) (A : Seen ℕ)
+    → update natural e k i w (lift s p l) A ≡ lift (after e k i w s (A .low) (A .high)) (prefer natural k i p A) (A .read)
+unfolding update
+update-lift e k i w s p l A = refl
+
+-- the first child is taken
+pub scan-step : (g : Rule) (v : Ends) (e : Frame ℕ) (k : Kind) (F : Forest ℕ) (s : State) (p : Play ℕ) (l : List ℕ) → isEnd F ≡ false →
+    let C : Seen ℕ = nodeSeen g v F (windowFor e k (weightOf F) s) in
+    scan natural (rulesOf g v) e k (grained (g .grain) F) (lift s p l)
+    ≡ seenAfter natural (rulesOf g v) e k (grained (g .grain) (restOf F)) (lift (after e k (numberOf F) (weightOf F) s (C .low) (C .high)) (prefer natural k (numberOf F) p (ahead l C)) (l ++ C .read))
+unfolding scan grained point
+scan-step g v e k end s p l q = absurd (true-ne-false q)
+scan-step g v e k (leaf n w h rest) s p l q =
+    ap (seenAfter natural (rulesOf g v) e k (grained (g .grain) rest)) (update-lift e k n w s p l (point n (h * g .grain) l))
+scan-step g v e k (inner n w j under rest) s p l q =
+    let R : Rules ℕ = rulesOf g v in
+    let f : Forest ℕ = grained (g .grain) under in
+    let d : Frame ℕ = framed (v .bottom) (v .top) f in
+    let y : Window = windowFor e k w s in
+    let C : Seen ℕ = seenIn g v j under y in
+    let same : seenUnder natural R e k n w j f (lift s p l) ≡ ahead l C =
+    ap₂ (λ (a b : ℕ). scan natural R d j f (begin d j a b l)) (lower-lift e k w s p l) (upper-lift e k w s p l)
+    ∙ ap (λ (x : List ℕ). scan natural R d j f (begin d j (y .alpha) (y .beta) x)) (sym (append-nil l))
+    ∙ ap (scan natural R d j f) (begin-ahead natural R d j (y .alpha) (y .beta) l [])
+    ∙ scan-ahead natural R d j f (begin d j (y .alpha) (y .beta) []) l in
+    ap (λ (x : Seen ℕ). seenAfter natural R e k (grained (g .grain) rest) (update natural e k n w (lift s p l) x)) same
+    ∙ ap (seenAfter natural R e k (grained (g .grain) rest)) (update-lift e k n w s p l (ahead l C))
+
+-- ---- the play
+
+abbrev Fresh : Frame ℕ → Kind → State → Type 0
+Fresh e MAX s = s .low ≡ e .bottom
+Fresh e MIN s = s .high ≡ e .top
+Fresh e CHANCE s = Unit {0}
+
+abbrev Best : Kind → State → ℕ → ℕ → Type 0
+Best MAX s l h = l ≡ s .low
+Best MIN s l h = h ≡ s .high
+Best CHANCE s l h = Unit {0}
+
+-- p is the play of the state s
+abbrev pub Plays : Frame ℕ → Kind → State → Play ℕ → Type 0
+Plays e k s noPlay = (s .play ≡ 0) × Fresh e k s
+Plays e k s (child m l h) = (s .play ≡ m) × (0 < m) × Best k s l h
+
+pub plays-number : (e : Frame ℕ) (k : Kind) (s : State) (p : Play ℕ) → Plays e k s p → playAt (s .play) ≡ nodeOf p
+plays-number e k s noPlay h = ap playAt (h .0)
+plays-number e k s (child m l x) h = ap playAt (h .0) ∙ rw (ne-eqb m 0 (λ e. omega (arith, h .1))) refl
+
+-- the first child is taken; later ones where they beat the best
+first-taken : (play i : ℕ) (b : Bool) → play ≡ 0 → preferred play i b ≡ i
+first-taken play i b e = rw e refl
+
+later-taken : (play i : ℕ) (b : Bool) → 0 < play → preferred play i b ≡ cond b i play
+later-taken play i b p = rw (ne-eqb play 0 (λ e. omega arith)) refl
+
+-- a later child of an M: its low is above the best low so far, or not
+max-later : (e : Frame ℕ) (i w m l h low high : ℕ) (s : State) → s .play ≡ m → 0 < m → l ≡ s .low → 0 < i → (b : Bool) → ltb (s .low) low ≡ b
+    → Plays e MAX (after e MAX i w s low high) (cond b (child i low high) (child m l h))
+unfolding update beats
+max-later e i w m l h low high s q p z y true t =
+    (later-taken (s .play) i (ltb (s .low) low) (omega arith) ∙ rw t refl, y, omega (arith, ltb-true (s .low) low t))
+max-later e i w m l h low high s q p z y false t =
+    (later-taken (s .play) i (ltb (s .low) low) (omega arith) ∙ rw t q, p, omega (arith, ltb-false (s .low) low t))
+
+min-later : (e : Frame ℕ) (i w m l h low high : ℕ) (s : State) → s .play ≡ m → 0 < m → h ≡ s .high → 0 < i → (b : Bool) → ltb high (s .high) ≡ b
+    → Plays e MIN (after e MIN i w s low high) (cond b (child i low high) (child m l h))
+unfolding update beats
+min-later e i w m l h low high s q p z y true t =
+    (later-taken (s .play) i (ltb high (s .high)) (omega arith) ∙ rw t refl, y, omega (arith, ltb-true high (s .high) t))
+min-later e i w m l h low high s q p z y false t =
+    (later-taken (s .play) i (ltb high (s .high)) (omega arith) ∙ rw t q, p, omega (arith, ltb-false high (s .high) t))
+
+-- A is what the child i gave
+pub plays-after : (e : Frame ℕ) (k : Kind) (i w : ℕ) (s : State) (p : Play ℕ) (A : Seen ℕ) → 0 < i → e .bottom ≤ A .low → A .high ≤ e .top → Plays e k s p
+    → Plays e k (after e k i w s (A .low) (A .high)) (prefer natural k i p A)
+unfolding prefer beats update
+plays-after e MAX i w s noPlay A z low high h = (first-taken (s .play) i (ltb (s .low) (A .low)) (h .0), z, omega (arith, h .1))
+plays-after e MIN i w s noPlay A z low high h = (first-taken (s .play) i (ltb (A .high) (s .high)) (h .0), z, omega (arith, h .1))
+plays-after e CHANCE i w s p A z low high h = (refl, tt)
+plays-after e MAX i w s (child m l x) A z low high h =
+    rw (h .2) (max-later e i w m (s .low) x (A .low) (A .high) s (h .0) (h .1) refl z (ltb (s .low) (A .low)) refl)
+plays-after e MIN i w s (child m l x) A z low high h =
+    rw (h .2) (min-later e i w m l (s .high) (A .low) (A .high) s (h .0) (h .1) refl z (ltb (A .high) (s .high)) refl)

@@ -1,0 +1,85 @@
+-- Nodes that can be searched are what the laws of the search ask for; what the search of one gives. Assumes nothing.
+use Prim.Native.Nat.{ℕ, _+_, _*_, _≤_}
+use mathlib.Core.Path.{_≡_, refl, sym, ap, ap₂, _∙_}
+use mathlib.Core.Bool.{false}
+use mathlib.Core.List.{[]}
+use native.Mathlib.Nat.{le-refl}
+use native.Mathlib.Omega.{arith}
+use lib.ListN.{length}
+use Rattle.line.proofs.Signs.{true-ne-false}
+use Rattle.table.specs.Tree.{Kind, MAX, MIN, CHANCE, Forest, end, leaf, inner, isEnd, weigh, leaves}
+use Rattle.table.proofs.Nodes.{restOf, weightOf, ownLeaves, weigh-split}
+use Rattle.search.specs.Search.{Frame, State, begin, point, framed}
+use Rattle.search.specs.Inside.{natural, grained}
+use Rattle.search.proofs.Heights.{Sound, Within}
+use Rattle.search.proofs.Contain.{Holding, hold-point, hold-under, contained}
+use Rattle.search.proofs.Grains.{grained-weigh}
+use Rattle.search.proofs.Few.{few-scan}
+use Rattle.searching.specs.declared.Rule.{Rule}
+use Rattle.searching.specs.declared.Ends.{Ends}
+use Rattle.searching.specs.declared.Window.{Window}
+use Rattle.searching.specs.Inside.{frameAt, rulesOf, OkEnds, Pays, Fit}
+use Rattle.searching.proofs.Bridge.{nodeSeen}
+
+grained-leaves : (G : ℕ) (F : Forest ℕ) → leaves (grained G F) ≡ leaves F
+unfolding grained leaves
+grained-leaves G end = refl
+grained-leaves G (leaf n w h rest) = ap (λ (a : ℕ). 1 + a) (grained-leaves G rest)
+grained-leaves G (inner n w k under rest) = ap₂ (λ (a b : ℕ). a + b) (grained-leaves G under) (grained-leaves G rest)
+
+-- the first node's weight, and those of the others
+pub grained-split : (G : ℕ) (F : Forest ℕ) → weigh (grained G F) ≡ weightOf F + weigh (grained G (restOf F))
+grained-split G F = grained-weigh G F ∙ weigh-split F ∙ ap (λ (n : ℕ). weightOf F + n) (sym (grained-weigh G (restOf F)))
+
+module _ (g : Rule) (v : Ends) where
+  pub fit-rest : (k : Kind) (F : Forest ℕ) → Fit g v k F → Fit g v k (restOf F)
+  unfolding Fit
+  fit-rest k end f = tt
+  fit-rest k (leaf n w h rest) f = f .3
+  fit-rest k (inner n w j under rest) f = f .4
+
+  pub fit-weight : (k : Kind) (F : Forest ℕ) → isEnd F ≡ false → Fit g v k F → Pays k (weightOf F)
+  unfolding Fit
+  fit-weight k end q f = absurd (true-ne-false q)
+  fit-weight k (leaf n w h rest) q f = f .0
+  fit-weight k (inner n w j under rest) q f = f .0
+
+  module _ (ok : OkEnds v) where
+    pub fit-sound : (k : Kind) (F : Forest ℕ) → isEnd F ≡ false → Fit g v k F
+        → Sound (framed (v .bottom) (v .top) (grained (g .grain) F)) k (grained (g .grain) F)
+    fit-sound MAX F q f = record { ends = ok .order; paid = tt; weighed = tt }
+    fit-sound MIN F q f = record { ends = ok .order; paid = tt; weighed = tt }
+    fit-sound CHANCE F q f =
+        record { ends = ok .order; paid = omega (arith, grained-split (g .grain) F, fit-weight CHANCE F q f refl); weighed = refl }
+
+    -- whatever the parent's total N
+    pub fit-within : (N : ℕ) (k : Kind) (F : Forest ℕ) → Fit g v k F → Within (rulesOf g v .frame) (frameAt v N) (grained (g .grain) F)
+    unfolding Fit grained
+    fit-within N k end f = tt
+    fit-within N k (leaf n w h rest) f = (f .1, f .2, fit-within N k rest (f .3))
+    fit-within N k (inner n w j under rest) f =
+        (le-refl (v .bottom), le-refl (v .top), fit-sound j under (f .1) (f .3), fit-within _ j under (f .3), fit-within N k rest (f .4))
+
+    -- what the first node gives holds its worth, and lies between the ends
+    pub node-holds : (N : ℕ) (k : Kind) (F : Forest ℕ) (y : Window) → isEnd F ≡ false → Fit g v k F → (x : ℕ) × Holding (frameAt v N) x (nodeSeen g v F y)
+    unfolding Fit
+    node-holds N k end y q f = absurd (true-ne-false q)
+    node-holds N k (leaf n w h rest) y q f = (h * g .grain, hold-point (frameAt v N) n (h * g .grain) [] (f .1, f .2))
+    node-holds N k (inner n w j under rest) y q f =
+        let u : Forest ℕ = grained (g .grain) under in
+        let d : Frame ℕ = framed (v .bottom) (v .top) u in (
+          _,
+          hold-under (frameAt v N) d _ (nodeSeen g v (inner n w j under rest) y) (le-refl (v .bottom)) (le-refl (v .top))
+              (contained (rulesOf g v) d j u (y .alpha) (y .beta) [] (fit-sound j under (f .1) (f .3)) (fit-within (d .total) j under (f .3))),
+        )
+
+  -- at most as many leaves are read as it has
+  pub node-few : (F : Forest ℕ) (y : Window) → length (nodeSeen g v F y .read) ≤ ownLeaves F
+  unfolding point begin
+  node-few end y = omega arith
+  node-few (leaf n w h rest) y = omega arith
+  node-few (inner n w j under rest) y =
+      let u : Forest ℕ = grained (g .grain) under in
+      let d : Frame ℕ = framed (v .bottom) (v .top) u in
+      let s : State ℕ = begin d j (y .alpha) (y .beta) [] in
+      omega (arith, few-scan natural (rulesOf g v) d j u s, grained-leaves (g .grain) under)

@@ -1,0 +1,8 @@
+pub mod Sizes
+pub mod Bridge
+pub mod Fits
+pub mod Rules
+pub mod Root
+pub mod Ready
+pub mod Searching
+pub mod Answered

@@ -1,0 +1,81 @@
+-- The search of a whole table: what the calls at the root ask, and what they give. Assumes nothing.
+use Prim.Native.Nat.{ℕ, suc, _≤_, _<_}
+use mathlib.Core.Path.{_≡_, refl, ap, _∙_}
+use mathlib.Core.List.{List, [], _∷_}
+use native.Mathlib.Omega.{arith}
+use lib.ListN.{length, set}
+use Rattle.table.specs.Tree.{MAX, Forest, end, leaf, inner}
+use Rattle.table.specs.Slices.{Slices, laid}
+use Rattle.table.specs.Accepted.{Rooted}
+use Rattle.table.proofs.Nodes.{leaves-split, root-stop, root-some}
+use Rattle.search.specs.Search.{Seen, search, searchRoot}
+use Rattle.search.specs.Inside.{natural, grained}
+use Rattle.searching.specs.declared.Rule.{Rule}
+use Rattle.searching.specs.declared.Ends.{Ends}
+use Rattle.searching.specs.declared.Window.{Window}
+use Rattle.searching.specs.declared.Found.{Found}
+use Rattle.searching.specs.Inside.{rulesOf, putFrom, Gives, ReadyRoot, Shows, Searched}
+use Rattle.searching.proofs.Bridge.{nodeSeen}
+use Rattle.searching.proofs.Fits.{node-few}
+use Rattle.searching.proofs.Rules.{NodeTold, ReadyNode}
+
+-- ---- a list written from its front
+
+put-later : (y : ℕ) (l : List ℕ) (k : ℕ) (xs : List ℕ) → putFrom (y ∷ l) (suc k) xs ≡ y ∷ putFrom l k xs
+unfolding putFrom
+put-later y l k [] = refl
+put-later y l k (x ∷ xs) = put-later y (set l k x) (suc k) xs
+
+put-laid : (l xs : List ℕ) → length xs ≤ length l → putFrom l 0 xs ≡ laid xs l
+unfolding putFrom
+put-laid l [] h = refl
+put-laid [] (x ∷ xs) h = absurd (omega arith)
+put-laid (y ∷ l) (x ∷ xs) h = put-later x l 0 xs ∙ ap (λ (z : List ℕ). x ∷ z) (put-laid l xs (omega arith))
+
+-- ---- the root
+
+-- line 6: its window is between its ends
+abbrev pub rootWindow : Ends → Window
+rootWindow v = record { alpha = v .bottom; beta = v .top }
+
+module _ {t : Slices} {g : Rule} {v : Ends} {n room : ℕ} (R : ReadyRoot t g v n room) where
+  pub root-ready : ReadyNode t g v (rootWindow v) 0 n 0 room
+  root-ready =
+      record {
+        nodes = R .nodes;
+        parent = MAX;
+        upto = n;
+        spans = R .spans;
+        some = root-some t n (R .nodes) (R .spans) (R .rooted);
+        fit = R .fit;
+        stop = root-stop t n (R .nodes) (R .spans) (R .rooted);
+        ends = R .ends;
+        rule = R .rule;
+        alpha = omega (arith, R .ends .order, R .ends .top);
+        beta = R .ends .top;
+        holds = R .holds;
+        space = omega (arith, R .space);
+      }
+
+  pub root-long : (0 < length (t .kinds)) × (0 < length (t .heights))
+  root-long =
+      let x = root-some t n (R .nodes) (R .spans) (R .rooted) in
+      (omega (arith, x, R .holds .kinds), omega (arith, x, R .holds .heights))
+
+root-is : (g : Rule) (v : Ends) (F : Forest ℕ) → Rooted F → searchRoot natural (rulesOf g v) (grained (g .grain) F) ≡ nodeSeen g v F (rootWindow v)
+unfolding grained searchRoot search
+root-is g v end r = absurd r
+root-is g v (leaf i w h rest) r = refl
+root-is g v (inner i w k under rest) r = refl
+
+shown : (r : Found) (a : Seen ℕ) (came now : List ℕ) → length (a .read) ≤ length came → Gives r a 0 came now → Shows r a came now
+shown r a came now few G = record { low = G .low; high = G .high; play = G .play; used = omega (arith, G .used); leaves = G .leaves ∙ put-laid came (a .read) few }
+
+-- what is told of the root is the search of the table
+pub root-searched : {t : Slices} {g : Rule} {v : Ends} {n : ℕ} {r : Found} {came now : List ℕ} → NodeTold t g v (rootWindow v) 0 0 r came now
+    → Searched t g v n r came now
+root-searched {t} {g} {v} {n} {r} {came} {now} T R =
+    let F = R .nodes in
+    rw (root-is g v F (R .rooted))
+    (shown r (nodeSeen g v F (rootWindow v)) came now (omega (arith, node-few g v F (rootWindow v), leaves-split F, R .space))
+    (T .tells F n (R .spans) (root-some t n F (R .spans) (R .rooted))))

@@ -1,0 +1,65 @@
+-- `searching::chance_after` meets its contract. Assumes nothing.
+use Prim.Native.Nat.{_-_}
+use mathlib.Core.Path.{refl}
+use native.Mathlib.Omega.{arith}
+use borrow.Author.Needs.{needs}
+use Rattle.search.specs.Search.{update}
+use Rattle.searching.proofs.Sizes.{product′, share, state-eq}
+use Rattle.searching.proofs.chance_after.Statement.{statement}
+use Rattle.searching.proofs.chance_after.Tie as tie
+
+sub-l : tie.Need-sub-l
+sub-l c = search needs
+
+mul-l : tie.Need-mul-l
+mul-l c =
+    let a = c .before .args in
+    omega (arith, product′ (a .w) (a .low - a .v .bottom) (omega arith) (omega arith))
+
+div-l : tie.Need-div-l
+div-l c = search needs
+
+add-l : tie.Need-add-l
+add-l c =
+    let a = c .before .before .args in
+    omega (arith, share (a .w) (a .low - a .v .bottom) (a .total) (omega arith))
+
+sub-monus : tie.Need-sub-monus
+sub-monus c = search needs
+
+mul-monus : tie.Need-mul-monus
+mul-monus c =
+    let a = c .before .before .before .args in
+    omega (arith, product′ (a .w) (a .v .top - a .high) (omega arith) (omega arith))
+
+div-monus : tie.Need-div-monus
+div-monus c = search needs
+
+monus-requires : tie.Need-monus-requires
+monus-requires c κs = search needs
+
+max-of-requires : tie.Need-max-of-requires
+max-of-requires c κs = search needs
+
+min-of-requires : tie.Need-min-of-requires
+min-of-requires c κs = search needs
+
+returns : tie.Need-returns
+unfolding update
+returns c = state-eq _ _ refl (omega arith) (omega arith) (omega arith) refl
+
+pub chance-after-spec : {M : Type 1} → statement M
+chance-after-spec =
+    tie.close
+    (tie.spec
+    sub-l
+    mul-l
+    div-l
+    add-l
+    sub-monus
+    mul-monus
+    div-monus
+    monus-requires
+    max-of-requires
+    min-of-requires
+    returns)

@@ -1,0 +1,58 @@
+-- `searching::leaf_at` meets its contract. Assumes nothing.
+use Prim.Native.Nat.{ℕ, _*_}
+use mathlib.Core.Path.{_≡_, refl, ap}
+use native.Mathlib.Omega.{arith}
+use borrow.Author.Needs.{needs}
+use denote.Ref.{now}
+use lib.ListN.{getD}
+use Rattle.searching.proofs.leaf_at.Statement.{statement}
+use Rattle.searching.proofs.leaf_at.Tie as tie
+
+cast-leaves : tie.Need-cast-leaves
+cast-leaves c = search needs
+
+mul-leaves : tie.Need-mul-leaves
+mul-leaves c = search needs
+
+slice-write-leaves : tie.Need-slice-write-leaves
+slice-write-leaves c = search needs
+
+mul-wide32 : tie.Need-mul-wide32
+mul-wide32 c = search needs
+
+shared-slice-read-wide32 : tie.Need-shared-slice-read-wide32
+shared-slice-read-wide32 c = search needs
+
+wide32-requires : tie.Need-wide32-requires
+wide32-requires c κs = search needs
+
+-- the grains that are computed are those that are meant
+grains : (c : tie.After-wide32) → let a = c .before .before .before .before .args in c .wide32 .result * a .grain ≡ getD (now (a .height)) (a .c) 0 * a .grain
+grains c = ap (λ (h : ℕ). h * c .before .before .before .before .args .grain) (c .wide32 .ensures)
+
+mul-h : tie.Need-mul-h
+mul-h c = record { fits = omega (arith, grains c, c .before .before .before .before .pre .3) }
+
+add-n : tie.Need-add-n
+add-n c = search needs
+
+same-length : tie.Need-same-length
+same-length c = search needs
+
+returns : tie.Need-returns
+returns c = record { low = grains c; high = grains c; play = refl; used = refl; leaves = refl }
+
+pub leaf-at-spec : {M : Type 1} → statement M
+leaf-at-spec =
+    tie.close
+    (tie.spec
+    cast-leaves
+    mul-leaves
+    slice-write-leaves
+    mul-wide32
+    shared-slice-read-wide32
+    wide32-requires
+    mul-h
+    add-n
+    same-length
+    returns)

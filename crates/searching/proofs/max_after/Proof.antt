@@ -1,0 +1,31 @@
+-- `searching::max_after` meets its contract. Assumes nothing.
+use native.Mathlib.Omega.{arith}
+use borrow.Author.Needs.{needs}
+use Rattle.search.specs.Search.{beats, update}
+use Rattle.searching.proofs.Sizes.{state-eq}
+use Rattle.searching.proofs.max_after.Statement.{statement}
+use Rattle.searching.proofs.max_after.Tie as tie
+
+max-of-requires : tie.Need-max-of-requires
+max-of-requires c κs = search needs
+
+max-of-requires-2 : tie.Need-max-of-requires-2
+max-of-requires-2 c κs = search needs
+
+max-of-requires-3 : tie.Need-max-of-requires-3
+max-of-requires-3 c κs = search needs
+
+min-of-requires : tie.Need-min-of-requires
+min-of-requires c κs = search needs
+
+prefer-requires : tie.Need-prefer-requires
+prefer-requires c κs = search needs
+
+returns : tie.Need-returns
+unfolding update beats
+returns c = state-eq _ _ (omega arith) (omega arith) (omega arith) (omega arith) (c .prefer .ensures)
+
+pub max-after-spec : {M : Type 1} → statement M
+max-after-spec =
+    tie.close
+    (tie.spec max-of-requires max-of-requires-2 max-of-requires-3 min-of-requires prefer-requires returns)

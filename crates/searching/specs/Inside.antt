@@ -1,0 +1,187 @@
+-- What the functions of the search over slices ask and tell, in the words of Algorithm 1 over heights. No promise names these.
+use Prim.Native.Nat.{ℕ, suc, _+_, _*_, _≤_, _<_}
+use mathlib.Core.Path.{_≡_}
+use mathlib.Core.Bool.{Bool, true, false, _||_, cond}
+use mathlib.Core.List.{List, [], _∷_}
+use mathlib.Core.Option.{Option, none, some}
+use lib.Dec.{eqb}
+use lib.IntN.{ℤ}
+use lib.ListN.{length, set}
+use Rattle.line.specs.Line.{toNat}
+use Rattle.table.specs.Tree.{Kind, MAX, MIN, CHANCE, Forest, end, leaf, inner, isChance, isEnd, weigh, leaves}
+use Rattle.table.specs.Slices.{Slices, Spans, Holds, laid}
+use Rattle.table.specs.Accepted.{Rooted}
+use Rattle.scale.specs.declared.Scale.{Scale}
+use Rattle.search.specs.Search as alg
+use Rattle.search.specs.Search.{Frame, Play, noPlay, Seen, Rules, framed, begin, lower, upper, beats, update, scan, searchRoot, nodeOf}
+use Rattle.search.specs.Inside.{natural, grained, heightRules}
+use Rattle.searching.specs.declared.Rule.{Rule}
+use Rattle.searching.specs.declared.Ends.{Ends}
+use Rattle.searching.specs.declared.State.{State}
+use Rattle.searching.specs.declared.Window.{Window}
+use Rattle.searching.specs.declared.Found.{Found}
+
+-- ---- the code's numbers as Algorithm 1's
+
+-- the ends of a node, and its total; an M or N needs none
+abbrev pub frameAt : Ends → (total : ℕ) → Frame ℕ
+frameAt v total = record { bottom = v .bottom; top = v .top; total = total }
+
+-- the state with the play p and the leaves l read before
+abbrev pub lift : State → Play ℕ → List ℕ → alg.State ℕ
+lift s p l = record { alpha = s .alpha; beta = s .beta; lo = s .low; hi = s .high; play = p; read = l }
+
+-- the window of a child of weight w
+abbrev pub windowFor : Frame ℕ → Kind → (w : ℕ) → State → Window
+windowFor e k w s = record { alpha = lower natural e k w (lift s noPlay []); beta = upper natural e k w (lift s noPlay []) }
+
+-- the first child, and then each that beats the best so far; node 0 is no child, and stands for none
+abbrev pub preferred : (play i : ℕ) (beats : Bool) → ℕ
+preferred play i beats = cond (eqb play 0 || beats) i play
+
+abbrev pub nextPlay : Kind → (play i : ℕ) (beats : Bool) → ℕ
+nextPlay MAX play i beats = preferred play i beats
+nextPlay MIN play i beats = preferred play i beats
+nextPlay CHANCE play i beats = 0
+
+-- After the child i of weight w that gave low and high. Of the best child the number alone is kept: its low is the low of an M so far, and its
+-- high the high of an N.
+abbrev pub after : Frame ℕ → Kind → (i w : ℕ) → State → (low high : ℕ) → State
+after e k i w s low high =
+    let t : alg.State ℕ = update natural e k i w (lift s noPlay []) (record { low = low; high = high; play = noPlay; read = [] }) in
+    record {
+      alpha = t .alpha;
+      beta = t .beta;
+      low = t .lo;
+      high = t .hi;
+      play = nextPlay k (s .play) i (beats natural k low high (s .low) (s .high));
+    }
+
+-- line 24
+abbrev pub stops : Rule → State → Bool
+stops g s = natural .near (g .margin) (s .alpha) (s .beta)
+
+abbrev pub rulesOf : Rule → Ends → Rules ℕ
+rulesOf g v = heightRules (v .bottom) (v .top) (g .margin)
+
+-- what the search of the children F, their heights in points, gives in the window w
+abbrev pub seenIn : Rule → Ends → Kind → Forest ℕ → Window → Seen ℕ
+seenIn g v k F w =
+    let f : Forest ℕ = grained (g .grain) F in
+    let e : Frame ℕ = framed (v .bottom) (v .top) f in
+    scan natural (rulesOf g v) e k f (begin e k (w .alpha) (w .beta) [])
+
+-- ---- results
+
+-- l with the numbers xs written from index k on
+unfoldable pub putFrom : List ℕ → ℕ → List ℕ → List ℕ
+putFrom l k [] = l
+putFrom l k (x ∷ xs) = putFrom (set l k x) (suc k) xs
+
+-- a node number as a play: 0 stands for none, as node 0 is no child
+abbrev pub playAt : ℕ → Option ℕ
+playAt n = cond (eqb n 0) none (some n)
+
+-- the result r, with the list as it came and as it is now, is what was seen; the leaves are listed from index `from` on
+pub record Gives (r : Found) (a : Seen ℕ) (from : ℕ) (came now : List ℕ) : Type 0 where
+  pub low : r .low ≡ a .low
+  pub high : r .high ≡ a .high
+  pub play : playAt (r .play) ≡ nodeOf (a .play)
+  pub used : r .used ≡ from + length (a .read)
+  pub leaves : now ≡ putFrom came from (a .read)
+
+-- a leaf of h grains at entry c was read
+pub record LeafAt (r : Found) (h from c : ℕ) (came now : List ℕ) : Type 0 where
+  pub low : r .low ≡ h
+  pub high : r .high ≡ h
+  pub play : r .play ≡ 0
+  pub used : r .used ≡ from + 1
+  pub leaves : now ≡ set came from c
+
+-- ---- what can be searched
+
+-- no number of grains is above this
+abbrev pub limit : ℕ
+limit = 35184372088832
+
+pub record OkEnds (v : Ends) : Type 0 where
+  pub order : v .bottom ≤ v .top
+  pub top : v .top ≤ limit
+
+pub record OkRule (g : Rule) : Type 0 where
+  pub margin : g .margin ≤ 40000000000000
+  pub grain : g .grain ≤ 16777216
+
+pub record OkState (s : State) : Type 0 where
+  pub alpha : s .alpha ≤ limit
+  pub beta : s .beta ≤ limit
+  pub low : s .low ≤ limit
+  pub high : s .high ≤ limit
+
+-- under a C a weight is at least 1, and the weights sum to at most 64
+abbrev pub Pays : Kind → ℕ → Type 0
+Pays k w = isChance k ≡ true → 0 < w
+
+abbrev pub Light : Kind → Forest ℕ → Type 0
+Light k f = isChance k ≡ true → weigh f ≤ 64
+
+-- weights, heights between the ends, and every inner node with a child
+unfoldable pub Fit : Rule → Ends → Kind → Forest ℕ → Type 0
+Fit g v k end = Unit {0}
+Fit g v k (leaf i w h rest) = Pays k w × (v .bottom ≤ h * g .grain) × (h * g .grain ≤ v .top) × Fit g v k rest
+Fit g v k (inner i w j under rest) = Pays k w × (isEnd under ≡ false) × Light j under × Fit g v j under × Fit g v k rest
+
+-- the children in the entries from c up to e can be searched in the window w
+pub record ReadyChildren (t : Slices) (g : Rule) (v : Ends) (k : Kind) (w : Window) (c e used room : ℕ) : Type 0 where
+  pub nodes : Forest ℕ
+  pub spans : Spans t c e nodes
+  pub later : 0 < c
+  pub some : c < e
+  pub fit : Fit g v k nodes
+  pub light : Light k nodes
+  pub ends : OkEnds v
+  pub rule : OkRule g
+  pub alpha : w .alpha ≤ limit
+  pub beta : w .beta ≤ limit
+  pub holds : Holds t e
+  pub space : used + leaves nodes ≤ room
+
+-- what is told of them
+abbrev pub Told : Slices → Rule → Ends → Kind → Window → (c e used : ℕ) → Found → List ℕ → List ℕ → Type 0
+Told t g v k w c e used r came now = (F : Forest ℕ) → Spans t c e F → Gives r (seenIn g v k F w) used came now
+
+-- ---- the whole table
+
+-- the nodes in the entries up to n are one tree that can be searched
+pub record ReadyRoot (t : Slices) (g : Rule) (v : Ends) (n room : ℕ) : Type 0 where
+  pub nodes : Forest ℕ
+  pub spans : Spans t 0 n nodes
+  pub rooted : Rooted nodes
+  pub fit : Fit g v MAX nodes
+  pub ends : OkEnds v
+  pub rule : OkRule g
+  pub holds : Holds t n
+  pub space : leaves nodes ≤ room
+
+-- the result r, with the list as it came and as it is now, is what was seen
+pub record Shows (r : Found) (a : Seen ℕ) (came now : List ℕ) : Type 0 where
+  pub low : r .low ≡ a .low
+  pub high : r .high ≡ a .high
+  pub play : playAt (r .play) ≡ nodeOf (a .play)
+  pub used : r .used ≡ length (a .read)
+  pub leaves : now ≡ laid (a .read) came
+
+-- what the search of a tree that can be searched gives
+abbrev pub Searched : Slices → Rule → Ends → ℕ → Found → List ℕ → List ℕ → Type 0
+Searched t g v n r came now =
+    (R : ReadyRoot t g v n (length came)) → Shows r (searchRoot natural (rulesOf g v) (grained (g .grain) (R .nodes))) came now
+
+-- ---- the call
+
+-- the numbers that a search goes by
+abbrev pub ruleFor : Scale → ℤ → Rule
+ruleFor s margin = record { margin = toNat margin; grain = s .grain }
+
+-- the ends of a table, in grains above the lowest
+abbrev pub endsFor : Scale → Ends
+endsFor s = record { bottom = 0; top = s .top }
