@@ -7,14 +7,14 @@ ghost use lib.IntN.{pos};
 ghost use Rattle.line.specs.Refusal.{lineOf};
 ghost use Rattle.codes.specs.Numbers.{readCode, numbersOf, worthNumbers, judgedNumbers, nodeNumber, boundsNumbers, rollCode, rollNumbers, put};
 ghost use Rattle.codes.specs.Inside.{SmallSummary, SmallBounds, SmallRolled};
-use searching::Bounds;
-use worth::Exact;
 use judge::Judged;
 use line::Refusal;
 use rolling::Rolled;
+use searching::Bounds;
 use table::Play;
 use table::Reading;
 use table::Summary;
+use worth::Exact;
 
 fn put_at(numbers: &mut [i64], i: usize, z: i64)
     ensures { λ _. ⌜ now (numbers .exit) ≡ set (now (numbers .entry)) i z ⌝ }

@@ -17,7 +17,7 @@ use Rattle.table.specs.Root.{children, rootOf}
 use Rattle.table.proofs.Heights.{above, mapForest, map-end, map-filled}
 use Rattle.table.proofs.Spans.{spans-le}
 use Rattle.table.proofs.Ends.{utility-shift}
-use Rattle.worth.specs.Heights.{SmallWorths}
+use Rattle.worth.specs.Inside.Heights.{SmallWorths}
 use Rattle.worth.proofs.Shift.{node-shift, shares-shift}
 use Rattle.search.specs.Search.{Frame}
 use Rattle.search.specs.Whole.{inGrains}

@@ -21,7 +21,7 @@ use Rattle.table.proofs.Heights.{above, mapForest, heights-map}
 use Rattle.table.proofs.Accepted.{accepted-ranged, accepted-proper, accepted-filled, accepted-balanced, accepted-spans, heights-rooted, heights-proper, heights-filled, heights-balanced}
 use Rattle.table.proofs.Ends.{top}
 use Rattle.worth.specs.Worth.{worthOf}
-use Rattle.worth.specs.Heights.{heightWorth, SmallWorths}
+use Rattle.worth.specs.Inside.Heights.{heightWorth, SmallWorths}
 use Rattle.worth.proofs.Worth.{heights-small, shift as worth-shift}
 use Rattle.search.specs.Search.{Play, noPlay, child, Seen, nodeOf}
 use Rattle.search.specs.Inside.{grained, frameOf, heightRules, heightSearched}

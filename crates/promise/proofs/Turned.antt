@@ -19,7 +19,7 @@ use Rattle.table.proofs.Heights.{above, mapForest, height-back, heights-map}
 use Rattle.table.proofs.Accepted.{accepted-flat, accepted-ranged, accepted-proper, heights-proper, heights-balanced}
 use Rattle.table.proofs.Ends.{top}
 use Rattle.worth.specs.Worth.{worthOf}
-use Rattle.worth.specs.Heights.{heightWorth}
+use Rattle.worth.specs.Inside.Heights.{heightWorth}
 use Rattle.worth.proofs.Worth.{shift as worth-shift}
 use Rattle.turn.specs.Turn.{turnKind, turnHead, turnTree}
 use Rattle.search.specs.Search.{Play, noPlay, child, Seen, searchRoot, nodeOf}

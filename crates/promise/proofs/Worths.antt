@@ -5,7 +5,7 @@ use mathlib.Core.Bool.{false}
 use Rattle.table.specs.Tree.{Kind, MAX, MIN, CHANCE, Forest, end, leaf, inner, isEnd}
 use Rattle.table.specs.Accepted.{Filled}
 use Rattle.table.specs.Inside.{begin, taken, sealed}
-use Rattle.worth.specs.Heights.{heightValue, heightShares, SmallWorths}
+use Rattle.worth.specs.Inside.Heights.{heightValue, heightShares, SmallWorths}
 use Rattle.worth.specs.Inside.{takeAll}
 use Rattle.worth.proofs.Run.{value-taken}
 use Rattle.search.specs.Search.{Frame}

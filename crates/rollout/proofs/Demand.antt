@@ -19,7 +19,6 @@ use Rattle.table.proofs.Heights.{heights-map}
 use Rattle.table.proofs.Accepted.{accepted-proper, accepted-filled}
 use Rattle.worth.specs.Worth.{worthOf}
 use Rattle.worth.specs.Inside.Heights.{heightWorth}
-use Rattle.worth.specs.Heights.{heightWorth}
 use Rattle.worth.proofs.Worth.{divides, shift}
 use Rattle.search.specs.Heights.{grained}
 use Rattle.search.specs.Inside.{grained}

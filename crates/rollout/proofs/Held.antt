@@ -13,7 +13,6 @@ use Rattle.table.specs.Accepted.{one, Filled, Proper}
 use Rattle.table.proofs.Heights.{above as height, height-back, mapForest, map-proper}
 use Rattle.worth.specs.Worth.{value, shares, firstWorth}
 use Rattle.worth.specs.Inside.Heights.{heightValue, heightShares}
-use Rattle.worth.specs.Heights.{heightValue, heightShares}
 use Rattle.worth.proofs.Shift.{Divides, shares-shift}
 use Rattle.search.specs.Heights.{grained}
 use Rattle.search.specs.Inside.{grained}
