@@ -14,13 +14,14 @@ use Rattle.table.specs.declared.Play.{Play}
 use Rattle.table.specs.declared.Play.the-variants.{Child, NoPlay}
 use Rattle.table.proofs.Accepted.{answer-accepted, accepted-ranged, accepted-size, accepted-few, accepted-grain, accepted-leaf-lines}
 use Rattle.table.proofs.Places.{refused-line}
+use Rattle.worth.specs.declared.Exact.the-variants.{Grains, Refused}
+use Rattle.worth.specs.Call.{exactCall}
 use Rattle.judge.specs.declared.Opinion
 use Rattle.judge.specs.Judge.{Judgement, judge}
+use Rattle.judge.specs.Call.{judgeAnswer, judgeCall}
 use Rattle.judge.proofs.Judge.{judge-refused}
 use Rattle.searching.specs.declared.Bounds.{Bounds}
 use Rattle.searching.proofs.Answered.{Sizes, PlayBelow}
-use Rattle.engine.specs.declared.Exact.the-variants.{Grains, Refused}
-use Rattle.engine.specs.Calls.{exactCall, judgeAnswer, judgeCall}
 use Rattle.engine.specs.declared.Rolled
 use Rattle.engine.specs.declared.Rolled.{Rolled}
 use Rattle.engine.proofs.RollAnswered.{RollSized}

@@ -9,20 +9,22 @@ use Rattle.table.specs.declared.Reading.{Reading}
 use Rattle.table.specs.declared.Reading.the-variants.{Accepted, Refused}
 use Rattle.table.specs.declared.Play.{Play}
 use Rattle.table.specs.declared.Play.the-variants.{Child, NoPlay}
+use Rattle.worth.specs.Call.{exactNumber, exactLine}
+use Rattle.worth.specs.declared.Exact
+use Rattle.worth.specs.declared.Exact.{Exact}
 use Rattle.judge.specs.declared.Judged.{Judged}
 use Rattle.judge.specs.declared.Judged.the-variants.{NoDecision, Loss}
 use Rattle.judge.specs.declared.Opinion
 use Rattle.judge.specs.declared.Opinion.{Opinion}
+use Rattle.judge.specs.Call.{judgeNumber, judgeLine}
 use Rattle.searching.specs.declared.Bounds.{Bounds}
 use Rattle.searching.specs.declared.Bounded
 use Rattle.searching.specs.declared.Bounded.{Bounded}
 use Rattle.searching.specs.Call.{searchNumber, searchLine}
-use Rattle.engine.specs.Calls.{exactNumber, exactLine, judgeNumber, judgeLine, rollNumber, rollLine, turnedNumber, turnedLine}
+use Rattle.engine.specs.Calls.{rollNumber, rollLine, turnedNumber, turnedLine}
 use Rattle.engine.specs.declared.Rolled
 use Rattle.engine.specs.declared.Rolled.{Rolled}
 use Rattle.engine.specs.declared.Turned.{Turned}
-use Rattle.engine.specs.declared.Exact
-use Rattle.engine.specs.declared.Exact.{Exact}
 
 -- 0, or the refusal's line and number as one: the number in the last two decimal digits, so that 309 is refusal 9 at line 3
 abbrev pub readCode : Reading → ℕ

@@ -7,21 +7,23 @@ ghost use lib.IntN.{pos};
 ghost use Rattle.line.specs.Refusal.{lineOf};
 ghost use Rattle.table.specs.Table.{readText, answer};
 ghost use Rattle.table.specs.Slices.{laid, fitted, kindsOf, stopsOf, weightsOf, heightsOf, decoded};
-ghost use Rattle.engine.specs.Calls.{exactCall, judgeCall, rollCall, rollReads, rollStore, recorded, turnCall, turnBytes};
+ghost use Rattle.worth.specs.Call.{exactCall};
+ghost use Rattle.judge.specs.Call.{judgeCall};
 ghost use Rattle.searching.specs.Call.{searchCall, searchReads};
+ghost use Rattle.engine.specs.Calls.{rollCall, rollReads, rollStore, recorded, turnCall, turnBytes};
 ghost use Rattle.abi.specs.Numbers.{readCode, numbersOf, worthCode, worthNumbers, judgeCode, judgedNumbers, judgeNumbers, nodeNumber, searchCode, boundsNumbers, searchNumbers, rollCode, rollNumbers, turnedCode, put, SmallSummary, SmallBounds, SmallRolled};
-use engine::Bounded;
-use engine::Bounds;
-use engine::Exact;
 use engine::Rolled;
 use engine::Turned;
 use judge::Judged;
 use judge::Opinion;
 use line::Refusal;
 use rollout::Record;
+use searching::Bounded;
+use searching::Bounds;
 use table::Play;
 use table::Reading;
 use table::Summary;
+use worth::Exact;
 
 fn put_at(numbers: &mut [i64], i: usize, z: i64)
     ensures { λ _. ⌜ now (numbers .exit) ≡ set (now (numbers .entry)) i z ⌝ }
@@ -100,7 +102,7 @@ pub extern "C" fn margin_worth(text: &[u8], numbers: &mut [i64]) -> u64
     ensures code { λ r. ⌜ r ≡ worthCode (exactCall (readText (now (text .entry)))) ⌝ }
     ensures numbers { λ _. ⌜ now (numbers .exit) ≡ put 0 (worthNumbers (exactCall (readText (now (text .entry))))) (now (numbers .entry)) ⌝ }
 {
-    match engine::exact_worth(text) {
+    match worth::exact_worth(text) {
         Exact::Refused(r) => refusal_code(r),
         Exact::Grains(z, g) => {
             put_worth(z, g, numbers);
@@ -141,7 +143,7 @@ pub extern "C" fn margin_judge(text: &[u8], number: i64, numbers: &mut [u64]) ->
     ensures code { λ r. ⌜ r ≡ judgeCode (judgeCall (readText (now (text .entry))) number) ⌝ }
     ensures numbers { λ _. ⌜ now (numbers .exit) ≡ put 0 (judgeNumbers (judgeCall (readText (now (text .entry))) number)) (now (numbers .entry)) ⌝ }
 {
-    match engine::judge_play(text, number) {
+    match judge::judge_play(text, number) {
         Opinion::Refused(r) => refusal_code(r),
         Opinion::Given(j) => {
             put_judged(j, numbers);
@@ -185,7 +187,7 @@ pub extern "C" fn margin_search(
     ensures numbers { λ _. ⌜ now (numbers .exit) ≡ put 0 (searchNumbers (searchCall (readText (now (text .entry))) margin (length (now (leaves .entry))))) (now (numbers .entry)) ⌝ }
     ensures lists { λ _. ⌜ now (leaves .exit) ≡ laid (searchReads (readText (now (text .entry))) margin (length (now (leaves .entry)))) (now (leaves .entry)) ⌝ }
 {
-    match engine::search_table(text, margin, leaves) {
+    match searching::search_table(text, margin, leaves) {
         Bounded::Refused(r) => refusal_code(r),
         Bounded::Found(b) => {
             put_bounds(b, numbers);

@@ -20,6 +20,8 @@ use Rattle.table.specs.Table.{Table, tree, readText, grain}
 use Rattle.table.specs.Root.{playOf}
 use Rattle.table.specs.declared.Play.the-variants.{Child}
 use Rattle.worth.specs.Worth.{worthOf}
+use Rattle.worth.specs.declared.Exact.the-variants.{Grains}
+use Rattle.worth.specs.Call.{exactCall}
 use Rattle.turn.specs.Text.{tableText}
 use Rattle.turn.specs.Turn.{turnTable, turnedText}
 use Rattle.turn.proofs.Tree.{tree-turned, turn-twice}
@@ -41,8 +43,7 @@ use Rattle.rollout.specs.Whole.{hasChance, rolled, rolledWorth}
 use Rattle.rollout.proofs.Demand.{ends-on-worth, no-leaf-twice}
 use Rattle.engine.specs.declared.Rolled
 use Rattle.engine.specs.declared.Rolled.the-variants.{Done}
-use Rattle.engine.specs.declared.Exact.the-variants.{Grains}
-use Rattle.engine.specs.Calls.{exactCall, rolls, rollAnswer, rollList, rollCall, turnOf}
+use Rattle.engine.specs.Calls.{rolls, rollAnswer, rollList, rollCall, turnOf}
 use Rattle.engine.proofs.Turning.{turn-fine}
 use Rattle.demands.specs.Demands.{childWorth, Promised, SameLines, Mirrors, Answers, Sentence1, Sentence2, GivenText, Sentence3, TurnAnswers, TurningTwice, RolloutsEnd, RollAnswers}
 use Rattle.demands.proofs.Utilities.{tree-alike, given-same, given-accepted}

@@ -11,13 +11,15 @@ use Rattle.line.proofs.Numbers.{number-some}
 use Rattle.table.specs.Table.{Table, readText, answer}
 use Rattle.table.specs.Slices.{laid, fitted, kindsOf, stopsOf, weightsOf, heightsOf, decoded}
 use Rattle.table.proofs.Top.{unchanged}
+use Rattle.worth.specs.declared.Exact.{Exact}
+use Rattle.worth.specs.declared.Exact.the-variants.{Grains, Refused}
+use Rattle.worth.specs.Call.{exactCall}
 use Rattle.judge.specs.declared.Opinion
 use Rattle.judge.specs.declared.Opinion.{Opinion}
+use Rattle.judge.specs.Call.{judgeCall}
 use Rattle.searching.specs.Call.{Sought, sought, searchAnswer, searchList}
 use Rattle.rollout.specs.declared.Record.{Record}
-use Rattle.engine.specs.declared.Exact.{Exact}
-use Rattle.engine.specs.declared.Exact.the-variants.{Grains, Refused}
-use Rattle.engine.specs.Calls.{exactCall, judgeCall, turnOf, turnAnswer, turnWritten, rolls, rollAnswer, rollList, rollRecords, recorded}
+use Rattle.engine.specs.Calls.{turnOf, turnAnswer, turnWritten, rolls, rollAnswer, rollList, rollRecords, recorded}
 use Rattle.abi.specs.Numbers.{readCode, numbersOf, worthCode, worthNumbers, judgeCode, judgeNumbers, searchCode, searchNumbers, rollCode, rollNumbers, turnedCode, put}
 use Rattle.demands.specs.Untouched.{Refuses, CodesRefuse, SlicesKept, ReadUntouched, SearchUntouched, TurnUntouched, RollUntouched, CReadUntouched, CWorthUntouched, CJudgeUntouched, CSearchUntouched, CTurnUntouched, CRollUntouched}
 

@@ -15,6 +15,8 @@ use Rattle.line.specs.Line.{Within}
 use Rattle.table.specs.Tree.{leaves}
 use Rattle.table.specs.Table.{Table, tree, readText}
 use Rattle.table.specs.declared.Play.the-variants.{Child}
+use Rattle.worth.specs.declared.Exact.the-variants.{Grains}
+use Rattle.worth.specs.Call.{exactCall}
 use Rattle.searching.specs.declared.Bounds.{Bounds}
 use Rattle.searching.specs.declared.Bounded.the-variants.{Found}
 use Rattle.searching.specs.Call.{badMargin, searchCall, searchReads}
@@ -22,8 +24,7 @@ use Rattle.promise.specs.Play.{playWorth}
 use Rattle.rollout.specs.Leaves.{Distinct}
 use Rattle.rollout.specs.Whole.{hasChance}
 use Rattle.engine.specs.declared.Rolled.the-variants.{Done}
-use Rattle.engine.specs.declared.Exact.the-variants.{Grains}
-use Rattle.engine.specs.Calls.{exactCall, rollCall, rollReads, turnOf}
+use Rattle.engine.specs.Calls.{rollCall, rollReads, turnOf}
 
 -- ---- the bounds and the play
 

@@ -11,6 +11,7 @@ use Rattle.table.specs.declared.Play.the-variants.{Child, NoPlay}
 use Rattle.judge.specs.declared.Judged.the-variants.{Loss}
 use Rattle.judge.specs.declared.Opinion.{Opinion}
 use Rattle.judge.specs.declared.Opinion.the-variants.{Given}
+use Rattle.judge.specs.Call.{judgeCall}
 use Rattle.searching.specs.declared.Bounded.{Bounded}
 use Rattle.searching.specs.declared.Bounded.the-variants.{Found}
 use Rattle.searching.specs.Call.{searchCall, searchReads}
@@ -18,7 +19,7 @@ use Rattle.engine.specs.declared.Rolled.{Rolled}
 use Rattle.engine.specs.declared.Rolled.the-variants.{Done}
 use Rattle.engine.specs.declared.Turned.{Turned}
 use Rattle.engine.specs.declared.Turned.the-variants.{Written}
-use Rattle.engine.specs.Calls.{judgeCall, rollCall, rollReads, turnCall, turnBytes}
+use Rattle.engine.specs.Calls.{rollCall, rollReads, turnCall, turnBytes}
 
 -- a call with its arguments; leaf lists have 1,024 entries, stores 1,024 records and buffers 25,625 bytes
 pub data Call : Type 0 where

@@ -10,12 +10,14 @@ use Rattle.line.specs.Refusal.{Verdict, numberOf, lineOf}
 use Rattle.table.specs.declared.Reading
 use Rattle.table.specs.Table.{Table, readText, answer}
 use Rattle.table.specs.Slices.{laid, fitted, kindsOf, stopsOf, weightsOf, heightsOf, decoded}
+use Rattle.worth.specs.Call.{exactCall}
+use Rattle.judge.specs.Call.{judgeCall}
 use Rattle.searching.specs.declared.Bounded
 use Rattle.searching.specs.Call.{searchCall, searchReads}
 use Rattle.rollout.specs.declared.Record.{Record}
 use Rattle.engine.specs.declared.Rolled
 use Rattle.engine.specs.declared.Turned
-use Rattle.engine.specs.Calls.{exactCall, judgeCall, rollCall, rollReads, rollStore, recorded, turnCall, turnBytes}
+use Rattle.engine.specs.Calls.{rollCall, rollReads, rollStore, recorded, turnCall, turnBytes}
 use Rattle.abi.specs.Numbers.{readCode, numbersOf, worthCode, worthNumbers, judgeCode, judgeNumbers, searchCode, searchNumbers, rollCode, rollNumbers, turnedCode, put}
 
 -- ---- the calls of `table` and `engine`; the exact worth and the judgement are lent nothing but the text

@@ -1,4 +1,3 @@
-pub mod Known
 pub mod Turning
 pub mod Rolling
 pub mod Lent

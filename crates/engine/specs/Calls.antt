@@ -1,4 +1,4 @@
--- What the public calls answer. Document 01, 'Grains', 'The search', 'Rollouts', 'Judging and turning' and 'Refused tables and calls'.
+-- What the public calls answer. Document 01, 'Rollouts', 'Judging and turning' and 'Refused tables and calls'.
 use Prim.Native.Nat.{ℕ}
 use mathlib.Core.Bool.{_||_}
 use mathlib.Core.List.{List, [], _∷_, _++_, map}
@@ -7,17 +7,9 @@ use lib.ListN.{length, drop}
 use lib.IntN.{ℤ}
 use Rattle.line.specs.declared.Refusal.the-variants.{NoRoom, HasChance}
 use Rattle.line.specs.Refusal.{Verdict, refused, fine, unless, next, numberOf, lineOf}
-use Rattle.line.specs.Line.{toNat}
 use Rattle.table.specs.Tree.{leaves}
-use Rattle.table.specs.Table.{Table, tree, grain}
-use Rattle.worth.specs.Worth.{worthOf}
-use Rattle.judge.specs.declared.Judged.{Judged}
-use Rattle.judge.specs.declared.Judged.the-variants.{NoDecision, Loss}
-use Rattle.judge.specs.declared.Opinion
-use Rattle.judge.specs.declared.Opinion.{Opinion}
-use Rattle.judge.specs.Judge.{Judgement, noDecision, judged, judge}
+use Rattle.table.specs.Table.{Table, tree}
 use Rattle.turn.specs.Turn.{turnedText}
-use Rattle.searching.specs.declared.Bounded
 use Rattle.rollout.specs.declared.Record.{Record}
 use Rattle.rollout.specs.Rollout.{Pair}
 use Rattle.rollout.specs.Whole.{hasChance, rolled, rolledWorth, rolledStore}
@@ -25,44 +17,6 @@ use Rattle.engine.specs.declared.Rolled
 use Rattle.engine.specs.declared.Rolled.{Rolled}
 use Rattle.engine.specs.declared.Turned
 use Rattle.engine.specs.declared.Turned.{Turned}
-use Rattle.engine.specs.declared.Exact.{Exact}
-use Rattle.engine.specs.declared.Exact.the-variants.{Grains, Refused}
-
--- the exact worth in grains and G, or refusal 1 to 10
-abbrev pub exactCall : Verdict Table → Exact
-exactCall (refused r) = Refused r
-exactCall (fine t) = Grains (worthOf t) (grain t)
-
--- document 01's number and line of every answer, 0 where there is no refusal
-abbrev pub exactNumber : Exact → ℕ
-exactNumber (Grains z g) = 0
-exactNumber (Refused r) = numberOf r
-
-abbrev pub exactLine : Exact → ℕ
-exactLine (Grains z g) = 0
-exactLine (Refused r) = lineOf r
-
--- a judgement as the call gives it; that a loss is never below zero is a theorem (judge/Judge.loss-natural)
-abbrev pub told : Judgement → Judged
-told noDecision = NoDecision
-told (judged loss level) = Loss (toNat loss) level
-
-abbrev pub judgeAnswer : Verdict Judgement → Opinion
-judgeAnswer (refused r) = Opinion.the-variants.Refused r
-judgeAnswer (fine j) = Opinion.the-variants.Given (told j)
-
--- the judgement of root child number i, or refusal 1 to 10, then 14
-abbrev pub judgeCall : Verdict Table → ℤ → Opinion
-judgeCall v i = judgeAnswer (next v (λ (t : Table). judge t i))
-
--- document 01's number and line of every answer, 0 where there is no refusal
-abbrev pub judgeNumber : Opinion → ℕ
-judgeNumber (Opinion.the-variants.Given j) = 0
-judgeNumber (Opinion.the-variants.Refused r) = numberOf r
-
-abbrev pub judgeLine : Opinion → ℕ
-judgeLine (Opinion.the-variants.Given j) = 0
-judgeLine (Opinion.the-variants.Refused r) = lineOf r
 
 -- ---- turning
 

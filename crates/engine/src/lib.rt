@@ -1,22 +1,15 @@
-// The public calls. Each takes any input, and ends with an answer or a refusal.
+// The public calls of the search, of rollouts and of turning. Each takes any input, and ends with an answer or a refusal.
 ghost use mathlib.Core.Path.{_≡_};
 ghost use Prim.Native.Nat.{_≤_};
 ghost use lib.ListN.{length, replicate};
 ghost use Rattle.table.specs.Table.{readText};
-ghost use Rattle.engine.specs.Calls.{exactCall, judgeCall, rollCall, rollReads, rollStore, recorded, turnCall, turnBytes};
+ghost use Rattle.engine.specs.Calls.{rollCall, rollReads, rollStore, recorded, turnCall, turnBytes};
 ghost use Rattle.table.specs.Slices.{laid};
 ghost use Rattle.engine.specs.Inside.{Started, RollsTo};
-use judge::Opinion;
 use line::Refusal;
 use rollout::Record;
 use table::Reading;
 use table::Summary;
-
-// The worth in grains and G, or a refusal.
-pub enum Exact {
-    Grains(i64, u64),
-    Refused(Refusal),
-}
 
 // How many bytes of the turned text were written, or a refusal.
 pub enum Turned {
@@ -35,41 +28,6 @@ struct Outcome {
     pub answer: Rolled,
     pub nodes: usize,
     pub base: i64,
-}
-
-// The exact worth of a table, for any text.
-pub fn exact_worth(text: &[u8]) -> Exact
-    ensures { λ r. ⌜ r ≡ exactCall (readText (now (text .entry))) ⌝ }
-{
-    let mut kind = [0u8; 1024];
-    let mut stop = [0u16; 1024];
-    let mut weight = [0u8; 1024];
-    let mut height = [0u32; 1024];
-    match reading::decode(text, &mut kind, &mut stop, &mut weight, &mut height) {
-        Reading::Refused(r) => Exact::Refused(r),
-        Reading::Accepted(t) => {
-            let g = scale::scale_of(t);
-            let h = worth::worth_of(&text[25..], &stop, &weight, &height, 0, t.nodes, g);
-            Exact::Grains(scale::in_grains(t.lowest, t.grain, h), t.grain)
-        }
-    }
-}
-
-// The play of root child `number`, counted from 1, judged: for any text and any number.
-pub fn judge_play(text: &[u8], number: i64) -> Opinion
-    ensures { λ r. ⌜ r ≡ judgeCall (readText (now (text .entry))) number ⌝ }
-{
-    let mut kind = [0u8; 1024];
-    let mut stop = [0u16; 1024];
-    let mut weight = [0u8; 1024];
-    let mut height = [0u32; 1024];
-    match reading::decode(text, &mut kind, &mut stop, &mut weight, &mut height) {
-        Reading::Refused(r) => Opinion::Refused(r),
-        Reading::Accepted(t) => {
-            let g = scale::scale_of(t);
-            judge::judge_table(&text[25..], &stop, &weight, &height, t.nodes, g, number)
-        }
-    }
 }
 
 // The turned table's text: for any text and any buffer. The text goes to the start of the buffer, whose other bytes stay; a refused call

@@ -12,10 +12,10 @@ use Rattle.table.specs.Tree.{Kind, MAX, MIN, CHANCE, Forest, end, leaf, inner}
 use Rattle.table.specs.Accepted.{Filled}
 use Rattle.table.specs.Root.{Side, AtM, AtN, undecided, decided, sideOf, rootOf, children}
 use Rattle.worth.specs.Worth.{Share}
-use Rattle.worth.specs.Heights.{tallest, shortest, heightValue, heightShares, firstHeight}
+use Rattle.worth.specs.Inside.Heights.{tallest, shortest, heightValue, heightShares, firstHeight}
 use Rattle.worth.proofs.Bounds.{Each}
 use Rattle.worth.proofs.Shift.{Some, some-shares}
-use Rattle.judge.specs.Heights.{heightLoss, heightLevels, Ahead}
+use Rattle.judge.specs.Inside.Heights.{heightLoss, heightLevels, Ahead}
 
 -- a root is decided or not
 pub no-decision : (s : Side) → undecided ≡ decided s → ⊥
@@ -64,10 +64,10 @@ shortest-bottom b (x ∷ y ∷ ys) h = (over (x .worth) (shortest (y ∷ ys)) h,
     over′ : (m n : ℕ) → b ≤ min m n → b ≤ n
     over′ m n h = omega arith
 
-value-ahead : (T : ℕ) (s : Side) (xs : List (Share ℕ)) → Each (Ahead s (heightValue T (kindAt s) xs)) xs
+value-ahead : (s : Side) (xs : List (Share ℕ)) → Each (Ahead s (heightValue (kindAt s) xs)) xs
 unfolding heightValue
-value-ahead T AtM xs = tallest-top (tallest xs) xs (omega arith)
-value-ahead T AtN xs = shortest-bottom (shortest xs) xs (omega arith)
+value-ahead AtM xs = tallest-top (tallest xs) xs (omega arith)
+value-ahead AtN xs = shortest-bottom (shortest xs) xs (omega arith)
 
 -- ---- some is as good
 
@@ -108,10 +108,10 @@ shortest-met (x ∷ y ∷ ys) s = go (shortest-met (y ∷ ys) tt)
       | no h ↦ let l : shortest (y ∷ ys) ≤ x .worth = omega arith in rw (min-eq-right l) (met-later x (y ∷ ys) (shortest (y ∷ ys)) m)
     ]
 
-value-met : (T : ℕ) (s : Side) (xs : List (Share ℕ)) → Some xs → Met xs (heightValue T (kindAt s) xs)
+value-met : (s : Side) (xs : List (Share ℕ)) → Some xs → Met xs (heightValue (kindAt s) xs)
 unfolding heightValue
-value-met T AtM xs m = tallest-met xs m
-value-met T AtN xs m = shortest-met xs m
+value-met AtM xs m = tallest-met xs m
+value-met AtN xs m = shortest-met xs m
 
 -- ---- losses
 
@@ -132,18 +132,18 @@ met-level s G b (suc k) (y ∷ ys) x e w g = omega (arith, met-level s G b k ys 
 
 -- ---- the root
 
-module _ (T G : ℕ) where
+module _ (G : ℕ) where
   pub best-ahead : (s : Side) (F : Forest ℕ) → rootOf F ≡ decided s
-      → Each (Ahead s (firstHeight (heightShares T G F))) (heightShares T G (children F))
+      → Each (Ahead s (firstHeight (heightShares G F))) (heightShares G (children F))
   unfolding heightShares
   best-ahead s end e = absurd (no-decision s e)
   best-ahead s (leaf n w v rest) e = absurd (no-decision s e)
-  best-ahead s (inner n w k under rest) e = rw (kind-side k s e) (value-ahead T s (heightShares T G under))
+  best-ahead s (inner n w k under rest) e = rw (kind-side k s e) (value-ahead s (heightShares G under))
 
   pub best-met : (s : Side) (F : Forest ℕ) → Filled F → rootOf F ≡ decided s
-      → Met (heightShares T G (children F)) (firstHeight (heightShares T G F))
+      → Met (heightShares G (children F)) (firstHeight (heightShares G F))
   unfolding heightShares
   best-met s end f e = absurd (no-decision s e)
   best-met s (leaf n w v rest) f e = absurd (no-decision s e)
   best-met s (inner n w k under rest) f e =
-      rw (kind-side k s e) (value-met T s (heightShares T G under) (some-shares T G under (f .0)))
+      rw (kind-side k s e) (value-met s (heightShares G under) (some-shares G under (f .0)))

@@ -1,5 +1,5 @@
 -- The judgement of every accepted table: its losses over heights, none negative, and a best child. Assumes nothing.
-use Prim.Native.Nat.{ℕ, suc, _+_, _≤_, _<_}
+use Prim.Native.Nat.{ℕ, suc, _+_, _≤_}
 use mathlib.Core.Path.{_≡_, refl, sym, ap, ap₂, _∙_}
 use mathlib.Core.Bool.{Bool, true, false}
 use mathlib.Core.List.{List, _∷_, map}
@@ -17,17 +17,17 @@ use Rattle.line.specs.Line.{Within}
 use Rattle.table.specs.Tree.{Forest, end, leaf, inner, isChance}
 use Rattle.table.specs.Table.{Table, tree, readText, greatest, grain}
 use Rattle.table.specs.Slices.{heightTree}
-use Rattle.table.specs.Accepted.{one, Filled, Balanced, Proper}
+use Rattle.table.specs.Accepted.{one, Filled, Proper}
 use Rattle.table.specs.Root.{Side, Root, undecided, decided, rootOf, children, nodes, numbered}
 use Rattle.table.proofs.Heights.{above, mapForest, heights-map}
-use Rattle.table.proofs.Accepted.{accepted-ranged, accepted-proper, accepted-filled, accepted-balanced, heights-filled}
+use Rattle.table.proofs.Accepted.{accepted-ranged, accepted-proper, accepted-filled, heights-filled}
 use Rattle.worth.specs.Worth.{Share, shares, worthOf}
-use Rattle.worth.specs.Heights.{heightShares, heightWorth, raised}
+use Rattle.worth.specs.Inside.Heights.{heightShares, heightWorth, raised}
 use Rattle.worth.proofs.Bounds.{Each}
-use Rattle.worth.proofs.Shift.{shares-shift}
-use Rattle.worth.proofs.Worth.{shift}
+use Rattle.worth.proofs.Shift.{Divides, shares-shift}
+use Rattle.worth.proofs.Worth.{divides, shift}
 use Rattle.judge.specs.Judge.{childWorths, lossAt, levels, noDecision, judged, judgeChild, judgeAt, judge}
-use Rattle.judge.specs.Heights.{heightWorths, heightLoss, heightLevels, heightJudgeChild, heightJudgeAt, heightJudge, Ahead}
+use Rattle.judge.specs.Inside.Heights.{heightWorths, heightLoss, heightLevels, heightJudgeChild, heightJudgeAt, heightJudge, Ahead}
 use Rattle.judge.proofs.Best.{Met, none-lost, met-level, best-ahead, best-met}
 use Rattle.judge.proofs.Shift.{mapped, numbered-map, numbered-each, loss-shift, levels-shift, judge-shift}
 
@@ -51,14 +51,13 @@ module _ {A B : Type 0} (g : A → B) where
   nodes-map (inner n w k under rest) = ap (λ (ns : List ℕ). n ∷ ns) (nodes-map rest)
 
 -- the children of the first node
-children-shift : (T G : ℕ) (h : Head) (T-pos : 0 < T) (K d c : ℕ) (u : Bool) (F : Forest ℤ)
-    → Proper T K (Within h) d c u F → Filled F → Balanced T F
-    → shares T G (children F) ≡ map (raised (h .lowest *ℤ pos G)) (heightShares T G (mapForest (above (h .lowest)) (children F)))
+children-shift : (G : ℕ) (h : Head) (T K d c : ℕ) (u : Bool) (F : Forest ℤ) → Proper T K (Within h) d c u F → Filled F → Divides F
+    → shares G (children F) ≡ map (raised (h .lowest *ℤ pos G)) (heightShares G (mapForest (above (h .lowest)) (children F)))
 unfolding shares heightShares
-children-shift T G h T-pos K d c u end p f b = refl
-children-shift T G h T-pos K d c u (leaf n w v rest) p f b = refl
-children-shift T G h T-pos K d c u (inner n w k under rest) p f b =
-    shares-shift T G h T-pos K (suc d) (c + one k) (isChance k) under (p .3) (f .1) (b .1)
+children-shift G h T K d c u end p f b = refl
+children-shift G h T K d c u (leaf n w v rest) p f b = refl
+children-shift G h T K d c u (inner n w k under rest) p f b =
+    shares-shift G h T K (suc d) (c + one k) (isChance k) under (p .3) (f .1) (b .1)
 
 -- ---- one child over heights and over the integers
 
@@ -120,12 +119,11 @@ module _ (s : List ℕ) (t : Table) (h : readText s ≡ fine t) where
 
   pub worths-heights : childWorths t ≡ map (raised base) (heightWorths t)
   worths-heights =
-      children-shift (t .head .total) (grain t) (t .head) (accepted-ranged s t h .some) (greatest (t .lines)) 0 0 false (tree t)
-      (accepted-proper s t h) (accepted-filled s t h) (accepted-balanced s t h)
-      ∙ ap (λ (F : Forest ℕ). map (raised base) (heightShares (t .head .total) (grain t) F)) children-heights
+      children-shift (grain t) (t .head) (t .head .total) (greatest (t .lines)) 0 0 false (tree t) (accepted-proper s t h) (accepted-filled s t h) (divides s t h)
+      ∙ ap (λ (F : Forest ℕ). map (raised base) (heightShares (grain t) F)) children-heights
 
   pub heights-ahead : (side : Side) → rootOf (tree t) ≡ decided side → Each (Ahead side (heightWorth t)) (heightWorths t)
-  heights-ahead side e = best-ahead (t .head .total) (grain t) side (heightTree t) (root-heights ∙ e)
+  heights-ahead side e = best-ahead (grain t) side (heightTree t) (root-heights ∙ e)
 
   -- the whole judgement
   pub judge-heights : (i : ℤ) → judge t i ≡ heightJudge t i
@@ -155,7 +153,7 @@ module _ (s : List ℕ) (t : Table) (h : readText s ≡ fine t) where
         not-below (heightLoss side (heightWorth t) (y .worth)) (lossAt side (worthOf t) (x .worth)) (sym q)
 
     met : Met (heightWorths t) (heightWorth t)
-    met = best-met (t .head .total) (grain t) side (heightTree t) (heights-filled s t h) (root-heights ∙ e)
+    met = best-met (grain t) side (heightTree t) (heights-filled s t h) (root-heights ∙ e)
 
     -- some child has loss 0
     pub best-child : (i : ℤ) × (x : Share ℤ) × (numbered i (childWorths t) ≡ some x) × (lossAt side (worthOf t) (x .worth) ≡ pos 0)

@@ -7,5 +7,5 @@ pub mod Walk
 pub mod Run
 pub mod Worths
 pub mod Root
-pub mod Answer
+pub mod Call
 pub mod Plays

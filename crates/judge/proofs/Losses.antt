@@ -5,7 +5,7 @@ use mathlib.Core.Bool.{Bool, true, false, cond}
 use native.Mathlib.Omega.{arith}
 use borrow.Author.Tests.{lt-ltb, le-ltb}
 use Rattle.table.specs.Root.{Side}
-use Rattle.judge.specs.Heights.{heightLoss, Ahead}
+use Rattle.judge.specs.Inside.Heights.{heightLoss, Ahead}
 use Rattle.judge.specs.Inside.{sideIf, better, levelOne}
 
 module _ (m : Bool) (best h : ℕ) where

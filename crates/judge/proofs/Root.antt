@@ -11,18 +11,18 @@ use Rattle.line.specs.declared.Refusal.the-variants.{NoChild}
 use Rattle.line.specs.Refusal.{refused, fine}
 use Rattle.line.specs.Line.{letterCode, toNat}
 use Rattle.table.specs.Tree.{MAX, MIN, CHANCE, Forest, end, leaf, inner}
-use Rattle.table.specs.Accepted.{Filled, Rooted}
+use Rattle.table.specs.Accepted.{Rooted}
 use Rattle.table.specs.Slices.{laid}
 use Rattle.table.specs.declared.Play.{Play}
 use Rattle.table.specs.declared.Play.the-variants.{Child, NoPlay}
 use Rattle.table.specs.Root.{Side, AtM, AtN, Root, undecided, decided, rootOf, children, numbered, playOf}
 use Rattle.scale.specs.declared.Scale.{Scale}
 use Rattle.worth.specs.Worth.{Share}
-use Rattle.worth.specs.Heights.{heightValue, heightShares, firstHeight, SmallWorths}
-use Rattle.worth.specs.Inside.{kindIn, Beside, Lays}
+use Rattle.worth.specs.Inside.Heights.{heightValue, heightShares, firstHeight}
+use Rattle.worth.specs.Inside.{kindIn, Beside, Lays, Fits}
 use Rattle.worth.proofs.Run.{lays-le}
 use Rattle.judge.specs.Judge.{noDecision, judged}
-use Rattle.judge.specs.Heights.{heightLoss, heightLevels, heightJudgeChild, heightJudgeAt, Ahead}
+use Rattle.judge.specs.Inside.Heights.{heightLoss, heightLevels, heightJudgeChild, heightJudgeAt, Ahead}
 use Rattle.judge.specs.Inside.{Chained, Chain, heightsIn, Here, Room, Under, Listed, bestIn, AllAhead, levelsIn, forestJudge, Decided}
 use Rattle.judge.proofs.Best.{no-decision, best-ahead}
 use Rattle.judge.proofs.Shift.{numbered-each}
@@ -46,33 +46,33 @@ lays-chained S c e s (inner n w k under rest) l =
     let later : c + 1 ≤ j = lays-le S (c + 1) j (take (25 * (j - (c + 1))) (drop 25 s)) under (l .2) in
     (refl, omega (arith, later), lays-chained S j e (drop (25 * (j - c)) s) rest (l .3))
 
-missing : (S : List ℕ) (T G k c : ℕ) (f : Forest ℕ) → getElem? (starts S c f) k ≡ none → getElem? (heightShares T G f) k ≡ none
+missing : (S : List ℕ) (G k c : ℕ) (f : Forest ℕ) → getElem? (starts S c f) k ≡ none → getElem? (heightShares G f) k ≡ none
 unfolding heightShares
-missing S T G k c end e = refl
-missing S T G zero c (leaf n w v rest) e = let z : _≡_ {A = ℕ} 0 1 = cc in absurd (omega arith)
-missing S T G zero c (inner n w kind under rest) e = let z : _≡_ {A = ℕ} 0 1 = cc in absurd (omega arith)
-missing S T G (suc k) c (leaf n w v rest) e = missing S T G k (getD S c 0) rest e
-missing S T G (suc k) c (inner n w kind under rest) e = missing S T G k (getD S c 0) rest e
+missing S G k c end e = refl
+missing S G zero c (leaf n w v rest) e = let z : _≡_ {A = ℕ} 0 1 = cc in absurd (omega arith)
+missing S G zero c (inner n w kind under rest) e = let z : _≡_ {A = ℕ} 0 1 = cc in absurd (omega arith)
+missing S G (suc k) c (leaf n w v rest) e = missing S G k (getD S c 0) rest e
+missing S G (suc k) c (inner n w kind under rest) e = missing S G k (getD S c 0) rest e
 
-number-missing : (S : List ℕ) (T G c : ℕ) (f : Forest ℕ) (z : ℤ) → numbered z (starts S c f) ≡ none → numbered z (heightShares T G f) ≡ none
-number-missing S T G c f (pos zero) e = refl
-number-missing S T G c f (pos (suc k)) e = missing S T G k c f e
-number-missing S T G c f (negsuc k) e = refl
+number-missing : (S : List ℕ) (G c : ℕ) (f : Forest ℕ) (z : ℤ) → numbered z (starts S c f) ≡ none → numbered z (heightShares G f) ≡ none
+number-missing S G c f (pos zero) e = refl
+number-missing S G c f (pos (suc k)) e = missing S G k c f e
+number-missing S G c f (negsuc k) e = refl
 
 -- there is a share for every node
-present : (S : List ℕ) (T G k c i : ℕ) (f : Forest ℕ) → getElem? (starts S c f) k ≡ some i → (x : Share ℕ) × (getElem? (heightShares T G f) k ≡ some x)
+present : (S : List ℕ) (G k c i : ℕ) (f : Forest ℕ) → getElem? (starts S c f) k ≡ some i → (x : Share ℕ) × (getElem? (heightShares G f) k ≡ some x)
 unfolding heightShares
-present S T G k c i end e = let z : _≡_ {A = ℕ} 0 1 = cc in absurd (omega arith)
-present S T G zero c i (leaf n w v rest) e = (record { weight = w; worth = v * G }, refl)
-present S T G zero c i (inner n w kind under rest) e = (record { weight = w; worth = heightValue T kind (heightShares T G under) }, refl)
-present S T G (suc k) c i (leaf n w v rest) e = present S T G k (getD S c 0) i rest e
-present S T G (suc k) c i (inner n w kind under rest) e = present S T G k (getD S c 0) i rest e
+present S G k c i end e = let z : _≡_ {A = ℕ} 0 1 = cc in absurd (omega arith)
+present S G zero c i (leaf n w v rest) e = (record { weight = w; worth = v * G }, refl)
+present S G zero c i (inner n w kind under rest) e = (record { weight = w; worth = heightValue kind (heightShares G under) }, refl)
+present S G (suc k) c i (leaf n w v rest) e = present S G k (getD S c 0) i rest e
+present S G (suc k) c i (inner n w kind under rest) e = present S G k (getD S c 0) i rest e
 
-number-present : (S : List ℕ) (T G c i : ℕ) (f : Forest ℕ) (z : ℤ) → numbered z (starts S c f) ≡ some i
-    → (x : Share ℕ) × (numbered z (heightShares T G f) ≡ some x)
-number-present S T G c i f (pos zero) e = let z : _≡_ {A = ℕ} 0 1 = cc in absurd (omega arith)
-number-present S T G c i f (pos (suc k)) e = present S T G k c i f e
-number-present S T G c i f (negsuc k) e = let z : _≡_ {A = ℕ} 0 1 = cc in absurd (omega arith)
+number-present : (S : List ℕ) (G c i : ℕ) (f : Forest ℕ) (z : ℤ) → numbered z (starts S c f) ≡ some i
+    → (x : Share ℕ) × (numbered z (heightShares G f) ≡ some x)
+number-present S G c i f (pos zero) e = let z : _≡_ {A = ℕ} 0 1 = cc in absurd (omega arith)
+number-present S G c i f (pos (suc k)) e = present S G k c i f e
+number-present S G c i f (negsuc k) e = let z : _≡_ {A = ℕ} 0 1 = cc in absurd (omega arith)
 
 -- what a play says of the number
 play-child : (o : Option ℕ) (i : ℕ) → Child i ≡ playOf o → o ≡ some i
@@ -87,19 +87,17 @@ play-none (some j) e = let z : _≡_ {A = ℕ} 0 1 = cc in absurd (omega arith)
 
 module _ (S : Beside) (g : Scale) (n : ℕ) (s : List ℕ) where
   -- the lines after the root's own are its children's
-  children-here : (side : Side) (f : Forest ℕ) → Lays S 0 n s f → Filled f → SmallWorths (g .total) (g .grain) (g .top) f
-      → length s ≡ 25 * n → Rooted f → rootOf f ≡ decided side → Here S g n s 1 (children f)
+  children-here : (side : Side) (f : Forest ℕ) → Lays S 0 n s f → Fits g f → length s ≡ 25 * n → Rooted f → rootOf f ≡ decided side → Here S g n s 1 (children f)
   unfolding Lays
-  children-here side end l F M h r e = absurd r
-  children-here side (leaf m w v rest) l F M h r e = absurd (no-decision side e)
-  children-here side (inner m w k under rest) l F M h r e =
+  children-here side end l F h r e = absurd r
+  children-here side (leaf m w v rest) l F h r e = absurd (no-decision side e)
+  children-here side (inner m w k under rest) l F h r e =
       let j : ℕ = getD (S .stops) 0 0 in
       let stop : j ≡ n = subst (λ (f : Forest ℕ). Lays S j n (drop (25 * (j - 0)) s) f) (r .2) (l .3) in
       let all : take (25 * (n - 1)) (drop 25 s) ≡ drop 25 s = take-all (25 * (n - 1)) (drop 25 s) (omega (arith, length-drop 25 s)) in
       record {
         lays = subst (λ (t : List ℕ). Lays S 1 n t under) all (subst (λ (i : ℕ). Lays S 1 i (take (25 * (i - 1)) (drop 25 s)) under) stop (l .2));
-        filled = F .1;
-        small = M .2;
+        fits = record { filled = F .filled .1; small = F .small .1; totals = F .totals .1 };
       }
 
   module _ (side : Side) (D : Decided S g n s side) where
@@ -107,10 +105,10 @@ module _ (S : Beside) (g : Scale) (n : ℕ) (s : List ℕ) where
     tree = D .whole .ready .nodes
 
     abbrev pub height : ℕ
-    height = firstHeight (heightShares (g .total) (g .grain) tree)
+    height = firstHeight (heightShares (g .grain) tree)
 
     abbrev pub kids : List (Share ℕ)
-    kids = heightShares (g .total) (g .grain) (children tree)
+    kids = heightShares (g .grain) (children tree)
 
     room-of : Room S g n s
     room-of =
@@ -120,7 +118,7 @@ module _ (S : Beside) (g : Scale) (n : ℕ) (s : List ℕ) where
     here : Here S g n s 1 (children tree)
     here =
         let R = D .whole .ready in
-        children-here side tree (R .lays) (R .fits .filled) (R .fits .small) (room-of .long) (D .whole .rooted) (D .root)
+        children-here side tree (R .lays) (R .fits) (room-of .long) (D .whole .rooted) (D .root)
 
     pub chain-of : Chain (S .stops) n
     chain-of =
@@ -145,7 +143,7 @@ module _ (S : Beside) (g : Scale) (n : ℕ) (s : List ℕ) where
           ap (take m) (told .1) ∙ take-at (heightsIn kids) (drop (length (heightsIn kids)) came) m (sym (told .0))
 
       pub list-some : 0 < m
-      list-some = omega (arith, told .0, kids-some (g .total) (g .grain) side tree (D .whole .ready .fits .filled) (D .root))
+      list-some = omega (arith, told .0, kids-some (g .grain) side tree (D .whole .ready .fits .filled) (D .root))
 
       pub list-room : m ≤ length list
       list-room = omega (arith, told .0, ap length (told .1), length-append (heightsIn kids) (drop (length (heightsIn kids)) came))
@@ -161,12 +159,12 @@ module _ (S : Beside) (g : Scale) (n : ℕ) (s : List ℕ) where
 
       pub best-of : (r : ℕ) → r ≡ bestIn side (take m list) → r ≡ height
       best-of r e =
-          e ∙ ap (bestIn side) front ∙ best-root (g .total) (g .grain) side tree (D .whole .ready .fits .filled) (D .root)
+          e ∙ ap (bestIn side) front ∙ best-root (g .grain) side tree (D .whole .ready .fits .filled) (D .root)
 
       module _ (best : ℕ) (b : best ≡ height) where
         pub ahead-of : AllAhead side best (take m list)
         ahead-of =
-            rw (b, front) (all-ahead side height kids (best-ahead (g .total) (g .grain) side tree (D .root)))
+            rw (b, front) (all-ahead side height kids (best-ahead (g .grain) side tree (D .root)))
 
         pub level-of : (r : ℕ) → r ≡ levelsIn side (g .grain) best (take m list) → r ≡ heightLevels side (g .grain) height kids
         level-of r e = e ∙ ap₂ (levelsIn side (g .grain)) b front ∙ levels-worths side (g .grain) height kids
@@ -179,7 +177,7 @@ module _ (S : Beside) (g : Scale) (n : ℕ) (s : List ℕ) where
     pub found : (z : ℤ) (i : ℕ) (p : Play) → p ≡ Child i → p ≡ playOf (numbered z (chain-of .nodes)) → Found z
     unfolding chain-of
     found z i p e f =
-        number-present (S .stops) (g .total) (g .grain) 1 i (children tree) z (play-child (numbered z (starts (S .stops) 1 (children tree))) i (sym e ∙ f))
+        number-present (S .stops) (g .grain) 1 i (children tree) z (play-child (numbered z (starts (S .stops) 1 (children tree))) i (sym e ∙ f))
 
     -- ---- the judgement
 
@@ -190,7 +188,7 @@ module _ (S : Beside) (g : Scale) (n : ℕ) (s : List ℕ) where
     unfolding chain-of
     well-none z p e f =
         let o : List ℕ = starts (S .stops) 1 (children tree) in
-        sym (decided-judge z ∙ ap (heightJudgeChild side (g .grain) height kids) (number-missing (S .stops) (g .total) (g .grain) 1 (children tree) z (play-none (numbered z o) (sym e ∙ f))))
+        sym (decided-judge z ∙ ap (heightJudgeChild side (g .grain) height kids) (number-missing (S .stops) (g .grain) 1 (children tree) z (play-none (numbered z o) (sym e ∙ f))))
 
     pub well-lost : (z : ℤ) (K : Found z) (best h l level : ℕ) → best ≡ height → h ≡ K .0 .worth
         → l ≡ heightLoss side best h → level ≡ heightLevels side (g .grain) height kids → fine (judged (pos l) level) ≡ forestJudge g tree z
@@ -200,7 +198,7 @@ module _ (S : Beside) (g : Scale) (n : ℕ) (s : List ℕ) where
 
     pub found-ahead : (z : ℤ) (K : Found z) (best h : ℕ) → best ≡ height → h ≡ K .0 .worth → Ahead side best h
     found-ahead z K best h b w =
-        rw (b, w) (numbered-each (Ahead side height) kids z (K .0) (best-ahead (g .total) (g .grain) side tree (D .root)) (K .1))
+        rw (b, w) (numbered-each (Ahead side height) kids z (K .0) (best-ahead (g .grain) side tree (D .root)) (K .1))
 
 -- ---- the root's letter
 
@@ -247,5 +245,5 @@ module _ (S : Beside) (n : ℕ) (s : List ℕ) where
 pub whole-undecided : (g : Scale) (f : Forest ℕ) (i : ℤ) → rootOf f ≡ undecided → fine noDecision ≡ forestJudge g f i
 whole-undecided g f i e =
     let G : ℕ = g .grain in
-    let xs : List (Share ℕ) = heightShares (g .total) G (children f) in
-    sym (ap (λ (r : Root). heightJudgeAt r G (firstHeight (heightShares (g .total) G f)) xs i) e)
+    let xs : List (Share ℕ) = heightShares G (children f) in
+    sym (ap (λ (r : Root). heightJudgeAt r G (firstHeight (heightShares G f)) xs i) e)

@@ -8,13 +8,12 @@ use lib.ListN.{length, getD, set, take, drop, length-append, length-drop}
 use lib.Seq.{length-take-le, take-take, drop-drop}
 use Rattle.line.proofs.Signs.{true-ne-false}
 use Rattle.table.specs.Tree.{MAX, Forest, end, leaf, inner, isEnd}
-use Rattle.table.specs.Accepted.{Filled}
 use Rattle.table.specs.Slices.{laid}
 use Rattle.table.proofs.Laid.{laid-more}
 use Rattle.scale.specs.declared.Scale.{Scale}
 use Rattle.worth.specs.Worth.{Share}
-use Rattle.worth.specs.Heights.{tallest, heightValue, heightShares, SmallWorths}
-use Rattle.worth.specs.Inside.{kindIn, Beside, Lays, ReadyRun, Worthy}
+use Rattle.worth.specs.Inside.Heights.{tallest, heightValue, heightShares}
+use Rattle.worth.specs.Inside.{kindIn, Beside, Lays, Fits, ReadyRun, Worthy}
 use Rattle.worth.proofs.Run.{drop-take, lays-le, lays-none, reach-less}
 use Rattle.judge.specs.Inside.{heightsIn, worthsOf, Here, Room, Under}
 
@@ -45,21 +44,19 @@ record Lead (S : Beside) (g : Scale) (c e : ℕ) (s : List ℕ) (f : Forest ℕ)
   rest : Forest ℕ
   later : c < getD (S .stops) c 0
   within : getD (S .stops) c 0 ≤ e
-  shares : heightShares (g .total) (g .grain) f ≡ share ∷ heightShares (g .total) (g .grain) rest
+  shares : heightShares (g .grain) f ≡ share ∷ heightShares (g .grain) rest
   lays : Lays S (getD (S .stops) c 0) e (drop (25 * (getD (S .stops) c 0 - c)) s) rest
-  filled : Filled rest
-  small : SmallWorths (g .total) (g .grain) (g .top) rest
+  fits : Fits g rest
   single : Lays S c (getD (S .stops) c 0) (take (25 * (getD (S .stops) c 0 - c)) s) (only f)
   some : isEnd (only f) ≡ false
-  whole : Filled (only f)
-  fits : SmallWorths (g .total) (g .grain) (g .top) (only f)
-  worth : heightValue (g .total) MAX (heightShares (g .total) (g .grain) (only f)) ≡ share .worth
+  alone : Fits g (only f)
+  worth : heightValue MAX (heightShares (g .grain) (only f)) ≡ share .worth
 
 module _ (S : Beside) (g : Scale) (c e : ℕ) (s : List ℕ) where
-  lead : (f : Forest ℕ) → Lays S c e s f → Filled f → SmallWorths (g .total) (g .grain) (g .top) f → c < e → Lead S g c e s f
+  lead : (f : Forest ℕ) → Lays S c e s f → Fits g f → c < e → Lead S g c e s f
   unfolding Lays heightShares heightValue tallest
-  lead end l F M h = absurd (omega (arith, l))
-  lead (leaf n w v rest) l F M h =
+  lead end l F h = absurd (omega (arith, l))
+  lead (leaf n w v rest) l F h =
       let j : ℕ = getD (S .stops) c 0 in
       let later : c < j = omega (arith, l .1) in
       let line = first-line c j s later in
@@ -70,8 +67,7 @@ module _ (S : Beside) (g : Scale) (c e : ℕ) (s : List ℕ) where
         within = lays-le S j e (drop (25 * (j - c)) s) rest (l .4);
         shares = refl;
         lays = l .4;
-        filled = F;
-        small = M .1;
+        fits = record { filled = F .filled; small = F .small .1; totals = F .totals };
         single = (
           ap kindIn (sym line) ∙ l .0,
           l .1,
@@ -80,25 +76,23 @@ module _ (S : Beside) (g : Scale) (c e : ℕ) (s : List ℕ) where
           refl,
         );
         some = refl;
-        whole = tt;
-        fits = (M .0, tt);
+        alone = record { filled = tt; small = (F .small .0, tt); totals = tt };
         worth = refl;
       }
-  lead (inner n w k under rest) l F M h =
+  lead (inner n w k under rest) l F h =
       let j : ℕ = getD (S .stops) c 0 in
       let part : List ℕ = take (25 * (j - (c + 1))) (drop 25 s) in
       let after : c + 1 ≤ j = lays-le S (c + 1) j part under (l .2) in
       let later : c < j = omega (arith, after) in
       let line = first-line c j s later in
       record {
-        share = record { weight = w; worth = heightValue (g .total) k (heightShares (g .total) (g .grain) under) };
+        share = record { weight = w; worth = heightValue k (heightShares (g .grain) under) };
         rest = rest;
         later = later;
         within = lays-le S j e (drop (25 * (j - c)) s) rest (l .3);
         shares = refl;
         lays = l .3;
-        filled = F .2;
-        small = M .3;
+        fits = record { filled = F .filled .2; small = F .small .2; totals = F .totals .2 };
         single = (
           ap kindIn (sym line) ∙ l .0,
           l .1,
@@ -106,8 +100,11 @@ module _ (S : Beside) (g : Scale) (c e : ℕ) (s : List ℕ) where
           refl,
         );
         some = refl;
-        whole = (F .0, F .1, tt);
-        fits = (M .0, M .1, M .2, tt);
+        alone = record {
+          filled = (F .filled .0, F .filled .1, tt);
+          small = (F .small .0, F .small .1, tt);
+          totals = (F .totals .0, F .totals .1, tt);
+        };
         worth = refl;
       }
 
@@ -118,16 +115,16 @@ pub record Child (S : Beside) (g : Scale) (n : ℕ) (s : List ℕ) (i : ℕ) (f 
   pub rest : Forest ℕ
   pub later : i < getD (S .stops) i 0
   pub within : getD (S .stops) i 0 ≤ n
-  pub shares : heightShares (g .total) (g .grain) f ≡ share ∷ heightShares (g .total) (g .grain) rest
+  pub shares : heightShares (g .grain) f ≡ share ∷ heightShares (g .grain) rest
   pub here : Here S g n s (getD (S .stops) i 0) rest
   pub ready : ReadyRun S g MAX i (getD (S .stops) i 0) (take (25 * getD (S .stops) i 0 - 25 * i) (drop (25 * i) s))
-  pub worth : heightValue (g .total) MAX (heightShares (g .total) (g .grain) (ready .nodes)) ≡ share .worth
+  pub worth : heightValue MAX (heightShares (g .grain) (ready .nodes)) ≡ share .worth
 
 module _ (S : Beside) (g : Scale) (n : ℕ) (s : List ℕ) (room : Room S g n s) where
   child-at : (i : ℕ) (f : Forest ℕ) → Here S g n s i f → i < n → Child S g n s i f
   child-at i f H h =
       let j : ℕ = getD (S .stops) i 0 in
-      let L = lead S g i n (drop (25 * i) s) f (H .lays) (H .filled) (H .small) h in
+      let L = lead S g i n (drop (25 * i) s) f (H .lays) (H .fits) h in
       let at : 25 * i + 25 * (j - i) ≡ 25 * j = omega (arith, L .later) in
       let size : 25 * (j - i) ≡ 25 * j - 25 * i = omega arith in
       let cut : drop (25 * (j - i)) (drop (25 * i) s) ≡ drop (25 * j) s =
@@ -140,13 +137,13 @@ module _ (S : Beside) (g : Scale) (n : ℕ) (s : List ℕ) (room : Room S g n s)
         shares = L .shares;
         here = record {
           lays = subst (λ (t : List ℕ). Lays S j n t (L .rest)) cut (L .lays);
-          filled = L .filled;
-          small = L .small;
+          fits = L .fits;
         };
         ready = record {
           nodes = only f;
           lays = subst (λ (m : ℕ). Lays S i j (take m (drop (25 * i) s)) (only f)) size (L .single);
-          fits = record { filled = L .whole; small = L .fits; sums = λ z. absurd (true-ne-false (sym z)) };
+          fits = L .alone;
+          total = λ z. absurd (true-ne-false (sym z));
           some = L .some;
           long = length-take-le (25 * j - 25 * i) (drop (25 * i) s) (omega (arith, length-drop (25 * i) s, room .long, L .within)) ∙ sym size;
           room = reach-less S j n (L .within) (room .room);
@@ -223,7 +220,7 @@ module _ (S : Beside) (g : Scale) (n : ℕ) (s came : List ℕ) where
     pub list-end : n ≤ i → (m ≡ length (worthsOf g (U .nodes))) × (list ≡ laid (worthsOf g (U .nodes)) came)
     list-end h =
         let L = all U in
-        let none = lays-none S (g .total) (g .grain) i n (drop (25 * i) s) (L .rest) (L .here .lays) h in
+        let none = lays-none S (g .grain) i n (drop (25 * i) s) (L .rest) (L .here .lays) h in
         let whole : worthsOf g (U .nodes) ≡ L .done =
         L .same ∙ ap (λ (xs : List (Share ℕ)). L .done ++ heightsIn xs) none ∙ append-nil (L .done) in
         (sym (ap length whole ∙ L .count), L .front ∙ ap (λ (v : List ℕ). laid v came) (sym whole))

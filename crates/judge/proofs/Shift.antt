@@ -12,10 +12,10 @@ use Rattle.numbers.proofs.Signs.{plus, minus, parts, is-unique, is-minus}
 use Rattle.numbers.proofs.Above.{lift}
 use Rattle.table.specs.Root.{Side, AtM, AtN, Root, undecided, decided, numbered}
 use Rattle.worth.specs.Worth.{Share}
-use Rattle.worth.specs.Heights.{raised}
+use Rattle.worth.specs.Inside.Heights.{raised}
 use Rattle.worth.proofs.Bounds.{Each}
 use Rattle.judge.specs.Judge.{lossAt, levels, judgeChild, judgeAt}
-use Rattle.judge.specs.Heights.{heightLoss, heightLevels, heightJudgeChild, heightJudgeAt, Ahead}
+use Rattle.judge.specs.Inside.Heights.{heightLoss, heightLevels, heightJudgeChild, heightJudgeAt, Ahead}
 
 -- ---- entries by number
 

@@ -14,10 +14,10 @@ use Rattle.table.specs.Tree.{Forest, end, leaf, inner}
 use Rattle.table.specs.Accepted.{Filled}
 use Rattle.table.specs.Root.{Side, AtM, AtN, decided, rootOf, children, numbered}
 use Rattle.worth.specs.Worth.{Share}
-use Rattle.worth.specs.Heights.{tallest, shortest, heightValue, heightShares, firstHeight}
+use Rattle.worth.specs.Inside.Heights.{tallest, shortest, heightValue, heightShares, firstHeight}
 use Rattle.worth.proofs.Bounds.{Each}
 use Rattle.worth.proofs.Shift.{Some, some-shares}
-use Rattle.judge.specs.Heights.{heightLoss, heightLevels, Ahead}
+use Rattle.judge.specs.Inside.Heights.{heightLoss, heightLevels, Ahead}
 use Rattle.judge.specs.Inside.{heightsIn, better, bestFrom, bestIn, AllAhead, levelOne, levelsIn}
 use Rattle.judge.proofs.Best.{no-decision, kindAt, kind-side}
 
@@ -39,41 +39,41 @@ numbered-worth (pos (suc k)) xs x e =
 numbered-worth (negsuc k) xs x e = let z : _≡_ {A = ℕ} 0 1 = cc in absurd (omega arith)
 
 -- one child more
-value-more : (T : ℕ) (s : Side) (x y : Share ℕ) (ys : List (Share ℕ))
-    → heightValue T (kindAt s) (x ∷ y ∷ ys) ≡ better s (x .worth) (heightValue T (kindAt s) (y ∷ ys))
+value-more : (s : Side) (x y : Share ℕ) (ys : List (Share ℕ))
+    → heightValue (kindAt s) (x ∷ y ∷ ys) ≡ better s (x .worth) (heightValue (kindAt s) (y ∷ ys))
 unfolding heightValue tallest shortest
-value-more T AtM x y ys = refl
-value-more T AtN x y ys = refl
+value-more AtM x y ys = refl
+value-more AtN x y ys = refl
 
-value-one : (T : ℕ) (s : Side) (x : Share ℕ) → heightValue T (kindAt s) (x ∷ []) ≡ x .worth
+value-one : (s : Side) (x : Share ℕ) → heightValue (kindAt s) (x ∷ []) ≡ x .worth
 unfolding heightValue tallest shortest
-value-one T AtM x = refl
-value-one T AtN x = refl
+value-one AtM x = refl
+value-one AtN x = refl
 
 better-assoc : (s : Side) (a b c : ℕ) → better s (better s a b) c ≡ better s a (better s b c)
 better-assoc AtM a b c = omega arith
 better-assoc AtN a b c = omega arith
 
-best-from : (T : ℕ) (s : Side) (a : ℕ) (x : Share ℕ) (xs : List (Share ℕ))
-    → bestFrom s a (heightsIn (x ∷ xs)) ≡ better s a (heightValue T (kindAt s) (x ∷ xs))
+best-from : (s : Side) (a : ℕ) (x : Share ℕ) (xs : List (Share ℕ))
+    → bestFrom s a (heightsIn (x ∷ xs)) ≡ better s a (heightValue (kindAt s) (x ∷ xs))
 unfolding bestFrom
-best-from T s a x [] = ap (better s a) (sym (value-one T s x))
-best-from T s a x (y ∷ ys) =
-    best-from T s (better s a (x .worth)) y ys ∙ better-assoc s a (x .worth) (heightValue T (kindAt s) (y ∷ ys))
-    ∙ ap (better s a) (sym (value-more T s x y ys))
+best-from s a x [] = ap (better s a) (sym (value-one s x))
+best-from s a x (y ∷ ys) =
+    best-from s (better s a (x .worth)) y ys ∙ better-assoc s a (x .worth) (heightValue (kindAt s) (y ∷ ys))
+    ∙ ap (better s a) (sym (value-more s x y ys))
 
-best-value : (T : ℕ) (s : Side) (xs : List (Share ℕ)) → Some xs → bestIn s (heightsIn xs) ≡ heightValue T (kindAt s) xs
+best-value : (s : Side) (xs : List (Share ℕ)) → Some xs → bestIn s (heightsIn xs) ≡ heightValue (kindAt s) xs
 unfolding bestFrom
-best-value T s [] m = absurd m
-best-value T s (x ∷ []) m = sym (value-one T s x)
-best-value T s (x ∷ y ∷ ys) m = best-from T s (x .worth) y ys ∙ sym (value-more T s x y ys)
+best-value s [] m = absurd m
+best-value s (x ∷ []) m = sym (value-one s x)
+best-value s (x ∷ y ∷ ys) m = best-from s (x .worth) y ys ∙ sym (value-more s x y ys)
 
-module _ (T G : ℕ) where
+module _ (G : ℕ) where
   -- an M or N node has a child
-  pub kids-some : (s : Side) (F : Forest ℕ) → Filled F → rootOf F ≡ decided s → 0 < length (heightsIn (heightShares T G (children F)))
+  pub kids-some : (s : Side) (F : Forest ℕ) → Filled F → rootOf F ≡ decided s → 0 < length (heightsIn (heightShares G (children F)))
   kids-some s end f e = absurd (no-decision s e)
   kids-some s (leaf n w v rest) f e = absurd (no-decision s e)
-  kids-some s (inner n w k under rest) f e = some-long (heightShares T G under) (some-shares T G under (f .0))
+  kids-some s (inner n w k under rest) f e = some-long (heightShares G under) (some-shares G under (f .0))
     where
       some-long : (xs : List (Share ℕ)) → Some xs → 0 < length (heightsIn xs)
       some-long [] m = absurd m
@@ -81,12 +81,12 @@ module _ (T G : ℕ) where
 
   -- and is worth the best of its children's worths
   pub best-root : (s : Side) (F : Forest ℕ) → Filled F → rootOf F ≡ decided s
-      → bestIn s (heightsIn (heightShares T G (children F))) ≡ firstHeight (heightShares T G F)
+      → bestIn s (heightsIn (heightShares G (children F))) ≡ firstHeight (heightShares G F)
   unfolding heightShares
   best-root s end f e = absurd (no-decision s e)
   best-root s (leaf n w v rest) f e = absurd (no-decision s e)
   best-root s (inner n w k under rest) f e =
-      rw (kind-side k s e) (best-value T s (heightShares T G under) (some-shares T G under (f .0)))
+      rw (kind-side k s e) (best-value s (heightShares G under) (some-shares G under (f .0)))
 
 pub all-ahead : (s : Side) (best : ℕ) (xs : List (Share ℕ)) → Each (Ahead s best) xs → AllAhead s best (heightsIn xs)
 all-ahead s best [] e = tt

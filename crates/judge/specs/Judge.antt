@@ -13,7 +13,7 @@ use Rattle.worth.specs.Worth.{Share, shares, worthOf}
 
 -- the root's children with their worths: "a play is worth the exact worth of the root child that it names"
 abbrev pub childWorths : Table → List (Share ℤ)
-childWorths t = shares (t .head .total) (grain t) (children (tree t))
+childWorths t = shares (grain t) (children (tree t))
 
 -- "the loss is the exact worth minus the child's at M, the child's minus the exact worth at N"
 abbrev pub lossAt : Side → (exact worth : ℤ) → ℤ

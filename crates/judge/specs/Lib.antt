@@ -1,3 +1,3 @@
 pub mod Judge
-pub mod Heights
+pub mod Call
 pub mod Inside

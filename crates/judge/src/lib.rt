@@ -3,12 +3,15 @@ ghost use mathlib.Core.Path.{_≡_};
 ghost use Prim.Native.Nat.{_-_, _<_, _≤_};
 ghost use lib.ListN.{length, getD, take};
 ghost use Rattle.line.specs.Line.{toNat};
+ghost use Rattle.table.specs.Table.{readText};
 ghost use Rattle.worth.specs.Inside.{beside};
-ghost use Rattle.judge.specs.Heights.{heightLoss, Ahead};
+ghost use Rattle.judge.specs.Call.{judgeCall};
+ghost use Rattle.judge.specs.Inside.Heights.{heightLoss, Ahead};
 ghost use Rattle.judge.specs.Inside.{sideIf, Chain, Played, Under, Listed, better, bestIn, AllAhead, levelOne, levelsIn, WholeLines, WellJudged, Decided, WellDecided};
 use line::Refusal;
 use scale::Scale;
 use table::Play;
+use table::Reading;
 
 // A root without a decision; or the loss in grains and the number of level children.
 pub enum Judged {
@@ -20,13 +23,6 @@ pub enum Judged {
 pub enum Opinion {
     Given(Judged),
     Refused(Refusal),
-}
-
-fn stop_at(stop: &[u16], i: usize) -> usize
-    requires { ⌜ i < length (now stop) ⌝ }
-    ensures { λ r. ⌜ r ≡ getD (now (stop .entry)) i 0 ⌝ }
-{
-    stop[i] as usize
 }
 
 // From child to child: any number is answered.
@@ -44,7 +40,7 @@ fn find_child(stop: &[u16], n: usize, number: i64) -> Play
             return Play::Child(i);
         }
         left = left - 1;
-        i = stop_at(stop, i);
+        i = numbers::node_at(stop, i);
     }
     Play::NoPlay
 }
@@ -87,7 +83,7 @@ fn list_worths(
     let mut m: usize = 0;
     let mut i: usize = 1;
     while i < n {
-        let e = stop_at(stop, i);
+        let e = numbers::node_at(stop, i);
         list[m] = worth::worth_of(&lines[25 * i..25 * e], stop, weight, height, i, e, g);
         m += 1;
         i = e;
@@ -107,9 +103,9 @@ fn better_of(max: bool, a: u64, h: u64) -> u64
     ensures { λ r. ⌜ r ≡ better (sideIf max) a h ⌝ }
 {
     if max {
-        return if a < h { h } else { a };
+        return numbers::max_of(a, h);
     }
-    if h < a { h } else { a }
+    numbers::min_of(a, h)
 }
 
 // The best of the first m worths.
@@ -188,4 +184,21 @@ pub fn judge_table(
         return judge_root(lines, stop, weight, height, n, g, false, number);
     }
     Opinion::Given(Judged::NoDecision)
+}
+
+// The play of root child `number`, counted from 1, judged: for any text and any number.
+pub fn judge_play(text: &[u8], number: i64) -> Opinion
+    ensures { λ r. ⌜ r ≡ judgeCall (readText (now (text .entry))) number ⌝ }
+{
+    let mut kind = [0u8; 1024];
+    let mut stop = [0u16; 1024];
+    let mut weight = [0u8; 1024];
+    let mut height = [0u32; 1024];
+    match reading::decode(text, &mut kind, &mut stop, &mut weight, &mut height) {
+        Reading::Refused(r) => Opinion::Refused(r),
+        Reading::Accepted(t) => {
+            let g = scale::scale_of(t);
+            judge_table(&text[25..], &stop, &weight, &height, t.nodes, g, number)
+        }
+    }
 }

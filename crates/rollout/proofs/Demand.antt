@@ -16,10 +16,10 @@ use Rattle.table.specs.Table.{Table, tree, readText, grain}
 use Rattle.table.specs.Slices.{heightTree}
 use Rattle.table.specs.Accepted.{span, Proper}
 use Rattle.table.proofs.Heights.{heights-map}
-use Rattle.table.proofs.Accepted.{accepted-ranged, accepted-proper, accepted-filled, accepted-balanced}
+use Rattle.table.proofs.Accepted.{accepted-proper, accepted-filled}
 use Rattle.worth.specs.Worth.{worthOf}
-use Rattle.worth.specs.Heights.{heightWorth}
-use Rattle.worth.proofs.Worth.{shift}
+use Rattle.worth.specs.Inside.Heights.{heightWorth}
+use Rattle.worth.proofs.Worth.{divides, shift}
 use Rattle.search.specs.Inside.{grained}
 use Rattle.rollout.specs.Rollout.{Kept, Walk, Rolled, lows, highs, firstOr, records, walk, roll}
 use Rattle.rollout.specs.Whole.{whole, bottom, hasChance, rolled, rolledWorth, rolledStore}
@@ -65,11 +65,11 @@ module _ (s : List ℕ) (t : Table) (h : readText s ≡ fine t) where
 
   module _ (none : hasChance t ≡ false) where
     -- without C the worth of every node is that over heights
-    every-worth : treeWorths (t .head .total) (grain t) (tree t) ≡ map (above t) (everyExact (start s t h))
+    every-worth : treeWorths (grain t) (tree t) ≡ map (above t) (everyExact (start s t h))
     every-worth =
-        rw (heights-map t) (worths-above (t .head .total) (grain t) (t .head) (accepted-ranged s t h .some) 0 far 0 0 false (tree t)
+        rw (heights-map t) (worths-above (t .head .total) (grain t) (t .head) 0 far 0 0 false (tree t)
         (subst (λ (K : ℕ). Proper (t .head .total) K (Within (t .head)) 0 0 false (tree t)) (no-chance s t h none) (accepted-proper s t h))
-        (accepted-filled s t h) (accepted-balanced s t h))
+        (accepted-filled s t h) (divides s t h))
 
     -- ---- the answer
 
@@ -135,12 +135,12 @@ module _ (s : List ℕ) (t : Table) (h : readText s ≡ fine t) where
     -- ---- the store
 
     -- "the store as last updated", and every store before it: the worth of every node lies between its low and its high
-    pub stores-hold : (n : ℕ) (p : List ℕ) → Holds (treeWorths (t .head .total) (grain t) (tree t)) (records (afterWalks t n p .kept))
+    pub stores-hold : (n : ℕ) (p : List ℕ) → Holds (treeWorths (grain t) (tree t)) (records (afterWalks t n p .kept))
     stores-hold n p =
         let d : Rolled ℕ = roll natural 0 far n p (start s t h) in
         let r : Rolls (start s t h) (d .read) (d .kept) = height-rolls s t h n p in
         let e : records (afterWalks t n p .kept) ≡ map (mapPair (above t)) (records (d .kept)) =
         ap (λ (y : Rolled ℤ). records (y .kept)) (after-above s t h n p) ∙ records-map (above t) (d .kept) in
-        let v : treeWorths (t .head .total) (grain t) (tree t) ≡ map (above t) (everyExact (d .kept)) =
+        let v : treeWorths (grain t) (tree t) ≡ map (above t) (everyExact (d .kept)) =
         every-worth ∙ ap (map (above t)) (sym (rolls-every r)) in
         subst₂ Holds (sym v) (sym e) (holds-above (bottom t) (sound-holds (d .kept) (rolls-sound r (start-sound s t h))))

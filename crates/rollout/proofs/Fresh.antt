@@ -12,7 +12,7 @@ use Rattle.table.specs.Tree.{Kind, MAX, MIN, CHANCE, Forest, end, leaf, inner, 
 use Rattle.table.specs.Accepted.{one, Proper, Filled}
 use Rattle.table.proofs.Heights.{mapForest}
 use Rattle.worth.specs.Worth.{Share}
-use Rattle.worth.specs.Heights.{tallest, shortest, heightValue, heightShares}
+use Rattle.worth.specs.Inside.Heights.{tallest, shortest, heightValue, heightShares}
 use Rattle.search.specs.Inside.{grained}
 use Rattle.rollout.specs.Rollout.{fresh, lows, highs, joined, over}
 use Rattle.rollout.specs.Heights.{natural}
@@ -83,21 +83,21 @@ shortest-over [] = refl
 shortest-over (x ∷ []) = refl
 shortest-over (x ∷ y ∷ xs) = ap (min (x .worth)) (shortest-over (y ∷ xs))
 
-pub value-over : (T c : ℕ) (k : Kind) (xs : List (Share ℕ)) → c + one k ≤ 0 → over natural k 0 (map (λ (x : Share ℕ). x .worth) xs) ≡ heightValue T k xs
+pub value-over : (c : ℕ) (k : Kind) (xs : List (Share ℕ)) → c + one k ≤ 0 → over natural k 0 (map (λ (x : Share ℕ). x .worth) xs) ≡ heightValue k xs
 unfolding heightValue
-value-over T c MAX xs p = tallest-over xs
-value-over T c MIN xs p = shortest-over xs
-value-over T c CHANCE xs p = absurd (omega arith)
+value-over c MAX xs p = tallest-over xs
+value-over c MIN xs p = shortest-over xs
+value-over c CHANCE xs p = absurd (omega arith)
 
 -- where there is no C
 pub fresh-exacts : (T : ℕ) (ok : ℕ → Type 0) (G bottom top d c : ℕ) (u : Bool) (F : Forest ℕ) → Proper T 0 ok d c u F
-    → exacts (fresh bottom top (grained G F)) ≡ map (λ (x : Share ℕ). x .worth) (heightShares T G F)
+    → exacts (fresh bottom top (grained G F)) ≡ map (λ (x : Share ℕ). x .worth) (heightShares G F)
 unfolding fresh grained exacts heightShares
 fresh-exacts T ok G b e d c u end p = refl
 fresh-exacts T ok G b e d c u (leaf n w v rest) p = ap (λ (l : List ℕ). v * G ∷ l) (fresh-exacts T ok G b e d c u rest (p .4))
 fresh-exacts T ok G b e d c u (inner n w k under rest) p =
     ap₂ (λ (x : ℕ) (l : List ℕ). x ∷ l)
-    (ap (over natural k 0) (fresh-exacts T ok G b e _ _ _ under (p .3)) ∙ value-over T c k (heightShares T G under) (p .2))
+    (ap (over natural k 0) (fresh-exacts T ok G b e _ _ _ under (p .3)) ∙ value-over c k (heightShares G under) (p .2))
     (fresh-exacts T ok G b e d c u rest (p .4))
 
 -- ---- the leaves

@@ -1,5 +1,5 @@
 -- Every store that rollouts leave holds the worth of every node. Assumes nothing.
-use Prim.Native.Nat.{ℕ, suc, _+_, _≤_, _<_}
+use Prim.Native.Nat.{ℕ, suc, _+_, _≤_}
 use mathlib.Core.Path.{_≡_, refl, sym, ap, ap₂, _∙_}
 use mathlib.Core.Bool.{Bool}
 use mathlib.Core.List.{List, [], _∷_, _++_, map}
@@ -9,11 +9,11 @@ use Rattle.numbers.proofs.Above.{leaf-shift}
 use Rattle.line.specs.declared.Head.{Head}
 use Rattle.line.specs.Line.{Within}
 use Rattle.table.specs.Tree.{Kind, Forest, end, leaf, inner, isChance}
-use Rattle.table.specs.Accepted.{one, Filled, Balanced, Proper}
+use Rattle.table.specs.Accepted.{one, Filled, Proper}
 use Rattle.table.proofs.Heights.{above as height, height-back, mapForest, map-proper}
 use Rattle.worth.specs.Worth.{value, shares, firstWorth}
-use Rattle.worth.specs.Heights.{heightValue, heightShares}
-use Rattle.worth.proofs.Shift.{shares-shift}
+use Rattle.worth.specs.Inside.Heights.{heightValue, heightShares}
+use Rattle.worth.proofs.Shift.{Divides, shares-shift}
 use Rattle.search.specs.Inside.{grained}
 use Rattle.rollout.specs.Rollout.{Kept, none, tip, knot, Pair, fresh, records, over}
 use Rattle.rollout.specs.Heights.{natural}
@@ -74,7 +74,7 @@ holds-above b (also {x} {y} p t) = (
   holds-above b t,
 )
 
-module _ (T G : ℕ) (h : Head) (some : 0 < T) (bottom top : ℕ) where
+module _ (T G : ℕ) (h : Head) (bottom top : ℕ) where
   -- the bounds that stand in the fresh tree do not matter
   abbrev start : Forest ℤ → Kept ℕ
   start F = fresh bottom top (grained G (mapForest (height (h .lowest)) F))
@@ -84,20 +84,20 @@ module _ (T G : ℕ) (h : Head) (some : 0 < T) (bottom top : ℕ) where
 
   -- one node
   node-above : (n w d c : ℕ) (k : Kind) (u : Bool) (F : Forest ℤ) → Proper T 0 (Within h) d c u (inner n w k F end) → Filled (inner n w k F end)
-      → Balanced T (inner n w k F end) → value T k (shares T G F) ≡ raise (heightValue T k (heightShares T G (mapForest (height (h .lowest)) F)))
+      → Divides (inner n w k F end) → value k (shares G F) ≡ raise (heightValue k (heightShares G (mapForest (height (h .lowest)) F)))
   unfolding shares heightShares
-  node-above n w d c k u F p f b = ap firstWorth (shares-shift T G h some 0 d c u (inner n w k F end) p f b)
+  node-above n w d c k u F p f b = ap firstWorth (shares-shift G h T 0 d c u (inner n w k F end) p f b)
 
   -- the same node, from what the fresh tree has under it
   exact-above : (d c : ℕ) (k : Kind) (F : Forest ℤ) → Proper T 0 (Within h) d (c + one k) (isChance k) F → c + one k ≤ 0
-      → over natural k 0 (exacts (start F)) ≡ heightValue T k (heightShares T G (mapForest (height (h .lowest)) F))
+      → over natural k 0 (exacts (start F)) ≡ heightValue k (heightShares G (mapForest (height (h .lowest)) F))
   exact-above d c k F p z =
       ap (over natural k 0) (fresh-exacts T (λ (x : ℕ). Unit {0}) G bottom top d (c + one k) (isChance k) (mapForest (height (h .lowest)) F)
       (map-proper (height (h .lowest)) T 0 (Within h) (λ (x : ℕ). Unit {0}) (λ v w. tt) d (c + one k) (isChance k) F p))
-      ∙ value-over T c k (heightShares T G (mapForest (height (h .lowest)) F)) z
+      ∙ value-over c k (heightShares G (mapForest (height (h .lowest)) F)) z
 
-  pub worths-above : (d c : ℕ) (u : Bool) (F : Forest ℤ) → Proper T 0 (Within h) d c u F → Filled F → Balanced T F
-      → treeWorths T G F ≡ map raise (everyExact (start F))
+  pub worths-above : (d c : ℕ) (u : Bool) (F : Forest ℤ) → Proper T 0 (Within h) d c u F → Filled F → Divides F
+      → treeWorths G F ≡ map raise (everyExact (start F))
   unfolding treeWorths everyExact fresh grained
   worths-above d c u end p f b = refl
   worths-above d c u (leaf n w v rest) p f b =

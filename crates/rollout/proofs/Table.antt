@@ -18,7 +18,7 @@ use Rattle.table.proofs.Accepted.{heights-rooted, heights-proper, heights-fille
 use Rattle.table.proofs.Runs.{size, Numbered}
 use Rattle.table.proofs.Ends.{rooted-some}
 use Rattle.worth.specs.Worth.{Share}
-use Rattle.worth.specs.Heights.{heightShares, firstHeight, heightWorth}
+use Rattle.worth.specs.Inside.Heights.{heightShares, firstHeight, heightWorth}
 use Rattle.search.specs.Inside.{grained}
 use Rattle.rollout.specs.Rollout.{Kept, fresh, firstOr, roll}
 use Rattle.rollout.specs.Whole.{hasChance}
@@ -100,7 +100,7 @@ module _ (s : List ℕ) (t : Table) (h : readText s ≡ fine t) where
     start-exact : firstOr 0 (exacts start) ≡ heightWorth t
     start-exact =
         ap (firstOr 0) (fresh-exacts (t .head .total) (λ (x : ℕ). x ≤ span (t .head)) (grain t) 0 (span (t .head) * grain t) 0 0 false (heightTree t) plain)
-        ∙ first-worth (heightShares (t .head .total) (grain t) (heightTree t))
+        ∙ first-worth (heightShares (grain t) (heightTree t))
 
     pub height-ends : (p : List ℕ)
         → (rootLow 0 (span (t .head) * grain t) (heightRolled t p .kept) ≡ heightWorth t)

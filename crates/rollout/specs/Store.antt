@@ -31,10 +31,10 @@ abbrev pub nextWalk : Table → List ℕ → Kept ℤ → Walk ℤ
 nextWalk t q f = walk whole (rootLow t f) (rootHigh t f) 0 q f
 
 -- the exact worth of every node, by node number
-unfoldable pub treeWorths : (T G : ℕ) → Forest ℤ → List ℤ
-treeWorths T G end = []
-treeWorths T G (leaf n w u rest) = (u *ℤ pos G) ∷ treeWorths T G rest
-treeWorths T G (inner n w k under rest) = value T k (shares T G under) ∷ (treeWorths T G under ++ treeWorths T G rest)
+unfoldable pub treeWorths : (G : ℕ) → Forest ℤ → List ℤ
+treeWorths G end = []
+treeWorths G (leaf n w u rest) = (u *ℤ pos G) ∷ treeWorths G rest
+treeWorths G (inner n w k under rest) = value k (shares G under) ∷ (treeWorths G under ++ treeWorths G rest)
 
 -- one record for each worth, which lies between its low and its high
 abbrev pub Holds : List ℤ → List (Pair ℤ) → Type 0

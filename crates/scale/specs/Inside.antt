@@ -14,4 +14,4 @@ pub record Spread (t : Summary) : Type 0 where
 
 -- the scale that its worth is taken by
 abbrev pub scaleFor : Summary → Scale
-scaleFor t = record { total = t .total; grain = t .grain; top = toNat (t .highest -ℤ t .lowest) * t .grain }
+scaleFor t = record { grain = t .grain; top = toNat (t .highest -ℤ t .lowest) * t .grain }

@@ -6,9 +6,8 @@ ghost use lib.Signed.{mag};
 ghost use Rattle.scale.specs.Inside.{Spread, scaleFor};
 use table::Summary;
 
-// A table's total and grain count, and the highest end's grains above the lowest.
+// A table's grain count, and the highest end's grains above the lowest.
 pub struct Scale {
-    pub total: u64,
     pub grain: u64,
     pub top: u64,
 }
@@ -20,7 +19,6 @@ pub fn scale_of(t: Summary) -> Scale
 {
     let top = line::natural(t.highest - t.lowest) * t.grain;
     Scale {
-        total: t.total,
         grain: t.grain,
         top: top,
     }

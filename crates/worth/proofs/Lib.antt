@@ -7,4 +7,4 @@ pub mod Codes
 pub mod Run
 pub mod Lone
 pub mod Text
-pub mod Judged
+pub mod Call

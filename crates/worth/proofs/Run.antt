@@ -1,22 +1,21 @@
 -- A run of lines that can be judged, one child after another: what the code of `worth_under` keeps. Assumes nothing.
 use Prim.Native.Nat.{ℕ, zero, suc, _+_, _-_, _*_, _/_, _≤_, _<_, min, max}
-use mathlib.Core.Path.{_≡_, refl, sym, ap, subst, _∙_}
+use mathlib.Core.Path.{_≡_, refl, sym, ap, ap₂, subst, _∙_}
 use mathlib.Core.Bool.{Bool, true, false}
 use mathlib.Core.List.{List, [], _∷_}
-use native.Mathlib.Nat.{mul-le-mul-left, mul-le-mul-right}
 use native.Mathlib.Omega.{arith}
 use lib.ListN.{length, getD, take, drop, length-drop}
 use lib.Seq.{length-take-le, take-nil, take-take, drop-drop}
 use Rattle.table.specs.Tree.{Kind, MAX, MIN, CHANCE, Forest, end, leaf, inner, kindOf, isChance, isEnd}
-use Rattle.table.specs.Accepted.{Filled}
 use Rattle.table.specs.Inside.{begin, taken, sealed}
 use Rattle.table.proofs.Runs.{kind-code}
 use Rattle.scale.specs.declared.Scale.{Scale}
-use Rattle.worth.specs.Worth.{Share}
-use Rattle.worth.specs.Heights.{tallest, shortest, summed, heightValue, heightShares, SmallWorths}
-use Rattle.worth.specs.Inside.{kindIn, Beside, Reach, Lays, takeAll, OkScale, ReadyRun}
-use Rattle.worth.proofs.Bounds.{Each, shortest-one, small-each}
-use Rattle.worth.proofs.Codes.{code-inner}
+use Rattle.worth.specs.Worth.{Share, total}
+use Rattle.worth.specs.Inside.Heights.{tallest, shortest, summed, heightValue, heightShares, SmallWorths}
+use Rattle.worth.specs.Inside.{kindIn, Beside, Reach, Lays, takeAll, OkScale, Fits, ReadyRun}
+use Rattle.worth.proofs.Bounds.{Each, shortest-one, summed-le, weights-shares, small-each}
+use Rattle.worth.proofs.Shift.{Some, some-shares}
+use Rattle.worth.proofs.Codes.{code-inner, mul-most}
 
 -- ---- the children of a node, one after another
 
@@ -53,23 +52,20 @@ max-zero v = omega arith
 min-below : (M v : ℕ) → v ≤ M → min M v ≡ v
 min-below M v h = omega arith
 
-taken-value : (T M : ℕ) (k : Kind) (x : Share ℕ) (xs : List (Share ℕ)) → Each (λ (v : ℕ). v ≤ M) (x ∷ xs)
-    → sealed T k (takeAll k (begin M k) (x ∷ xs)) ≡ heightValue T k (x ∷ xs)
+taken-value : (M : ℕ) (k : Kind) (xs : List (Share ℕ)) → Some xs → Each (λ (v : ℕ). v ≤ M) xs
+    → sealed (total xs) k (takeAll k (begin M k) xs) ≡ heightValue k xs
 unfolding heightValue
-taken-value T M MAX x xs e = take-max 0 (x ∷ xs) ∙ max-zero (tallest (x ∷ xs))
-taken-value T M MIN x xs e =
+taken-value M k [] s e = absurd s
+taken-value M MAX (x ∷ xs) s e = take-max 0 (x ∷ xs) ∙ max-zero (tallest (x ∷ xs))
+taken-value M MIN (x ∷ xs) s e =
     take-min M x xs ∙ min-below M (shortest (x ∷ xs)) (shortest-one (λ (v : ℕ). v ≤ M) (omega arith) (x ∷ xs) e)
-taken-value T M CHANCE x xs e =
+taken-value M CHANCE (x ∷ xs) s e =
     let z : takeAll CHANCE 0 (x ∷ xs) ≡ summed (x ∷ xs) = omega (arith, take-sum 0 (x ∷ xs)) in
-    ap (λ (v : ℕ). v / T) z
+    ap (λ (v : ℕ). v / total (x ∷ xs)) z
 
-pub value-taken : (T G M : ℕ) (k : Kind) (f : Forest ℕ) → isEnd f ≡ false → SmallWorths T G M f
-    → sealed T k (takeAll k (begin M k) (heightShares T G f)) ≡ heightValue T k (heightShares T G f)
-unfolding heightShares
-value-taken T G M k end n s = absurd (let z : _≡_ {A = ℕ} 0 1 = cc in omega arith)
-value-taken T G M k (leaf n w h rest) i s = taken-value T M k (record { weight = w; worth = h * G }) (heightShares T G rest) (small-each T G M (leaf n w h rest) s)
-value-taken T G M k (inner n w j under rest) i s =
-    taken-value T M k (record { weight = w; worth = heightValue T j (heightShares T G under) }) (heightShares T G rest) (small-each T G M (inner n w j under rest) s)
+pub value-taken : (G M : ℕ) (k : Kind) (f : Forest ℕ) → isEnd f ≡ false → SmallWorths G M f
+    → sealed (total (heightShares G f)) k (takeAll k (begin M k) (heightShares G f)) ≡ heightValue k (heightShares G f)
+value-taken G M k f n s = taken-value M k (heightShares G f) (some-shares G f n) (small-each G M f s)
 
 -- ---- lines of a part of the text
 
@@ -95,19 +91,19 @@ lays-le S c e s (inner n w k under rest) l =
     omega (arith, lays-le S (c + 1) j (take (25 * (j - (c + 1))) (drop 25 s)) under (l .2), lays-le S j e (drop (25 * (j - c)) s) rest (l .3))
 
 -- no lines are left, and so no nodes
-pub lays-none : (S : Beside) (T G c e : ℕ) (s : List ℕ) (f : Forest ℕ) → Lays S c e s f → e ≤ c → heightShares T G f ≡ []
+pub lays-none : (S : Beside) (G c e : ℕ) (s : List ℕ) (f : Forest ℕ) → Lays S c e s f → e ≤ c → heightShares G f ≡ []
 unfolding Lays heightShares
-lays-none S T G c e s end l h = refl
-lays-none S T G c e s (leaf n w v rest) l h =
+lays-none S G c e s end l h = refl
+lays-none S G c e s (leaf n w v rest) l h =
     absurd (omega (arith, l .1, lays-le S (getD (S .stops) c 0) e (drop (25 * (getD (S .stops) c 0 - c)) s) rest (l .4)))
-lays-none S T G c e s (inner n w k under rest) l h =
+lays-none S G c e s (inner n w k under rest) l h =
     let j : ℕ = getD (S .stops) c 0 in
     absurd (omega (arith, lays-le S (c + 1) j (take (25 * (j - (c + 1))) (drop 25 s)) under (l .2), lays-le S j e (drop (25 * (j - c)) s) rest (l .3)))
 
 -- the lines `part`, nodes c up to j, can be judged under the kind of the number k, and are then worth v
 pub record Child (S : Beside) (g : Scale) (k c j : ℕ) (part : List ℕ) (v : ℕ) : Type 0 where
   pub ready : ReadyRun S g (kindOf k) c j part
-  pub worth : v ≡ heightValue (g .total) (kindOf k) (heightShares (g .total) (g .grain) (ready .nodes))
+  pub worth : v ≡ heightValue (kindOf k) (heightShares (g .grain) (ready .nodes))
 
 -- the first node of the lines s of the nodes f, and the nodes after its run
 pub record Front (S : Beside) (g : Scale) (c e : ℕ) (s : List ℕ) (f : Forest ℕ) : Type 0 where
@@ -115,11 +111,10 @@ pub record Front (S : Beside) (g : Scale) (c e : ℕ) (s : List ℕ) (f : Forest
   pub rest : Forest ℕ
   pub later : c < getD (S .stops) c 0
   pub within : getD (S .stops) c 0 ≤ e
-  pub shares : heightShares (g .total) (g .grain) f ≡ share ∷ heightShares (g .total) (g .grain) rest
+  pub shares : heightShares (g .grain) f ≡ share ∷ heightShares (g .grain) rest
   pub weighs : getD (S .weights) c 0 ≡ share .weight
   pub lays : Lays S (getD (S .stops) c 0) e (drop (25 * (getD (S .stops) c 0 - c)) s) rest
-  pub filled : Filled rest
-  pub small : SmallWorths (g .total) (g .grain) (g .top) rest
+  pub fits : Fits g rest
   pub leafy : kindIn (take 25 s) ≡ 0 → share .worth ≡ getD (S .heights) c 0 * g .grain
   pub child : (kindIn (take 25 s) ≡ 0 → ⊥)
       → Child S g (kindIn (take 25 s)) (c + 1) (getD (S .stops) c 0) (take (25 * (getD (S .stops) c 0 - (c + 1))) (drop 25 s)) (share .worth)
@@ -132,11 +127,10 @@ part-long : (c e j : ℕ) (s : List ℕ) → c < j → j ≤ e → length s ≡ 
 part-long c e j s h k l = length-take-le (25 * (j - (c + 1))) (drop 25 s) (omega (arith, length-drop 25 s, l))
 
 module _ (S : Beside) (g : Scale) (c e : ℕ) (s : List ℕ) where
-  pub front : (f : Forest ℕ) → Lays S c e s f → Filled f → SmallWorths (g .total) (g .grain) (g .top) f
-      → c < e → length s ≡ 25 * (e - c) → Reach S e → e ≤ 1024 → OkScale g → Front S g c e s f
+  pub front : (f : Forest ℕ) → Lays S c e s f → Fits g f → c < e → length s ≡ 25 * (e - c) → Reach S e → e ≤ 1024 → OkScale g → Front S g c e s f
   unfolding Lays heightShares
-  front end l F M h long room few ok = absurd (omega (arith, l))
-  front (leaf n w v rest) l F M h long room few ok =
+  front end l F h long room few ok = absurd (omega (arith, l))
+  front (leaf n w v rest) l F h long room few ok =
       record {
         share = record { weight = w; worth = v * g .grain };
         rest = rest;
@@ -145,13 +139,11 @@ module _ (S : Beside) (g : Scale) (c e : ℕ) (s : List ℕ) where
         shares = refl;
         weighs = l .2;
         lays = l .4;
-        filled = F;
-        small = M .1;
+        fits = record { filled = F .filled; small = F .small .1; totals = F .totals };
         leafy = λ z. ap (λ (x : ℕ). x * g .grain) (sym (l .3));
         child = λ z. absurd (z (l .0));
       }
-  front (inner n w k under rest) l F M h long room few ok =
-      let T : ℕ = g .total in
+  front (inner n w k under rest) l F h long room few ok =
       let G : ℕ = g .grain in
       let j : ℕ = getD (S .stops) c 0 in
       let part : List ℕ = take (25 * (j - (c + 1))) (drop 25 s) in
@@ -159,126 +151,136 @@ module _ (S : Beside) (g : Scale) (c e : ℕ) (s : List ℕ) where
       let within : j ≤ e = lays-le S j e (drop (25 * (j - c)) s) rest (l .3) in
       let same : kindOf (kindIn (take 25 s)) ≡ k = ap kindOf (l .0) ∙ kind-code k in
       record {
-        share = record { weight = w; worth = heightValue T k (heightShares T G under) };
+        share = record { weight = w; worth = heightValue k (heightShares G under) };
         rest = rest;
         later = omega (arith, later);
         within = within;
         shares = refl;
         weighs = l .1;
         lays = l .3;
-        filled = F .2;
-        small = M .3;
+        fits = record { filled = F .filled .2; small = F .small .2; totals = F .totals .2 };
         leafy = λ z. absurd (code-inner k (sym (l .0) ∙ z));
         child = λ z. record {
           ready = record {
             nodes = under;
             lays = l .2;
-            fits = record { filled = F .1; small = M .2; sums = λ i. M .1 (ap isChance (sym same) ∙ i) };
-            some = F .0;
+            fits = record { filled = F .filled .1; small = F .small .1; totals = F .totals .1 };
+            total = λ i. F .totals .0 (ap isChance (sym same) ∙ i);
+            some = F .filled .0;
             long = part-long c e j s (omega (arith, later)) within long;
             room = reach-less S j e within room;
             few = omega (arith, within, few);
             scale = ok;
           };
-          worth = ap (λ (q : Kind). heightValue T q (heightShares T G under)) (sym same);
+          worth = ap (λ (q : Kind). heightValue q (heightShares G under)) (sym same);
         };
       }
 
 -- ---- the loop
 
--- Up to node i the children are taken and come to a: taking the rest from there is taking all from the start.
-pub record Going (S : Beside) (g : Scale) (k : Kind) (c e : ℕ) (s : List ℕ) (f : Forest ℕ) (a i : ℕ) : Type 0 where
+-- Up to node i the children are taken and come to a, and their weights to w: taking the rest from there is taking all from the start.
+pub record Going (S : Beside) (g : Scale) (k : Kind) (c e : ℕ) (s : List ℕ) (f : Forest ℕ) (a w i : ℕ) : Type 0 where
   pub rest : Forest ℕ
   pub from : c ≤ i
   pub upto : i ≤ e
   pub lays : Lays S i e (drop (25 * (i - c)) s) rest
-  pub filled : Filled rest
-  pub small : SmallWorths (g .total) (g .grain) (g .top) rest
-  pub same : takeAll k (begin (g .top) k) (heightShares (g .total) (g .grain) f) ≡ takeAll k a (heightShares (g .total) (g .grain) rest)
+  pub fits : Fits g rest
+  pub same : takeAll k (begin (g .top) k) (heightShares (g .grain) f) ≡ takeAll k a (heightShares (g .grain) rest)
+  pub weighed : w + total (heightShares (g .grain) rest) ≡ total (heightShares (g .grain) f)
+  pub light : w ≤ 255 * i
 
 module _ (S : Beside) (g : Scale) (k : Kind) (c e : ℕ) (s : List ℕ) where
   -- the invariant of the loop: for all that the contract speaks of
-  abbrev pub GoingAll : ℕ → ℕ → Type 0
-  GoingAll a i = (R : ReadyRun S g k c e s) → Going S g k c e s (R .nodes) a i
+  abbrev pub GoingAll : ℕ → ℕ → ℕ → Type 0
+  GoingAll a w i = (R : ReadyRun S g k c e s) → Going S g k c e s (R .nodes) a w i
 
-  pub going-start : (a : ℕ) → a ≡ begin (g .top) k → GoingAll a c
+  pub going-start : (a : ℕ) → a ≡ begin (g .top) k → GoingAll a 0 c
   going-start a p R =
       record {
         rest = R .nodes;
         from = omega arith;
         upto = lays-le S c e s (R .nodes) (R .lays);
         lays = subst (λ (t : List ℕ). Lays S c e t (R .nodes)) (sym (drop-none c s)) (R .lays);
-        filled = R .fits .filled;
-        small = R .fits .small;
-        same = ap (λ (x : ℕ). takeAll k x (heightShares (g .total) (g .grain) (R .nodes))) (sym p);
+        fits = R .fits;
+        same = ap (λ (x : ℕ). takeAll k x (heightShares (g .grain) (R .nodes))) (sym p);
+        weighed = omega arith;
+        light = omega arith;
       }
     where
       drop-none : (c : ℕ) (s : List ℕ) → drop (25 * (c - c)) s ≡ s
       drop-none c s = let z : 25 * (c - c) ≡ 0 = omega arith in rw z refl
 
   -- the first node that is left
-  abbrev pub Next : ℕ → ℕ → ReadyRun S g k c e s → Type 0
-  Next a i R = (G : Going S g k c e s (R .nodes) a i) × Front S g i e (drop (25 * (i - c)) s) (G .rest)
+  abbrev pub Next : ℕ → ℕ → ℕ → ReadyRun S g k c e s → Type 0
+  Next a w i R = (G : Going S g k c e s (R .nodes) a w i) × Front S g i e (drop (25 * (i - c)) s) (G .rest)
 
-  pub next-of : (a i : ℕ) (R : ReadyRun S g k c e s) → GoingAll a i → i < e → Next a i R
-  next-of a i R all h =
+  pub next-of : (a w i : ℕ) (R : ReadyRun S g k c e s) → GoingAll a w i → i < e → Next a w i R
+  next-of a w i R all h =
       let G = all R in (
         G,
-        front S g i e (drop (25 * (i - c)) s) (G .rest) (G .lays) (G .filled) (G .small) h
+        front S g i e (drop (25 * (i - c)) s) (G .rest) (G .lays) (G .fits) h
             (omega (arith, length-drop (25 * (i - c)) s, R .long, G .from)) (R .room) (R .few) (R .scale),
       )
 
-  pub going-turn : (a i : ℕ) (R : ReadyRun S g k c e s) (N : Next a i R) (b j : ℕ)
-      → j ≡ getD (S .stops) i 0 → b ≡ taken k a (N .1 .share .weight) (N .1 .share .worth) → Going S g k c e s (R .nodes) b j
-  unfolding takeAll
-  going-turn a i R N b j stop step =
+  going-turn : (a w i : ℕ) (R : ReadyRun S g k c e s) (N : Next a w i R) (b v j : ℕ) → j ≡ getD (S .stops) i 0 → b ≡ taken k a v (N .1 .share .worth)
+      → v ≡ N .1 .share .weight → v ≤ 255 → Going S g k c e s (R .nodes) b (w + v) j
+  unfolding takeAll total
+  going-turn a w i R N b v j stop step weight light =
       let G = N .0 in
       let F = N .1 in
-      let T : ℕ = g .total in
       let Q : ℕ = g .grain in
       let m : ℕ = getD (S .stops) i 0 in
       let at : 25 * (i - c) + 25 * (m - i) ≡ 25 * (m - c) = omega (arith, G .from, F .later) in
       let cut : drop (25 * (m - i)) (drop (25 * (i - c)) s) ≡ drop (25 * (m - c)) s =
       drop-drop (25 * (m - i)) (25 * (i - c)) s ∙ ap (λ (n : ℕ). drop n s) at in
+      let took : b ≡ taken k a (F .share .weight) (F .share .worth) = step ∙ ap (λ (n : ℕ). taken k a n (F .share .worth)) weight in
       rw stop
       (record {
         rest = F .rest;
         from = omega (arith, G .from, F .later);
         upto = F .within;
         lays = subst (λ (t : List ℕ). Lays S m e t (F .rest)) cut (F .lays);
-        filled = F .filled;
-        small = F .small;
-        same = G .same ∙ ap (takeAll k a) (F .shares) ∙ ap (λ (x : ℕ). takeAll k x (heightShares T Q (F .rest))) (sym step);
+        fits = F .fits;
+        same = G .same ∙ ap (takeAll k a) (F .shares) ∙ ap (λ (x : ℕ). takeAll k x (heightShares Q (F .rest))) (sym took);
+        weighed = omega (arith, G .weighed, ap total (F .shares), weight);
+        light = omega (arith, G .light, F .later);
       })
 
-  -- every child is taken
-  pub going-end : (a i : ℕ) (R : ReadyRun S g k c e s) → GoingAll a i → e ≤ i
-      → sealed (g .total) k a ≡ heightValue (g .total) k (heightShares (g .total) (g .grain) (R .nodes))
-  unfolding takeAll
-  going-end a i R all h =
-      let G = all R in
-      let T : ℕ = g .total in
-      let Q : ℕ = g .grain in
-      let z : takeAll k (begin (g .top) k) (heightShares T Q (R .nodes)) ≡ a =
-      G .same ∙ ap (takeAll k a) (lays-none S T Q i e (drop (25 * (i - c)) s) (G .rest) (G .lays) h) in
-      ap (sealed T k) (sym z) ∙ value-taken T Q (g .top) k (R .nodes) (R .some) (R .fits .small)
+  module _ (a w i : ℕ) (R : ReadyRun S g k c e s) (all : GoingAll a w i) (last : e ≤ i) where
+    none-left : heightShares (g .grain) (all R .rest) ≡ []
+    none-left = lays-none S (g .grain) i e (drop (25 * (i - c)) s) (all R .rest) (all R .lays) last
+
+    -- every weight is added
+    all-weighed : w ≡ total (heightShares (g .grain) (R .nodes))
+    unfolding total
+    all-weighed = omega (arith, all R .weighed, ap total none-left)
+
+    pub going-total : k ≡ CHANCE → 0 < w
+    going-total e = omega (arith, all-weighed, weights-shares (g .grain) (R .nodes), R .total (ap isChance e) .0)
+
+    -- every child is taken
+    pub going-end : sealed w k a ≡ heightValue k (heightShares (g .grain) (R .nodes))
+    unfolding takeAll
+    going-end =
+        let z : takeAll k (begin (g .top) k) (heightShares (g .grain) (R .nodes)) ≡ a = all R .same ∙ ap (takeAll k a) none-left in
+        ap₂ (λ (n : ℕ) (x : ℕ). sealed n k x) all-weighed (sym z) ∙ value-taken (g .grain) (g .top) k (R .nodes) (R .some) (R .fits .small)
 
 -- at a C the sum of all bounds every sum on the way
-sum-so-far : (a total : ℕ) (x : Share ℕ) (xs ys : List (Share ℕ))
-    → takeAll CHANCE 0 ys ≡ takeAll CHANCE a (x ∷ xs) → summed ys ≤ total → a + x .weight * x .worth ≤ total
+sum-so-far : (a most : ℕ) (x : Share ℕ) (xs ys : List (Share ℕ))
+    → takeAll CHANCE 0 ys ≡ takeAll CHANCE a (x ∷ xs) → summed ys ≤ most → a + x .weight * x .worth ≤ most
 unfolding summed
-sum-so-far a total x xs ys e h = omega (arith, take-sum 0 ys, take-sum a (x ∷ xs))
+sum-so-far a most x xs ys e h = omega (arith, take-sum 0 ys, take-sum a (x ∷ xs))
 
-pub sum-fits : (S : Beside) (g : Scale) (k : Kind) (c e : ℕ) (s : List ℕ) (a i : ℕ) (R : ReadyRun S g k c e s) (N : Next S g k c e s a i R)
+sum-fits : (S : Beside) (g : Scale) (k : Kind) (c e : ℕ) (s : List ℕ) (a w i : ℕ) (R : ReadyRun S g k c e s) (N : Next S g k c e s a w i R)
     → k ≡ CHANCE → a + N .1 .share .weight * N .1 .share .worth < 9223372036854775808
-sum-fits S g MAX c e s a i R N k = absurd (let z : _≡_ {A = Bool} false true = ap isChance k in let y : _≡_ {A = ℕ} 0 1 = cc in omega arith)
-sum-fits S g MIN c e s a i R N k = absurd (let z : _≡_ {A = Bool} false true = ap isChance k in let y : _≡_ {A = ℕ} 0 1 = cc in omega arith)
-sum-fits S g CHANCE c e s a i R N k =
-    let T : ℕ = g .total in
+sum-fits S g MAX c e s a w i R N k = absurd (let z : _≡_ {A = Bool} false true = ap isChance k in let y : _≡_ {A = ℕ} 0 1 = cc in omega arith)
+sum-fits S g MIN c e s a w i R N k = absurd (let z : _≡_ {A = Bool} false true = ap isChance k in let y : _≡_ {A = ℕ} 0 1 = cc in omega arith)
+sum-fits S g CHANCE c e s a w i R N k =
     let Q : ℕ = g .grain in
-    let G = N .0 in
+    let xs : List (Share ℕ) = heightShares Q (R .nodes) in
     let F = N .1 in
-    omega (arith, sum-so-far a (T * g .top) (F .share) (heightShares T Q (F .rest)) (heightShares T Q (R .nodes)) (G .same ∙ ap (takeAll CHANCE a) (F .shares)) (R .fits .sums refl), mul-le-mul-right (g .top) (R .scale .total), mul-le-mul-left 64 (R .scale .top))
+    let few : total xs ≤ 64 = omega (arith, weights-shares Q (R .nodes), R .total refl .1) in
+    omega (arith, sum-so-far a (total xs * g .top) (F .share) (heightShares Q (F .rest)) xs (N .0 .same ∙ ap (takeAll CHANCE a) (F .shares)) (summed-le (g .top) xs (small-each Q (g .top) (R .nodes) (R .fits .small))), mul-most (total xs) (g .top) 64 35184372088832 few (R .scale .top))
 
 -- ---- the parts of the text
 
@@ -299,7 +301,7 @@ pub record Turn (S : Beside) (c e i : ℕ) (s : List ℕ) : Type 0 where
   pub few : e ≤ 1024
   pub long : length s ≡ 25 * (e - c)
 
-module _ (S : Beside) (g : Scale) (k : Kind) (c e : ℕ) (s : List ℕ) (a i : ℕ) (R : ReadyRun S g k c e s) (N : Next S g k c e s a i R) where
+module _ (S : Beside) (g : Scale) (k : Kind) (c e : ℕ) (s : List ℕ) (a w i : ℕ) (R : ReadyRun S g k c e s) (N : Next S g k c e s a w i R) where
   pub turn-of : Turn S c e i s
   turn-of = record { from = N .0 .from; here = N .1 .later; upto = N .1 .within; room = R .room; few = R .few; long = R .long }
 
@@ -318,11 +320,11 @@ module _ (S : Beside) (g : Scale) (k : Kind) (c e : ℕ) (s : List ℕ) (a i : �
   pub leaf-of : kindIn (take 25 (drop (25 * (i - c)) s)) ≡ 0 → getD (S .heights) i 0 * g .grain ≡ N .1 .share .worth
   leaf-of none = sym (N .1 .leafy none)
 
-  -- what the child is taken with
-  pub turn-fits : (h : ℕ) → h ≡ N .1 .share .worth → k ≡ CHANCE → a + getD (S .weights) i 0 * h < 9223372036854775808
-  turn-fits h worth chance = rw (N .1 .weighs, worth) (sum-fits S g k c e s a i R N chance)
+  -- the child is worth h, and its weight is v
+  module _ (h v : ℕ) (worth : h ≡ N .1 .share .worth) (weight : v ≡ getD (S .weights) i 0) where
+    pub turn-fits : k ≡ CHANCE → a + v * h < 9223372036854775808
+    turn-fits chance = rw (weight, N .1 .weighs, worth) (sum-fits S g k c e s a w i R N chance)
 
-  pub turn-on : (h b j : ℕ) → h ≡ N .1 .share .worth → j ≡ getD (S .stops) i 0 → b ≡ taken k a (getD (S .weights) i 0) h → Going S g k c e s (R .nodes) b j
-  turn-on h b j worth stop step =
-      going-turn S g k c e s a i R N b j stop
-      (step ∙ ap (λ (w : ℕ). taken k a w h) (N .1 .weighs) ∙ ap (taken k a (N .1 .share .weight)) worth)
+    pub turn-on : (b j : ℕ) → j ≡ getD (S .stops) i 0 → b ≡ taken k a v h → v ≤ 255 → Going S g k c e s (R .nodes) b (w + v) j
+    turn-on b j stop step light =
+        going-turn S g k c e s a w i R N b v j stop (step ∙ ap (taken k a v) worth) (weight ∙ N .1 .weighs) light

@@ -1,6 +1,6 @@
 -- The worth of every accepted table: exact, within the ends, and the lowest end with the worth over heights. Assumes nothing.
-use Prim.Native.Nat.{ℕ, _*_, _≤_}
-use mathlib.Core.Path.{_≡_, sym, ap, ap₂, _∙_}
+use Prim.Native.Nat.{ℕ, _+_, _*_, _≤_, _<_}
+use mathlib.Core.Path.{_≡_, refl, sym, ap, ap₂, _∙_}
 use mathlib.Core.Bool.{true, false}
 use mathlib.Core.List.{List, [], _∷_, map}
 use native.Mathlib.Omega.{arith}
@@ -8,59 +8,83 @@ use lib.IntN.{ℤ, pos, _+ℤ_, _*ℤ_, +ℤ-idr}
 use lib.Signed.{leZ}
 use Rattle.numbers.proofs.Above.{le-above}
 use Rattle.line.specs.Refusal.{fine}
+use Rattle.table.specs.Tree.{Forest, end, leaf, inner, weigh}
 use Rattle.table.specs.Table.{Table, tree, readText, greatest, grain}
 use Rattle.table.specs.Slices.{heightTree}
-use Rattle.table.specs.Accepted.{span}
+use Rattle.table.specs.Accepted.{span, Balanced}
 use Rattle.table.proofs.Heights.{heights-map}
 use Rattle.table.proofs.Accepted.{accepted-ranged, accepted-proper, accepted-filled, accepted-balanced, heights-rooted, heights-proper, heights-balanced}
 use Rattle.table.proofs.Ends.{rooted-some, top}
-use Rattle.worth.specs.Worth.{Share, shares, worthOf, firstWorth, Exact}
-use Rattle.worth.specs.Heights.{heightShares, firstHeight, heightWorth, raised, ExactHeights, SmallWorths}
-use Rattle.worth.proofs.Bounds.{Each, small, small-each}
+use Rattle.worth.specs.Worth.{Share, total, shares, worthOf, firstWorth, TotalsAre, Exact}
+use Rattle.worth.specs.Inside.Heights.{heightShares, firstHeight, heightWorth, raised, ExactHeights, SmallWorths}
+use Rattle.worth.specs.Inside.{Totals, OkTotal}
+use Rattle.worth.proofs.Bounds.{Each, small, small-each, own-totals}
 use Rattle.worth.proofs.Even.{exact-heights}
-use Rattle.worth.proofs.Shift.{first-shift, some-shares, shares-shift, exact-shift}
+use Rattle.worth.proofs.Shift.{Divides, first-shift, some-shares, shares-shift, exact-shift}
 
 first-each : (P : ℕ → Type 0) (xs : List (Share ℕ)) → P 0 → Each P xs → P (firstHeight xs)
 first-each P [] z e = z
 first-each P (x ∷ xs) z e = e .0
 
+-- ---- own totals
+
+shares-weigh : (G : ℕ) (F : Forest ℤ) → total (shares G F) ≡ weigh F
+unfolding total shares weigh
+shares-weigh G end = refl
+shares-weigh G (leaf n w u rest) = ap (λ (x : ℕ). w + x) (shares-weigh G rest)
+shares-weigh G (inner n w k under rest) = ap (λ (x : ℕ). w + x) (shares-weigh G rest)
+
+balanced-are : (T G : ℕ) (F : Forest ℤ) → Balanced T F → TotalsAre T G F
+balanced-are T G end b = tt
+balanced-are T G (leaf n w u rest) b = balanced-are T G rest b
+balanced-are T G (inner n w k under rest) b = (λ i. shares-weigh G under ∙ b .0 i, balanced-are T G under (b .1), balanced-are T G rest (b .2))
+
 module _ (s : List ℕ) (t : Table) (h : readText s ≡ fine t) where
+  pub totals-are : TotalsAre (t .head .total) (grain t) (tree t)
+  totals-are = balanced-are (t .head .total) (grain t) (tree t) (accepted-balanced s t h)
+
   -- ---- over heights
 
-  pub heights-exact : ExactHeights (t .head .total) (grain t) (heightTree t)
+  pub heights-exact : ExactHeights (grain t) (heightTree t)
   heights-exact =
       exact-heights (t .head .total) (greatest (t .lines)) (accepted-ranged s t h .some) (λ (x : ℕ). x ≤ span (t .head)) 0 0 false (heightTree t)
-      (heights-proper s t h)
+      (heights-proper s t h) (heights-balanced s t h)
 
-  -- every node, and every sum under a C
-  pub heights-small : SmallWorths (t .head .total) (grain t) (span (t .head) * grain t) (heightTree t)
+  pub heights-small : SmallWorths (grain t) (span (t .head) * grain t) (heightTree t)
   heights-small =
-      small (t .head .total) (grain t) (greatest (t .lines)) (span (t .head)) 0 0 false (heightTree t) (heights-proper s t h) (heights-balanced s t h)
+      small (grain t) (t .head .total) (greatest (t .lines)) (span (t .head)) 0 0 false (heightTree t) (heights-proper s t h)
+
+  pub heights-totals : Totals OkTotal (heightTree t)
+  heights-totals =
+      let r = accepted-ranged s t h in
+      own-totals OkTotal (t .head .total) (r .some, r .total) (heightTree t) (heights-balanced s t h)
 
   pub height-within : heightWorth t ≤ span (t .head) * grain t
   height-within =
-      first-each (λ (x : ℕ). x ≤ span (t .head) * grain t) (heightShares (t .head .total) (grain t) (heightTree t)) (omega arith)
-      (small-each (t .head .total) (grain t) (span (t .head) * grain t) (heightTree t) heights-small)
+      first-each (λ (x : ℕ). x ≤ span (t .head) * grain t) (heightShares (grain t) (heightTree t)) (omega arith)
+      (small-each (grain t) (span (t .head) * grain t) (heightTree t) heights-small)
 
   -- ---- over the integers
 
+  pub divides : Divides (tree t)
+  divides = own-totals (λ (n : ℕ). 0 < n) (t .head .total) (accepted-ranged s t h .some) (tree t) (accepted-balanced s t h)
+
   -- the root with its worth; shares-shift of proofs/Shift.antt says it of the nodes under any node
-  pub shift-shares : shares (t .head .total) (grain t) (tree t)
-      ≡ map (raised (t .head .lowest *ℤ pos (grain t))) (heightShares (t .head .total) (grain t) (heightTree t))
+  pub shift-shares : shares (grain t) (tree t) ≡ map (raised (t .head .lowest *ℤ pos (grain t))) (heightShares (grain t) (heightTree t))
   shift-shares =
-      rw (heights-map t) (shares-shift (t .head .total) (grain t) (t .head) (accepted-ranged s t h .some) (greatest (t .lines)) 0 0 false (tree t)
-      (accepted-proper s t h) (accepted-filled s t h) (accepted-balanced s t h))
+      rw (heights-map t) (shares-shift (grain t) (t .head) (t .head .total) (greatest (t .lines)) 0 0 false (tree t) (accepted-proper s t h)
+      (accepted-filled s t h) divides)
 
   pub shift : worthOf t ≡ t .head .lowest *ℤ pos (grain t) +ℤ pos (heightWorth t)
   shift =
       ap firstWorth shift-shares
-      ∙ first-shift (t .head .lowest *ℤ pos (grain t)) (heightShares (t .head .total) (grain t) (heightTree t))
-      (some-shares (t .head .total) (grain t) (heightTree t) (rooted-some (heightTree t) (heights-rooted s t h)))
+      ∙ first-shift (t .head .lowest *ℤ pos (grain t)) (heightShares (grain t) (heightTree t))
+      (some-shares (grain t) (heightTree t) (rooted-some (heightTree t) (heights-rooted s t h)))
 
-  pub exact : Exact (t .head .total) (grain t) (tree t)
+  pub exact : Exact (grain t) (tree t)
   exact =
-      exact-shift (t .head .total) (grain t) (t .head) (accepted-ranged s t h .some) (greatest (t .lines)) 0 0 false (tree t) (accepted-proper s t h)
-      (accepted-filled s t h) (accepted-balanced s t h) (rw (heights-map t) at heights-exact)
+      exact-shift (grain t) (t .head) (t .head .total) (greatest (t .lines)) 0 0 false (tree t) (accepted-proper s t h) (accepted-filled s t h)
+      divides (rw (heights-map t) at heights-exact)
 
   pub within : (leZ (t .head .lowest *ℤ pos (grain t)) (worthOf t) ≡ true) × (leZ (worthOf t) (t .head .highest *ℤ pos (grain t)) ≡ true)
   within =

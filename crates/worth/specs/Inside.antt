@@ -1,16 +1,17 @@
 -- The worth by a run of lines: how the lines, and the slices beside them, hold nodes, and what the code computes with.
+pub mod Heights
 use Prim.Native.Nat.{ℕ, _+_, _-_, _*_, _≤_, _<_}
 use mathlib.Core.Path.{_≡_}
 use mathlib.Core.Bool.{true, false}
 use mathlib.Core.List.{List, [], _∷_}
 use lib.ListN.{length, getD, take, drop}
 use Rattle.line.specs.Line.{letterCode}
-use Rattle.table.specs.Tree.{Kind, Forest, end, leaf, inner, codeOf, isChance, isEnd}
+use Rattle.table.specs.Tree.{Kind, Forest, end, leaf, inner, codeOf, isChance, isEnd, weigh}
 use Rattle.table.specs.Accepted.{Filled}
 use Rattle.table.specs.Inside.{taken}
 use Rattle.scale.specs.declared.Scale.{Scale}
 use Rattle.worth.specs.Worth.{Share}
-use Rattle.worth.specs.Heights.{heightValue, heightShares, summed, SmallWorths}
+use Rattle.worth.specs.Inside.Heights.{heightValue, heightShares, SmallWorths}
 
 -- the number of the kind that a node line says
 abbrev pub kindIn : List ℕ → ℕ
@@ -50,24 +51,33 @@ unfoldable pub takeAll : Kind → ℕ → List (Share ℕ) → ℕ
 takeAll k a [] = a
 takeAll k a (x ∷ xs) = takeAll k (taken k a (x .weight) (x .worth)) xs
 
+-- P of every C's own total
+abbrev pub Totals : (P : ℕ → Type 0) {A : Type 0} → Forest A → Type 0
+Totals P end = Unit {0}
+Totals P (leaf n w v rest) = Totals P rest
+Totals P (inner n w k under rest) = (isChance k ≡ true → P (weigh under)) × Totals P under × Totals P rest
+
+-- "T 1 to 64"
+abbrev pub OkTotal : ℕ → Type 0
+OkTotal n = (0 < n) × (n ≤ 64)
+
 -- the numbers of an accepted table
 pub record OkScale (g : Scale) : Type 0 where
-  pub some : 0 < g .total
-  pub total : g .total ≤ 64
   pub grain : g .grain ≤ 16777216
   pub top : g .top ≤ 35184372088832
 
 -- nodes whose worths fit
-pub record Fits (g : Scale) (k : Kind) (f : Forest ℕ) : Type 0 where
+pub record Fits (g : Scale) (f : Forest ℕ) : Type 0 where
   pub filled : Filled f
-  pub small : SmallWorths (g .total) (g .grain) (g .top) f
-  pub sums : isChance k ≡ true → summed (heightShares (g .total) (g .grain) f) ≤ g .total * g .top
+  pub small : SmallWorths (g .grain) (g .top) f
+  pub totals : Totals OkTotal f
 
 -- a run of lines that can be judged: the children of a node of the kind k
 pub record ReadyRun (S : Beside) (g : Scale) (k : Kind) (c e : ℕ) (s : List ℕ) : Type 0 where
   pub nodes : Forest ℕ
   pub lays : Lays S c e s nodes
-  pub fits : Fits g k nodes
+  pub fits : Fits g nodes
+  pub total : isChance k ≡ true → OkTotal (weigh nodes)
   pub some : isEnd nodes ≡ false
   pub long : length s ≡ 25 * (e - c)
   pub room : Reach S e
@@ -76,4 +86,4 @@ pub record ReadyRun (S : Beside) (g : Scale) (k : Kind) (c e : ℕ) (s : List �
 
 -- what the nodes of a run that can be judged are worth to their parent
 abbrev pub Worthy : Beside → Scale → Kind → ℕ → ℕ → List ℕ → ℕ → Type 0
-Worthy S g k c e s r = (R : ReadyRun S g k c e s) → r ≡ heightValue (g .total) k (heightShares (g .total) (g .grain) (R .nodes))
+Worthy S g k c e s r = (R : ReadyRun S g k c e s) → r ≡ heightValue k (heightShares (g .grain) (R .nodes))

@@ -1,5 +1,5 @@
 -- The worth of a table: equation (1) of document 000, in whole grains. Document 01, 'Grains'.
-use Prim.Native.Nat.{ℕ}
+use Prim.Native.Nat.{ℕ, _+_}
 use mathlib.Core.Bool.{true}
 use mathlib.Core.List.{List, [], _∷_}
 use mathlib.Core.Path.{_≡_}
@@ -29,17 +29,22 @@ unfoldable pub weighted : List (Share ℤ) → ℤ
 weighted [] = pos 0
 weighted (x ∷ xs) = pos (x .weight) *ℤ x .worth +ℤ weighted xs
 
--- Equation (1) at a node of a kind, from its children. "The worth of a C is the sum of weight × worth over its children, divided by T".
-unfoldable pub value : (T : ℕ) → Kind → List (Share ℤ) → ℤ
-value T MAX xs = largest xs
-value T MIN xs = smallest xs
-value T CHANCE xs = floorZ (weighted xs) T
+-- "A C's weights sum to T": the sum of a node's own weights. That it is T at every C of an accepted table is a theorem (proofs/Worth.totals-are).
+unfoldable pub total : {A : Type 0} → List (Share A) → ℕ
+total [] = 0
+total (x ∷ xs) = x .weight + total xs
+
+-- Equation (1) at a node of a kind, from its children. "The worth of a C is the sum of weight × worth over its children, divided by T", the C's own total.
+unfoldable pub value : Kind → List (Share ℤ) → ℤ
+value MAX xs = largest xs
+value MIN xs = smallest xs
+value CHANCE xs = floorZ (weighted xs) (total xs)
 
 -- Each node with its worth, first to last. "a leaf is worth its utility × G"; another node is worth what equation (1) makes of its children.
-unfoldable pub shares : (T G : ℕ) → Forest ℤ → List (Share ℤ)
-shares T G end = []
-shares T G (leaf n w u rest) = record { weight = w; worth = u *ℤ pos G } ∷ shares T G rest
-shares T G (inner n w k under rest) = record { weight = w; worth = value T k (shares T G under) } ∷ shares T G rest
+unfoldable pub shares : (G : ℕ) → Forest ℤ → List (Share ℤ)
+shares G end = []
+shares G (leaf n w u rest) = record { weight = w; worth = u *ℤ pos G } ∷ shares G rest
+shares G (inner n w k under rest) = record { weight = w; worth = value k (shares G under) } ∷ shares G rest
 
 -- the worth of the first node; every accepted table has one
 abbrev pub firstWorth : List (Share ℤ) → ℤ
@@ -48,11 +53,17 @@ firstWorth (x ∷ xs) = x .worth
 
 -- the worth of a table, in grains: that of its root
 abbrev pub worthOf : Table → ℤ
-worthOf t = firstWorth (shares (t .head .total) (grain t) (tree t))
+worthOf t = firstWorth (shares (grain t) (tree t))
 
--- "that division never leaves a remainder": at every C of the tree, T × its worth is the sum of weight × worth over its children
-abbrev pub Exact : (T G : ℕ) → Forest ℤ → Type 0
-Exact T G end = Unit {0}
-Exact T G (leaf n w u rest) = Exact T G rest
-Exact T G (inner n w k under rest) =
-    (isChance k ≡ true → pos T *ℤ value T k (shares T G under) ≡ weighted (shares T G under)) × Exact T G under × Exact T G rest
+-- "A C's weights sum to T": at every C of the tree the own total, by which its worth is divided, is T
+abbrev pub TotalsAre : (T G : ℕ) → Forest ℤ → Type 0
+TotalsAre T G end = Unit {0}
+TotalsAre T G (leaf n w u rest) = TotalsAre T G rest
+TotalsAre T G (inner n w k under rest) = (isChance k ≡ true → total (shares G under) ≡ T) × TotalsAre T G under × TotalsAre T G rest
+
+-- "that division never leaves a remainder": at every C of the tree, its own total × its worth is the sum of weight × worth over its children
+abbrev pub Exact : (G : ℕ) → Forest ℤ → Type 0
+Exact G end = Unit {0}
+Exact G (leaf n w u rest) = Exact G rest
+Exact G (inner n w k under rest) =
+    (isChance k ≡ true → pos (total (shares G under)) *ℤ value k (shares G under) ≡ weighted (shares G under)) × Exact G under × Exact G rest

@@ -1,11 +1,22 @@
-// The exact worth of a run of lines, in grains above the lowest end: the kinds are those of the lines, the numbers those that were decoded.
+// The exact worth: of a run of lines, in grains above the lowest end, with the kinds that the lines say and the numbers that were decoded;
+// and the public call.
 ghost use mathlib.Core.Path.{_≡_};
 ghost use Prim.Native.Nat.{_+_, _*_, _<_, _≤_};
 ghost use lib.ListN.{length, getD, take, drop};
 ghost use Rattle.table.specs.Tree.{MAX, CHANCE, kindOf};
 ghost use Rattle.worth.specs.Inside.{kindIn, beside, ReadyRun, Worthy};
 ghost use Rattle.table.specs.Inside.{begin, taken, sealed};
+ghost use Rattle.table.specs.Table.{readText};
+ghost use Rattle.worth.specs.Call.{exactCall};
+use line::Refusal;
 use scale::Scale;
+use table::Reading;
+
+// The worth in grains and G, or a refusal.
+pub enum Exact {
+    Grains(i64, u64),
+    Refused(Refusal),
+}
 
 // The kind that the line at the byte `at` says.
 fn kind_at(run: &[u8], at: usize) -> u8
@@ -23,11 +34,11 @@ fn leaf_worth(height: &[u32], i: usize, grain: u64) -> u64
     height[i] as u64 * grain
 }
 
-fn index_at(s: &[u16], i: usize) -> usize
-    requires { ⌜ i < length (now s) ⌝ }
-    ensures { λ r. ⌜ r ≡ getD (now (s .entry)) i 0 ⌝ }
+fn weight_at(weight: &[u8], i: usize) -> u64
+    requires { ⌜ i < length (now weight) ⌝ }
+    ensures { λ r. ⌜ (r ≡ getD (now (weight .entry)) i 0) × (r ≤ 255) ⌝ }
 {
-    s[i] as usize
+    weight[i] as u64
 }
 
 // What stands before the first child of a node of kind k.
@@ -37,10 +48,10 @@ fn before_any(k: u8, top: u64) -> u64
     if k == 2 { top } else { 0 }
 }
 
-// What stands after child i, which is worth h.
-fn take_child(k: u8, a: u64, weight: &[u8], i: usize, h: u64) -> u64
-    requires { ⌜ (i < length (now weight)) × (kindOf k ≡ CHANCE → a + getD (now weight) i 0 * h < 9223372036854775808) ⌝ }
-    ensures { λ r. ⌜ r ≡ taken (kindOf k) a (getD (now (weight .entry)) i 0) h ⌝ }
+// What stands after a child of weight w, which is worth h.
+fn take_child(k: u8, a: u64, w: u64, h: u64) -> u64
+    requires { ⌜ (kindOf k ≡ CHANCE → a + w * h < 9223372036854775808) ⌝ }
+    ensures { λ r. ⌜ r ≡ taken (kindOf k) a w h ⌝ }
 {
     if k == 1 {
         return if a < h { h } else { a };
@@ -48,12 +59,12 @@ fn take_child(k: u8, a: u64, weight: &[u8], i: usize, h: u64) -> u64
     if k == 2 {
         return if h < a { h } else { a };
     }
-    a + weight[i] as u64 * h
+    a + w * h
 }
 
-// What stands after the last child.
+// What stands after the last child, where the weights of all sum to `total`.
 fn seal(k: u8, total: u64, a: u64) -> u64
-    requires { ⌜ 0 < total ⌝ }
+    requires { ⌜ (kindOf k ≡ CHANCE → 0 < total) ⌝ }
     ensures { λ r. ⌜ r ≡ sealed total (kindOf k) a ⌝ }
 {
     if k == 1 {
@@ -80,11 +91,12 @@ fn worth_under(
     ensures { λ r. ⌜ Worthy (beside (now (stop .entry)) (now (weight .entry)) (now (height .entry))) g (kindOf k) c e (now (run .entry)) r ⌝ }
 {
     let mut a = before_any(k, g.top);
+    let mut total: u64 = 0;
     let mut i = c;
     while i < e {
         let at = 25 * (i - c);
         let kind = kind_at(run, at);
-        let s = index_at(stop, i);
+        let s = numbers::node_at(stop, i);
         let mut h: u64 = 0;
         if kind == 0 {
             h = leaf_worth(height, i, g.grain);
@@ -100,10 +112,12 @@ fn worth_under(
                 g,
             );
         }
-        a = take_child(k, a, weight, i, h);
+        let w = weight_at(weight, i);
+        a = take_child(k, a, w, h);
+        total += w;
         i = s;
     }
-    seal(k, g.total, a)
+    seal(k, total, a)
 }
 
 // The worth of one node: its run of lines, nodes c up to e. A run of one line is a leaf.
@@ -123,4 +137,22 @@ pub fn worth_of(
         return leaf_worth(height, c, g.grain);
     }
     worth_under(1, run, stop, weight, height, c, e, g)
+}
+
+// The exact worth of a table, for any text.
+pub fn exact_worth(text: &[u8]) -> Exact
+    ensures { λ r. ⌜ r ≡ exactCall (readText (now (text .entry))) ⌝ }
+{
+    let mut kind = [0u8; 1024];
+    let mut stop = [0u16; 1024];
+    let mut weight = [0u8; 1024];
+    let mut height = [0u32; 1024];
+    match reading::decode(text, &mut kind, &mut stop, &mut weight, &mut height) {
+        Reading::Refused(r) => Exact::Refused(r),
+        Reading::Accepted(t) => {
+            let g = scale::scale_of(t);
+            let h = worth_of(&text[25..], &stop, &weight, &height, 0, t.nodes, g);
+            Exact::Grains(scale::in_grains(t.lowest, t.grain, h), t.grain)
+        }
+    }
 }

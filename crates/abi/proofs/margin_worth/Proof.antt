@@ -10,9 +10,9 @@ use mir.Syntax.{w64}
 use mir.Val.{toZ, ofZ}
 use Rattle.table.specs.Table.{readText}
 use Rattle.table.proofs.Places.{refused-line}
-use Rattle.engine.specs.declared.Exact.{Exact}
-use Rattle.engine.specs.declared.Exact.the-variants.{Grains, Refused}
-use Rattle.engine.specs.Calls.{exactCall}
+use Rattle.worth.specs.declared.Exact.{Exact}
+use Rattle.worth.specs.declared.Exact.the-variants.{Grains, Refused}
+use Rattle.worth.specs.Call.{exactCall}
 use Rattle.abi.specs.Numbers.{worthCode, worthNumbers, put}
 use Rattle.abi.proofs.Answers.{exact-refused, exact-small}
 use Rattle.abi.proofs.margin_worth.Statement.{statement}

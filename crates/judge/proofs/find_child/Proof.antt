@@ -48,8 +48,8 @@ returns-2 c =
 sub-left : tie.Need-sub-left Inv-loop μ-loop
 sub-left c = c .before .before .loop .inv .0
 
-stop-at-requires : tie.Need-stop-at-requires Inv-loop μ-loop
-stop-at-requires c κs =
+node-at-requires : tie.Need-node-at-requires Inv-loop μ-loop
+node-at-requires c κs =
     let s = c .before .before .before .before .before .before in
     omega (arith, c .before .loop-test .taken, s .pre .room)
 
@@ -60,7 +60,7 @@ loop-less c =
     let s = N .before .before in
     let t = c .before .before .loop-test .taken in
     let w = walk-on (now (s .args .stop)) (s .args .n) (N .natural .result) (l .loop .left) (l .loop .i) (s .pre .nodes) (l .loop .inv .1 (s .pre)) t in
-    omega (arith, c .stop-at .ensures, w .later, w .within, t)
+    omega (arith, c .node-at .ensures, w .later, w .within, t)
 
 loop-again : tie.Need-loop-again Inv-loop μ-loop
 loop-again c =
@@ -71,7 +71,7 @@ loop-again c =
     let m = c .before .if2 .left in
     let some = l .loop .inv .0 in (
       omega (arith, some, m),
-      λ C. walk-turn (now (a .stop)) (a .n) (N .natural .result) (l .loop .left) (l .loop .i) (C .nodes) (l .loop .inv .1 C) (l .loop .left - 1) (c .stop-at .result) t some m refl (c .stop-at .ensures),
+      λ C. walk-turn (now (a .stop)) (a .n) (N .natural .result) (l .loop .left) (l .loop .i) (C .nodes) (l .loop .inv .1 C) (l .loop .left - 1) (c .node-at .result) t some m refl (c .node-at .ensures),
     )
 
 returns-3 : tie.Need-returns-3 Inv-loop μ-loop
@@ -92,7 +92,7 @@ find-child-spec =
     loop-holds
     returns-2
     sub-left
-    stop-at-requires
+    node-at-requires
     loop-less
     loop-again
     returns-3)

@@ -34,8 +34,8 @@ child c U =
     let l = c .before .loop in
     list-child (beside (now (a .stop)) (now (a .weight)) (now (a .height))) (a .g) (a .n) (now (a .lines)) (now (a .list)) (l .list) (l .m) (l .i) U (l .inv .1) (c .loop-test .taken)
 
-stop-at-requires : tie.Need-stop-at-requires Inv-loop μ-loop
-stop-at-requires c κs = omega (arith, c .loop-test .taken, start-of c .pre .fits .room .stops)
+node-at-requires : tie.Need-node-at-requires Inv-loop μ-loop
+node-at-requires c κs = omega (arith, c .loop-test .taken, start-of c .pre .fits .room .stops)
 
 mul-worth-of : tie.Need-mul-worth-of Inv-loop μ-loop
 mul-worth-of c = record { fits = omega (arith, c .before .loop-test .taken, start-of (c .before) .pre .fits .few) }
@@ -43,25 +43,25 @@ mul-worth-of c = record { fits = omega (arith, c .before .loop-test .taken, star
 mul-worth-of-2 : tie.Need-mul-worth-of-2 Inv-loop μ-loop
 mul-worth-of-2 c =
     let U = start-of (c .before) .pre in
-    record { fits = omega (arith, c .stop-at .ensures, child (c .before) U .within, U .fits .few) }
+    record { fits = omega (arith, c .node-at .ensures, child (c .before) U .within, U .fits .few) }
 
 sub-worth-of : tie.Need-sub-worth-of Inv-loop μ-loop
-sub-worth-of c = omega (arith, c .stop-at .ensures, child (c .before) (start-of (c .before) .pre) .later)
+sub-worth-of c = omega (arith, c .node-at .ensures, child (c .before) (start-of (c .before) .pre) .later)
 
 part-worth-of-start : tie.Need-part-worth-of-start Inv-loop μ-loop
-part-worth-of-start c = omega (arith, c .stop-at .ensures, child (c .before) (start-of (c .before) .pre) .later)
+part-worth-of-start c = omega (arith, c .node-at .ensures, child (c .before) (start-of (c .before) .pre) .later)
 
 part-worth-of-end : tie.Need-part-worth-of-end Inv-loop μ-loop
 part-worth-of-end c =
     let U = start-of (c .before) .pre in
-    omega (arith, c .stop-at .ensures, child (c .before) U .within, U .fits .long)
+    omega (arith, c .node-at .ensures, child (c .before) U .within, U .fits .long)
 
 worth-of-requires : tie.Need-worth-of-requires Inv-loop μ-loop
 worth-of-requires c κs =
     let q = c .before .before in
     let s = start-of q in
     let a = s .args in
-    part-ready (beside (now (a .stop)) (now (a .weight)) (now (a .height))) (a .g) (a .n) (now (a .lines)) (s .pre .fits) (q .before .loop .i) (q .before .loop .inv .1 (s .pre) .rest) (child q (s .pre)) (c .before .stop-at .result) (c .before .stop-at .ensures)
+    part-ready (beside (now (a .stop)) (now (a .weight)) (now (a .height))) (a .g) (a .n) (now (a .lines)) (s .pre .fits) (q .before .loop .i) (q .before .loop .inv .1 (s .pre) .rest) (child q (s .pre)) (c .before .node-at .result) (c .before .node-at .ensures)
 
 -- what the child is worth
 worth : (c : tie.After-worth-of Inv-loop μ-loop)
@@ -71,7 +71,7 @@ worth : (c : tie.After-worth-of Inv-loop μ-loop)
 worth c U =
     let q = c .before .before .before in
     let a = start-of q .args in
-    let t = c .before .before .stop-at in
+    let t = c .before .before .node-at in
     part-worth (beside (now (a .stop)) (now (a .weight)) (now (a .height))) (a .g) (a .n) (now (a .lines)) (U .fits) (q .before .loop .i) (q .before .loop .inv .1 U .rest) (child q U) (t .result) (t .ensures) (c .worth-of .result) (c .worth-of .ensures)
 
 -- the list has an entry m
@@ -95,7 +95,7 @@ loop-less : tie.Need-loop-less Inv-loop μ-loop
 loop-less c =
     let q = c .before .before .before in
     let k = child q (start-of q .pre) in
-    omega (arith, c .before .before .stop-at .ensures, k .later, k .within, q .loop-test .taken)
+    omega (arith, c .before .before .node-at .ensures, k .later, k .within, q .loop-test .taken)
 
 loop-again : tie.Need-loop-again Inv-loop μ-loop
 unfolding child
@@ -103,7 +103,7 @@ loop-again c =
     let q = c .before .before .before in
     let l = q .before .loop in
     let a = start-of q .args in
-    let t = c .before .before .stop-at in (
+    let t = c .before .before .node-at in (
       length-set (l .list) (l .m) (c .worth-of .result) ∙ l .inv .0,
       λ U. list-turn (beside (now (a .stop)) (now (a .weight)) (now (a .height))) (a .g) (a .n) (now (a .lines)) (now (a .list)) (l .list) (l .m) (l .i) U (l .inv .1) (q .loop-test .taken) (c .worth-of .result) (l .m + 1) (t .result) (worth c U) refl (t .ensures),
     )
@@ -124,7 +124,7 @@ list-worths-spec =
     Inv-loop
     μ-loop
     loop-holds
-    stop-at-requires
+    node-at-requires
     mul-worth-of
     mul-worth-of-2
     sub-worth-of

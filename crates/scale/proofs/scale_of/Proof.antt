@@ -49,7 +49,7 @@ returns c =
     let N = c .before in
     let s = N .before .before .before in
     let t : Summary = s .args .t in
-    ap (λ (n : ℕ). record { total = t .total; grain = t .grain; top = n * t .grain }) (span-is N)
+    ap (λ (n : ℕ). record { grain = t .grain; top = n * t .grain }) (span-is N)
 
 pub scale-of-spec : {M : Type 1} → statement M
 scale-of-spec = tie.close (tie.spec sub-natural natural-requires mul-top returns)

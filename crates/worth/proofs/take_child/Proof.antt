@@ -2,9 +2,6 @@
 use Prim.Native.Nat.{_+_, _*_, _<_}
 use mathlib.Core.Path.{_≡_, refl}
 use native.Mathlib.Omega.{arith}
-use borrow.Author.Needs.{needs}
-use denote.Ref.{now}
-use lib.ListN.{getD}
 use Rattle.table.specs.Tree.{CHANCE, kindOf}
 use Rattle.worth.proofs.Codes.{kind-one, kind-two, kind-else}
 use Rattle.worth.proofs.take_child.Statement.{statement}
@@ -22,20 +19,12 @@ returns-3 c = rw (kind-two (c .before .before .before .args .k) (c .before .if3 
 returns-4 : tie.Need-returns-4
 returns-4 c = rw (kind-two (c .before .before .before .args .k) (c .before .if3 .taken)) (omega (arith, c .if4 .left))
 
-shared-slice-read-result : tie.Need-shared-slice-read-result
-shared-slice-read-result c = search needs
-
-cast-result : tie.Need-cast-result
-cast-result c = record { fits = omega (arith, c .shared-slice-known .given (c .before .before .before .args .i)) }
-
-chance : (c : tie.After-shared-slice-known) → kindOf (c .before .before .before .args .k) ≡ CHANCE
-chance c = kind-else (c .before .before .before .args .k) (c .before .before .if1 .left) (c .before .if3 .left)
+chance : (c : tie.Else3) → kindOf (c .before .before .args .k) ≡ CHANCE
+chance c = kind-else (c .before .before .args .k) (c .before .if1 .left) (c .if3 .left)
 
 -- the sum fits, and with it the product
-low : (c : tie.After-shared-slice-known)
-    → let a = c .before .before .before .args in
-    a .a + getD (now (a .weight)) (a .i) 0 * a .h < 9223372036854775808
-low c = c .before .before .before .pre .1 (chance c)
+low : (c : tie.Else3) → let a = c .before .before .args in a .a + a .w * a .h < 9223372036854775808
+low c = c .before .before .pre (chance c)
 
 mul-result : tie.Need-mul-result
 mul-result c = record { fits = omega (arith, low c) }
@@ -47,15 +36,4 @@ returns-5 : tie.Need-returns-5
 returns-5 c = rw (chance c) refl
 
 pub take-child-spec : {M : Type 1} → statement M
-take-child-spec =
-    tie.close
-    (tie.spec
-    returns
-    returns-2
-    returns-3
-    returns-4
-    shared-slice-read-result
-    cast-result
-    mul-result
-    add-result
-    returns-5)
+take-child-spec = tie.close (tie.spec returns returns-2 returns-3 returns-4 mul-result add-result returns-5)

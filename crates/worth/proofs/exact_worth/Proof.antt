@@ -1,30 +1,20 @@
--- `engine::exact_worth` meets its contract. Assumes nothing.
+-- `worth::exact_worth` meets its contract. Assumes nothing.
 use Prim.Native.Nat.{ℕ, _≤_}
-use mathlib.Core.Path.{_≡_, sym, ap, _∙_}
+use mathlib.Core.Path.{sym, ap, _∙_}
 use mathlib.Core.List.{List}
 use borrow.Author.Needs.{needs}
 use denote.Ref.{now}
 use lib.IntN.{ℤ}
-use Rattle.line.specs.declared.Refusal.{Refusal}
-use Rattle.line.specs.Refusal.{refused}
 use Rattle.table.specs.declared.Summary.{Summary}
-use Rattle.table.specs.Table.{readText}
-use Rattle.table.specs.declared.Reading.the-variants.{Refused}
 use Rattle.scale.proofs.Taken.{Taken, refused-by, taken-by, spread-at, long, grains-ready, grains-at}
-use Rattle.engine.specs.declared.Exact.the-variants.{Grains}
-use Rattle.engine.specs.Calls.{exactCall}
-use Rattle.engine.proofs.Known.{ready-at, low-at, answered-at}
-use Rattle.engine.proofs.exact_worth.Statement.{statement}
-use Rattle.engine.proofs.exact_worth.Tie as tie
+use Rattle.worth.specs.declared.Exact.the-variants.{Grains}
+use Rattle.worth.specs.Call.{exactCall}
+use Rattle.worth.proofs.Call.{ready-at, low-at, answered-at}
+use Rattle.worth.proofs.exact_worth.Statement.{statement}
+use Rattle.worth.proofs.exact_worth.Tie as tie
 
 abbrev text-of : tie.After-decode → List ℕ
 text-of R = now (R .before .before .before .before .before .before .args .text)
-
--- the reading refused x
-refused-at : (R : tie.After-decode) (x : Refusal) → R .decode .result ≡ Refused x → readText (text-of R) ≡ refused x
-refused-at R x e =
-    let l = R .decode .last .1 in
-    refused-by (text-of R) (R .decode .result) x (l .0) (l .1 .0) (l .1 .1 .0) (l .1 .1 .1 .0) (R .decode .ensures) e
 
 -- at an accepted table: the reading, the summary, and what is left
 abbrev read-of : tie.After-known-told2 → tie.After-decode
@@ -53,7 +43,7 @@ returns : tie.Need-returns
 returns c =
     let r = c .before .r .given in
     let R = c .before .before .before .before .before .before .before in
-    ap exactCall (sym (refused-at R (r .0 .0) (r .1)))
+    ap exactCall (sym (refused-by (text-of R) (R .decode .result) (r .0 .0) _ _ _ _ (R .decode .ensures) (r .1)))
 
 returns-2 : tie.Need-returns-2
 returns-2 c =

@@ -12,12 +12,12 @@ use Rattle.table.specs.Table.{Table, grain}
 use Rattle.table.specs.Slices.{heightTree}
 use Rattle.table.specs.Root.{Side, AtM, AtN, Root, undecided, decided, rootOf, children, numbered}
 use Rattle.worth.specs.Worth.{Share}
-use Rattle.worth.specs.Heights.{heightShares, heightWorth}
+use Rattle.worth.specs.Inside.Heights.{heightShares, heightWorth}
 use Rattle.judge.specs.Judge.{Judgement, noDecision, judged}
 
 -- the root's children with their worths
 abbrev pub heightWorths : Table → List (Share ℕ)
-heightWorths t = heightShares (t .head .total) (grain t) (children (heightTree t))
+heightWorths t = heightShares (grain t) (children (heightTree t))
 
 abbrev pub heightLoss : Side → (best height : ℕ) → ℕ
 heightLoss AtM best height = best - height

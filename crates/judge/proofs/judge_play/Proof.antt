@@ -1,4 +1,4 @@
--- `engine::judge_play` meets its contract. Assumes nothing.
+-- `judge::judge_play` meets its contract. Assumes nothing.
 use Prim.Native.Nat.{ℕ}
 use mathlib.Core.Path.{_≡_, sym, ap}
 use mathlib.Core.List.{List}
@@ -7,28 +7,20 @@ use denote.Ref.{now}
 use lib.IntN.{ℤ}
 use mir.Syntax.{w64}
 use mir.Val.{toZ, ofZ}
-use Rattle.line.specs.declared.Refusal.{Refusal}
-use Rattle.line.specs.Refusal.{Verdict, refused}
+use Rattle.line.specs.Refusal.{Verdict}
 use Rattle.table.specs.declared.Summary.{Summary}
-use Rattle.table.specs.Table.{Table, readText}
-use Rattle.table.specs.declared.Reading.the-variants.{Refused}
+use Rattle.table.specs.Table.{Table}
 use Rattle.scale.proofs.Taken.{Taken, refused-by, taken-by, spread-at, long}
-use Rattle.engine.specs.Calls.{judgeCall}
-use Rattle.engine.proofs.Known.{whole-at, given-at}
-use Rattle.engine.proofs.judge_play.Statement.{statement}
-use Rattle.engine.proofs.judge_play.Tie as tie
+use Rattle.judge.specs.Call.{judgeCall}
+use Rattle.judge.proofs.Call.{whole-at, given-at}
+use Rattle.judge.proofs.judge_play.Statement.{statement}
+use Rattle.judge.proofs.judge_play.Tie as tie
 
 abbrev text-of : tie.After-decode → List ℕ
 text-of R = now (R .before .before .before .before .before .before .args .text)
 
 abbrev number-of : tie.After-decode → ℤ
 number-of R = R .before .before .before .before .before .before .args .number
-
--- the reading refused x
-refused-at : (R : tie.After-decode) (x : Refusal) → R .decode .result ≡ Refused x → readText (text-of R) ≡ refused x
-refused-at R x e =
-    let l = R .decode .last .1 in
-    refused-by (text-of R) (R .decode .result) x (l .0) (l .1 .0) (l .1 .1 .0) (l .1 .1 .1 .0) (R .decode .ensures) e
 
 -- at an accepted table: the reading, the summary, and what is left
 abbrev read-of : tie.After-known-told2 → tie.After-decode
@@ -54,7 +46,7 @@ returns : tie.Need-returns
 returns c =
     let r = c .before .r .given in
     let R = c .before .before .before .before .before .before .before in
-    ap (λ (v : Verdict Table). judgeCall v (number-of R)) (sym (refused-at R (r .0 .0) (r .1)))
+    ap (λ (v : Verdict Table). judgeCall v (number-of R)) (sym (refused-by (text-of R) (R .decode .result) (r .0 .0) _ _ _ _ (R .decode .ensures) (r .1)))
 
 number-back : (s : tie.Start) → toZ w64 (ofZ w64 (s .args .number)) ≡ s .args .number
 number-back s = search needs
