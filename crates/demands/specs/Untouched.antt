@@ -17,7 +17,6 @@ use Rattle.turn.specs.Call.{turnCall, turnBytes}
 use Rattle.turn.specs.declared.Turned
 use Rattle.searching.specs.declared.Bounded
 use Rattle.searching.specs.Call.{searchCall, searchReads}
-use Rattle.searching.specs.declared.Bounded
 use Rattle.rolling.specs.declared.Record.{Record}
 use Rattle.rolling.specs.declared.Rolled
 use Rattle.rolling.specs.Call.{rollCall, rollReads, rollStore, recorded}

@@ -12,10 +12,10 @@ ghost use Rattle.table.specs.Slices.{fitted};
 ghost use Rattle.searching.specs.Call.{sought};
 ghost use Rattle.printing.specs.Program.{marginIn, marginOf, Leaf, columns, rowOf, printed, leafRow, rowsOf, outputOf};
 ghost use Rattle.printing.specs.Inside.{childMark, childMarks, Lined, playMarks, Narrow, boundRows, refusalRows};
-use searching::Bounded;
-use searching::Bounds;
 use field::Field;
 use line::Refusal;
+use searching::Bounded;
+use searching::Bounds;
 use table::Play;
 
 // ---- the input

@@ -10,12 +10,12 @@ use lib.Signed.{leZ}
 use Rattle.line.specs.declared.Head.{Head}
 use Rattle.line.specs.declared.Line.{Line}
 use Rattle.line.specs.Refusal.{fine}
-use Rattle.table.specs.Tree.{Forest}
+use Rattle.table.specs.Tree.{Forest, weigh}
 use Rattle.table.specs.Table.{Table, tree, readText, greatest, grain}
 use Rattle.table.specs.Accepted.{one, flat}
 use Rattle.table.proofs.Accepted.{accepted-flat}
 use Rattle.worth.specs.Worth.{worthOf}
-use Rattle.search.specs.Search.{Seen, searchRoot, nodeOf}
+use Rattle.search.specs.Search.{Frame, Seen, framed, searchRoot, nodeOf}
 use Rattle.search.specs.Whole.{whole, inGrains, rules, searched}
 use Rattle.promise.specs.Play.{playWorth}
 use Rattle.promise.specs.Unread.{ReadBy, Alike, alike-end, alike-leaf, alike-inner}
@@ -27,6 +27,12 @@ unfolding inGrains
 alike-grains G alike-end = alike-end
 alike-grains G (alike-leaf q a) = alike-leaf (λ p. ap (λ (v : ℤ). v *ℤ pos G) (q p)) (alike-grains G a)
 alike-grains G (alike-inner u a) = alike-inner (alike-grains G u) (alike-grains G a)
+
+alike-weigh : {A : Type 0} {P : ℕ → Type 0} {f g : Forest A} → Alike P f g → weigh f ≡ weigh g
+unfolding weigh
+alike-weigh alike-end = refl
+alike-weigh (alike-leaf {w = w} q a) = ap (λ (x : ℕ). w + x) (alike-weigh a)
+alike-weigh (alike-inner {w = w} u a) = ap (λ (x : ℕ). w + x) (alike-weigh a)
 
 -- ---- K is that of the lines without their utilities
 
@@ -63,15 +69,19 @@ module _ (a b : List ℕ) (t u : Table) (p : readText a ≡ fine t) (q : readTex
   abbrev searchOf : Head → ℕ → Forest ℤ → Seen ℤ
   searchOf h G f =
       searchRoot whole
-      (record { frame = λ (n : ℕ) (f : Forest ℤ). record { bottom = h .lowest *ℤ pos G; top = h .highest *ℤ pos G; total = h .total }; margin = ε })
+      (record { frame = λ (n : ℕ) (f : Forest ℤ). framed (h .lowest *ℤ pos G) (h .highest *ℤ pos G) f; margin = ε })
       (inGrains G f)
+
+  -- a frame of the table's ends
+  abbrev framedBy : Table → ℕ → Frame ℤ
+  framedBy t N = record { bottom = t .head .lowest *ℤ pos (grain t); top = t .head .highest *ℤ pos (grain t); total = N }
 
   -- "The same answer means that every part of it is equal, low, high, play and number of leaves read, and every entry of the reading sequence too"
   pub same-answer : searched u ε ≡ searched t ε
   same-answer =
       ap₂ (λ (h : Head) (G : ℕ). searchOf h G (tree u)) same same-grain
       ∙ sym
-      (unread-root whole (rules t ε) (inGrains (grain t) (tree t)) (inGrains (grain t) (tree u)) (λ n x y i. refl) (alike-grains (grain t) alike))
+      (unread-root whole (rules t ε) (inGrains (grain t) (tree t)) (inGrains (grain t) (tree u)) (λ n x y i. ap (framedBy t) (alike-weigh i)) (alike-grains (grain t) alike))
 
   -- "the exact worth, taken afresh with the new utilities, lies within those same bounds"
   pub still-contains : (leZ (searched t ε .low) (worthOf u) ≡ true) × (leZ (worthOf u) (searched t ε .high) ≡ true)

@@ -1,6 +1,6 @@
 -- The root child of a number: its worth over the integers, from its worth over heights. Assumes nothing.
 use Prim.Native.Nat.{ℕ, suc, _+_, _≤_, _<_}
-use mathlib.Core.Path.{_≡_, refl, sym, ap, ap₂, _∙_}
+use mathlib.Core.Path.{_≡_, refl, sym, ap, _∙_}
 use mathlib.Core.Bool.{Bool, true, false, cond}
 use mathlib.Core.Option.{some}
 use native.Mathlib.Omega.{arith}
@@ -10,21 +10,21 @@ use lib.ListN.{getD}
 use lib.IntN.{ℤ, pos, _+ℤ_, _*ℤ_}
 use Rattle.line.specs.declared.Head.{Head}
 use Rattle.line.specs.Line.{Within}
-use Rattle.table.specs.Tree.{Kind, Forest, end, leaf, inner, isChance, leaves}
+use Rattle.table.specs.Tree.{Kind, Forest, end, leaf, inner, isChance}
 use Rattle.table.specs.Slices.{Slices, Spans}
-use Rattle.table.specs.Accepted.{one, Filled, Balanced, Proper}
+use Rattle.table.specs.Accepted.{one, Filled, Proper}
 use Rattle.table.specs.Root.{children, rootOf}
 use Rattle.table.proofs.Heights.{above, mapForest, map-end, map-filled}
 use Rattle.table.proofs.Spans.{spans-le}
 use Rattle.table.proofs.Ends.{utility-shift}
 use Rattle.worth.specs.Inside.Heights.{SmallWorths}
-use Rattle.worth.proofs.Shift.{node-shift, shares-shift}
+use Rattle.worth.proofs.Shift.{node-shift, shares-shift, Divides}
 use Rattle.search.specs.Search.{Frame}
-use Rattle.search.specs.Whole.{inGrains}
 use Rattle.search.specs.Inside.{grained}
-use Rattle.search.proofs.Heights.{Child, here-leaf, here-inner, next-leaf, next-inner, shift}
+use Rattle.search.proofs.Grains.{plain}
 use Rattle.promise.specs.Play.{worthAt}
-use Rattle.promise.proofs.Worths.{plain, worth-value}
+use Rattle.promise.proofs.Play.{Child, here-leaf, here-inner, next-leaf, next-inner}
+use Rattle.promise.proofs.Worths.{worth-value}
 
 -- ---- no two nodes with one parent have the same number
 
@@ -73,50 +73,35 @@ cond-here b x y e = rw e refl
 cond-past : {A : Type 0} (b : Bool) (x y : A) → b ≡ false → cond b x y ≡ y
 cond-past b x y e = rw e refl
 
-module _ (T G K S : ℕ) (h : Head) (positive : 0 < T) where
+module _ (T G K S : ℕ) (h : Head) where
   abbrev base : ℤ
   base = h .lowest *ℤ pos G
 
   abbrev lowered : Forest ℤ → Forest ℕ
   lowered f = mapForest (above (h .lowest)) f
 
-  -- leaves in grains
-  pub grains-shift : (d c : ℕ) (u : Bool) (f : Forest ℤ) → Proper T K (Within h) d c u f → inGrains G f ≡ shift base (grained G (lowered f))
-  unfolding inGrains shift grained
-  grains-shift d c u end p = refl
-  grains-shift d c u (leaf n w v rest) p = rw (utility-shift G h v (p .1), grains-shift d c u rest (p .4)) refl
-  grains-shift d c u (inner n w k under rest) p =
-      rw (grains-shift (suc d) (c + one k) (isChance k) under (p .3), grains-shift d c u rest (p .4)) refl
-
-  pub child-worth : (d c : ℕ) (u : Bool) (f : Forest ℤ) → Proper T K (Within h) d c u f → Filled f → Balanced T f → SmallWorths T G S (lowered f)
-      → (b : ℕ) → Rising b (lowered f) → (m v : ℕ) → Child (plain S T) m v (grained G (lowered f)) → worthAt T G m f ≡ some (base +ℤ pos v)
+  child-worth : (d c : ℕ) (u : Bool) (f : Forest ℤ) → Proper T K (Within h) d c u f → Filled f → Divides f → SmallWorths G S (lowered f)
+      → (b : ℕ) → Rising b (lowered f) → (m v : ℕ) → Child (plain S) m v (grained G (lowered f)) → worthAt G m f ≡ some (base +ℤ pos v)
   unfolding worthAt grained
   child-worth d c u (leaf n w x rest) p fl bl s b r m v here-leaf =
       cond-here (eqb n n) _ _ (eq-eqb n n refl) ∙ ap some (utility-shift G h x (p .1))
   child-worth d c u (leaf n w x rest) p fl bl s b r m v (next-leaf i) =
-      let past : n < m = child-from (plain S T) G m v (suc n) (lowered rest) (r .1) i in
+      let past : n < m = child-from (plain S) G m v (suc n) (lowered rest) (r .1) i in
       cond-past (eqb n m) _ _ (ne-eqb n m (λ e. omega arith)) ∙ child-worth d c u rest (p .4) fl bl (s .1) (suc n) (r .1) m v i
   child-worth d c u (inner n w k under rest) p fl bl s b r m v (here-inner e) =
       cond-here (eqb n n) _ _ (eq-eqb n n refl)
       ∙ ap some
-      (node-shift T G h positive k under (shares-shift T G h positive K (suc d) (c + one k) (isChance k) under (p .3) (fl .1) (bl .1)) (fl .0) (bl .0)
+      (node-shift G h k under (shares-shift G h T K (suc d) (c + one k) (isChance k) under (p .3) (fl .1) (bl .1)) (fl .0) (bl .0)
       ∙ ap (λ (y : ℕ). base +ℤ pos y)
-      (sym (e ∙ worth-value S T G k (lowered under) (map-end (above (h .lowest)) under ∙ fl .0) (map-filled (above (h .lowest)) under (fl .1)) (s .2))))
+      (sym (e ∙ worth-value S G k (lowered under) (map-end (above (h .lowest)) under ∙ fl .0) (map-filled (above (h .lowest)) under (fl .1)) (s .1))))
   child-worth d c u (inner n w k under rest) p fl bl s b r m v (next-inner i) =
-      let past : n < m = child-from (plain S T) G m v (suc n) (lowered rest) (r .1) i in
-      cond-past (eqb n m) _ _ (ne-eqb n m (λ e. omega arith)) ∙ child-worth d c u rest (p .4) (fl .2) (bl .2) (s .3) (suc n) (r .1) m v i
+      let past : n < m = child-from (plain S) G m v (suc n) (lowered rest) (r .1) i in
+      cond-past (eqb n m) _ _ (ne-eqb n m (λ e. omega arith)) ∙ child-worth d c u rest (p .4) (fl .2) (bl .2) (s .2) (suc n) (r .1) m v i
 
   -- a root child of these nodes, which stand in slices
-  pub play-worth : (f : Forest ℤ) → Proper T K (Within h) 0 0 false f → Filled f → Balanced T f → SmallWorths T G S (lowered f)
-      → (s : Slices) (e : ℕ) → Spans s 0 e (lowered f) → (m v : ℕ) → Child (plain S T) m v (children (grained G (lowered f)))
-      → worthAt T G m (children f) ≡ some (base +ℤ pos v)
+  pub play-worth : (f : Forest ℤ) → Proper T K (Within h) 0 0 false f → Filled f → Divides f → SmallWorths G S (lowered f)
+      → (s : Slices) (e : ℕ) → Spans s 0 e (lowered f) → (m v : ℕ) → Child (plain S) m v (children (grained G (lowered f)))
+      → worthAt G m (children f) ≡ some (base +ℤ pos v)
   unfolding grained
   play-worth (inner n w k under rest) p fl bl sm s e x m v i =
-      child-worth 1 (0 + one k) (isChance k) under (p .3) (fl .1) (bl .1) (sm .2) 1 (rising-under s 0 e n w k (lowered under) (lowered rest) x) m v i
-
--- grains change no leaf's place
-pub grains-leaves : (G : ℕ) (f : Forest ℤ) → leaves (inGrains G f) ≡ leaves f
-unfolding inGrains leaves
-grains-leaves G end = refl
-grains-leaves G (leaf n w u rest) = ap (λ (a : ℕ). 1 + a) (grains-leaves G rest)
-grains-leaves G (inner n w k under rest) = ap₂ (λ (a b : ℕ). a + b) (grains-leaves G under) (grains-leaves G rest)
+      child-worth 1 (0 + one k) (isChance k) under (p .3) (fl .1) (bl .1) (sm .1) 1 (rising-under s 0 e n w k (lowered under) (lowered rest) x) m v i

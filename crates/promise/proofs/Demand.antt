@@ -4,15 +4,14 @@ use mathlib.Core.Path.{_≡_, refl, sym, ap, ap₂, subst, _∙_}
 use mathlib.Core.Bool.{true, false}
 use mathlib.Core.List.{List, []}
 use mathlib.Core.Option.{none, some, Option·some-injective}
-use native.Mathlib.Nat.{le-refl, le-trans}
-use native.Mathlib.Omega.{arith}
+use native.Mathlib.Nat.{le-refl}
 use lib.ListN.{length}
 use lib.IntN.{ℤ, pos, _+ℤ_, _*ℤ_, +ℤ-assoc}
 use lib.Signed.{leZ}
-use Rattle.numbers.proofs.Signs.{plus, minus, parts, is-unique, is-eq}
-use Rattle.numbers.proofs.Above.{lift, le-above}
+use Rattle.numbers.proofs.Signs.{plus, minus, parts}
+use Rattle.numbers.proofs.Above.{le-above}
 use Rattle.line.specs.Refusal.{fine}
-use Rattle.table.specs.Tree.{MAX, Forest, isEnd, leaves}
+use Rattle.table.specs.Tree.{Forest, isEnd}
 use Rattle.table.specs.Table.{Table, tree, readText, greatest, grain}
 use Rattle.table.specs.Slices.{Spans, heightTree, slicesOf}
 use Rattle.table.specs.Accepted.{span, Filled, Balanced, Proper, Rooted}
@@ -22,32 +21,26 @@ use Rattle.table.proofs.Accepted.{accepted-ranged, accepted-proper, accepted-fi
 use Rattle.table.proofs.Ends.{top}
 use Rattle.worth.specs.Worth.{worthOf}
 use Rattle.worth.specs.Inside.Heights.{heightWorth, SmallWorths}
+use Rattle.worth.proofs.Bounds.{own-totals}
 use Rattle.worth.proofs.Worth.{heights-small, shift as worth-shift}
-use Rattle.search.specs.Search.{Play, noPlay, child, Seen, nodeOf}
-use Rattle.search.specs.Inside.{grained, frameOf, heightRules, heightSearched}
-use Rattle.search.specs.Whole.{whole, inGrains, ends, rules, searched}
-use Rattle.search.proofs.Heights.{Child, Within, Positive, Fit, shift}
-use Rattle.search.proofs.Shift.{Rel, RelFrame, RelPlay, RelSeen, shifted-root}
-use Rattle.search.proofs.Grains.{within, positive, fit}
-use Rattle.search.proofs.Few.{few-reads, root-child-below}
+use Rattle.search.specs.Search.{Seen, nodeOf}
+use Rattle.search.specs.Inside.{grained, heightRules, heightSearched}
+use Rattle.search.specs.Whole.{whole, inGrains, rules, searched}
+use Rattle.search.proofs.Grains.{plain}
+use Rattle.search.proofs.Table.{frames, tree-shift, tree-within, tree-positive, shifted}
 use Rattle.promise.specs.Play.{playWorth}
 use Rattle.promise.specs.Entered.{Entered, FirstBest, enteredOf}
 use Rattle.promise.specs.Exact.{NoRemainder}
+use Rattle.promise.proofs.Fit.{Fit, fit}
+use Rattle.promise.proofs.Play.{Child}
 use Rattle.promise.proofs.Named.{Chosen, root-named, root-entered, strict-whole, grains-filled, grains-root, grains-children}
-use Rattle.promise.proofs.Worths.{plain}
 use Rattle.promise.proofs.Root.{OnSide, Played, holds, narrow, plays}
 use Rattle.promise.proofs.Remainder.{whole-root}
-use Rattle.promise.proofs.Children.{grains-leaves, grains-shift, play-worth, root-same}
+use Rattle.promise.proofs.Children.{play-worth, root-same}
 
 -- ε more
 le-margin : (b : ℤ) (x y ε : ℕ) → x ≤ y + ε → leZ (b +ℤ pos x) (b +ℤ pos y +ℤ pos ε) ≡ true
 le-margin b x y ε h = rw (+ℤ-assoc b (pos y) (pos ε)) (le-above b x (y + ε) h)
-
-same-node : (p q : ℕ) (u : Play ℕ) (v : Play ℤ) → RelPlay p q u v → nodeOf v ≡ nodeOf u
-same-node p q noPlay noPlay i = refl
-same-node p q noPlay (child m l h) i = absurd i
-same-node p q (child m l h) noPlay i = absurd i
-same-node p q (child m l h) (child m2 l2 h2) i = ap some (i .0)
 
 module _ (s : List ℕ) (t : Table) (r : readText s ≡ fine t) (ε : ℕ) where
   abbrev G : ℕ
@@ -75,60 +68,19 @@ module _ (s : List ℕ) (t : Table) (r : readText s ≡ fine t) (ε : ℕ) where
   pub heights-hold : (heights .low ≤ heightWorth t) × (heightWorth t ≤ heights .high) × (heights .high ≤ span (t .head) * grain t)
   heights-hold = holds (t .head .total) (greatest (t .lines)) (span (t .head)) ε (accepted-ranged s t r .some) (heightTree t) tree-fine
 
-  pub heights-order : heights .low ≤ heights .high
-  heights-order = le-trans (heights-hold .0) (heights-hold .1)
-
   pub heights-width : heights .high ≤ heights .low + ε
   heights-width = narrow (t .head .total) (greatest (t .lines)) (span (t .head)) ε (accepted-ranged s t r .some) (heightTree t) tree-fine
 
   -- ---- over the integers
 
-  rel-frame : RelFrame (plus base) (minus base) (frameOf top-height (t .head .total)) (ends t)
-  rel-frame = record {
-    bottom = is-eq base (plus base) (minus base) (plus base + 0) (minus base) (parts base) (omega arith);
-    top = rw (top s t r) (lift base (plus base) (minus base) top-height (parts base));
-    total = refl;
-  }
-
-  tree-shift : inGrains G (tree t) ≡ shift base (grained G (heightTree t))
-  tree-shift =
-      rw (heights-map t)
-      (grains-shift (t .head .total) G (greatest (t .lines)) top-height (t .head) (accepted-ranged s t r .some) 0 0 false (tree t) (accepted-proper s t r))
-
-  tree-within : Within (plain top-height (t .head .total)) (frameOf top-height (t .head .total)) (grained G (heightTree t))
-  tree-within =
-      within (t .head .total) (span (t .head)) G (accepted-ranged s t r .some) (greatest (t .lines)) 0 0 false (heightTree t) (heights-proper s t r)
-      (heights-balanced s t r)
-
-  tree-positive : Positive MAX (grained G (heightTree t))
-  tree-positive =
-      positive (t .head .total) (span (t .head)) G (accepted-ranged s t r .some) (greatest (t .lines)) 0 0 MAX (heightTree t) (heights-proper s t r)
-
-  rel-found : RelSeen (plus base) (minus base) heights (searched t ε)
-  rel-found =
-      rw tree-shift
-      (shifted-root (plus base) (minus base) base (parts base) top-height (heightRules top-height (t .head .total) ε) (λ (n : ℕ) (f : Forest ℤ). ends t)
-      (λ n f. rel-frame) (λ n f. (refl, refl)) (frameOf top-height (t .head .total)) (grained G (heightTree t))
-      (le-refl top-height) tree-within tree-positive)
-
-  rel-is : (x : ℕ) (z : ℤ) → Rel (plus base) (minus base) x z → z ≡ base +ℤ pos x
-  rel-is x z i = is-unique z (base +ℤ pos x) (plus base + x) (minus base) i (lift base (plus base) (minus base) x (parts base))
-
   low-is : searched t ε .low ≡ base +ℤ pos (heights .low)
-  low-is = rel-is (heights .low) (searched t ε .low) (rel-found .low)
+  low-is = shifted s t r ε .0
 
   high-is : searched t ε .high ≡ base +ℤ pos (heights .high)
-  high-is = rel-is (heights .high) (searched t ε .high) (rel-found .high)
+  high-is = shifted s t r ε .1
 
   play-is : nodeOf (searched t ε .play) ≡ nodeOf (heights .play)
-  play-is = same-node (plus base) (minus base) (heights .play) (searched t ε .play) (rel-found .play)
-
-  -- the search of a table is the search over heights, from the lowest end up
-  pub shifted : (searched t ε .low ≡ t .head .lowest *ℤ pos (grain t) +ℤ pos (heightSearched t ε .low))
-      × (searched t ε .high ≡ t .head .lowest *ℤ pos (grain t) +ℤ pos (heightSearched t ε .high))
-      × (nodeOf (searched t ε .play) ≡ nodeOf (heightSearched t ε .play))
-      × (searched t ε .read ≡ heightSearched t ε .read)
-  shifted = (low-is, high-is, play-is, rel-found .read)
+  play-is = shifted s t r ε .2
 
   -- the exact worth "lies within those same bounds"
   pub contains : (leZ (searched t ε .low) (worthOf t) ≡ true) × (leZ (worthOf t) (searched t ε .high) ≡ true)
@@ -162,22 +114,21 @@ module _ (s : List ℕ) (t : Table) (r : readText s ≡ fine t) (ε : ℕ) where
   child-entered x = root-entered whole strict-whole (rules t ε) (inGrains G (tree t)) (grains-children G (tree t) ∙ x)
 
   played : (m : ℕ) → nodeOf (searched t ε .play) ≡ some m
-      → Played top-height (t .head .total) ε (grained G (heightTree t)) (heights .low) (heights .high) (heightWorth t) m
+      → Played top-height ε (grained G (heightTree t)) (heights .low) (heights .high) (heightWorth t) m
   played m e =
       plays (t .head .total) (greatest (t .lines)) (span (t .head)) ε (accepted-ranged s t r .some) (heightTree t) tree-fine m (sym play-is ∙ e)
 
-  lowered-small : SmallWorths (t .head .total) G top-height (mapForest (above (t .head .lowest)) (tree t))
+  lowered-small : SmallWorths G top-height (mapForest (above (t .head .lowest)) (tree t))
   lowered-small = rw (heights-map t) at (heights-small s t r)
 
   lowered-spans : Spans (slicesOf t) 0 (length (t .lines)) (mapForest (above (t .head .lowest)) (tree t))
   lowered-spans = subst (λ (f : Forest ℕ). Spans (slicesOf t) 0 (length (t .lines)) f) (heights-map t) (accepted-spans s t r)
 
-  child-is : (m v : ℕ) → Child (plain top-height (t .head .total)) m v (children (grained G (heightTree t))) → playWorth t m ≡ some (base +ℤ pos v)
+  child-is : (m v : ℕ) → Child (plain top-height) m v (children (grained G (heightTree t))) → playWorth t m ≡ some (base +ℤ pos v)
   child-is m v c =
-      play-worth (t .head .total) G (greatest (t .lines)) top-height (t .head) (accepted-ranged s t r .some) (tree t) (accepted-proper s t r)
-      (accepted-filled s t r)
-      (accepted-balanced s t r) lowered-small (slicesOf t) (length (t .lines)) lowered-spans m v
-      (subst (λ (f : Forest ℕ). Child (plain top-height (t .head .total)) m v (children (grained G f))) (heights-map t) c)
+      play-worth (t .head .total) G (greatest (t .lines)) top-height (t .head) (tree t) (accepted-proper s t r) (accepted-filled s t r)
+      (own-totals (λ (n : ℕ). 0 < n) (t .head .total) (accepted-ranged s t r .some) (tree t) (accepted-balanced s t r)) lowered-small (slicesOf t) (length (t .lines)) lowered-spans m v
+      (subst (λ (f : Forest ℕ). Child (plain top-height) m v (children (grained G f))) (heights-map t) c)
 
   -- "the play's worth .. is within the margin of it"
   pub play-near : (m : ℕ) → nodeOf (searched t ε .play) ≡ some m
@@ -207,26 +158,15 @@ module _ (s : List ℕ) (t : Table) (r : readText s ≡ fine t) (ε : ℕ) where
             (subst (λ (q : Root). OnSide q (heights .low) (heights .high) (p .value)) (root-is ∙ d) (p .side)),
       )
 
-  -- the play is a node of the table
-  pub play-small : (m : ℕ) → nodeOf (searched t ε .play) ≡ some m → m < length (t .lines)
-  play-small m e =
-      let p = played m e in
-      root-child-below (plain top-height (t .head .total)) G m (p .value) 0 (length (t .lines)) (slicesOf t) (heightTree t) (accepted-spans s t r) (p .named)
-
-  -- no more leaves are read than there are
-  pub reads-few : length (searched t ε .read) ≤ leaves (tree t)
-  reads-few = rw (grains-leaves G (tree t)) at (few-reads whole (rules t ε) (inGrains G (tree t)))
-
   -- ---- the divisions of lines 20 and 21
 
-  tree-fit : Fit (plain top-height (t .head .total)) (t .head .total ^ 0) (grained G (heightTree t))
-  tree-fit = fit (t .head .total) (span (t .head)) (greatest (t .lines)) 0 0 false (heightTree t) (heights-proper s t r)
+  tree-fit : Fit (plain top-height) (t .head .total ^ 0) (grained G (heightTree t))
+  tree-fit = fit (t .head .total) (span (t .head)) (greatest (t .lines)) 0 0 false (heightTree t) (heights-proper s t r) (heights-balanced s t r)
 
   -- "that division never leaves a remainder, and this is proved": of the search's divisions by T
   pub no-remainder : NoRemainder t ε
   no-remainder =
-      rw tree-shift
-      (whole-root (plus base) (minus base) base (parts base) top-height (heightRules top-height (t .head .total) ε) (λ (n : ℕ) (f : Forest ℤ). ends t)
-      (λ n f. rel-frame) (λ n f. (refl, refl)) (frameOf top-height (t .head .total)) (t .head .total ^ 0) (grained G (heightTree t))
-      (le-refl top-height)
-      tree-within tree-positive tree-fit)
+      rw (tree-shift s t r)
+      (whole-root (plus base) (minus base) base (parts base) top-height (heightRules 0 top-height ε) (rules t ε .frame) (λ n f. frames s t r f)
+      (λ n f. (refl, refl)) (record { bottom = 0; top = top-height; total = 0 }) (t .head .total ^ 0) (grained G (heightTree t)) (le-refl top-height)
+      (tree-within s t r) (tree-positive s t r) tree-fit)

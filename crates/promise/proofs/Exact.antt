@@ -10,7 +10,8 @@ use Rattle.table.specs.Tree.{Kind, MAX, MIN, CHANCE, Forest, end, leaf, inner}
 use Rattle.search.specs.Search.{Frame, Seen, State, Rules, begin, lower, upper, update, finish, cut, stop, point, scan}
 use Rattle.search.specs.Inside.{natural}
 use Rattle.search.proofs.Steps.{seenAfter}
-use Rattle.search.proofs.Heights.{Paid, Within, grade, Even, Fit, total}
+use Rattle.search.proofs.Heights.{Paid, Within, total}
+use Rattle.promise.proofs.Fit.{grade, Even, Fit}
 
 pub dvd-max : (g : ℕ) {a b : ℕ} → g ∣ a → g ∣ b → g ∣ max a b
 dvd-max g {a} {b} p q = elim (decLe a b) [ yes h ↦ rw (max-eq-right h) q | no h ↦ let l : b ≤ a = omega arith in rw (max-eq-left l) p ]

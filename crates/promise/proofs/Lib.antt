@@ -1,10 +1,10 @@
+pub mod Fit
 pub mod Exact
 pub mod Width
 pub mod Play
 pub mod Named
 pub mod Worths
 pub mod Unread
-pub mod Grains
 pub mod Root
 pub mod Children
 pub mod Remainder

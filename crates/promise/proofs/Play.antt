@@ -1,6 +1,6 @@
 -- The play named is worth at least low at MAX, at most high at MIN, and within the margin where the bounds are. Assumes nothing.
 use Prim.Native.Nat.{ℕ, min, max, _≤_}
-use mathlib.Core.Path.{refl}
+use mathlib.Core.Path.{_≡_, refl}
 use mathlib.Core.Bool.{Bool, not}
 use mathlib.Core.List.{List, []}
 use native.Mathlib.Nat.{le-trans}
@@ -12,8 +12,16 @@ use Rattle.table.specs.Inside.{sealed}
 use Rattle.search.specs.Search.{Frame, Play, noPlay, child, Seen, State, Rules, begin, lower, upper, beats, prefer, update, finish, cut, stop, point, scan, search}
 use Rattle.search.specs.Inside.{natural}
 use Rattle.search.proofs.Steps.{seenUnder, seenAfter}
-use Rattle.search.proofs.Heights.{Within, Child, here-leaf, here-inner, next-leaf, next-inner, start, total, worth}
+use Rattle.search.proofs.Heights.{Within, start, total, worth}
 use Rattle.search.proofs.Contain.{Holding, hold-point, hold-under, contained}
+
+module _ (frame : ℕ → Forest ℕ → Frame ℕ) where
+  -- the child of number m is worth v
+  pub data Child (m v : ℕ) : Forest ℕ → Type 0 where
+    here-leaf : {w : ℕ} {rest : Forest ℕ} → Child m v (leaf m w v rest)
+    here-inner : {w : ℕ} {c : Kind} {under rest : Forest ℕ} → v ≡ worth frame (frame m under) c under → Child m v (inner m w c under rest)
+    next-leaf : {n w h : ℕ} {rest : Forest ℕ} → Child m v rest → Child m v (leaf n w h rest)
+    next-inner : {n w : ℕ} {c : Kind} {under rest : Forest ℕ} → Child m v rest → Child m v (inner n w c under rest)
 
 -- what a rule for the play must have
 pub record Fair (beats : Kind → ℕ → ℕ → ℕ → ℕ → Bool) : Type 0 where

@@ -13,11 +13,12 @@ use Rattle.search.specs.Search.{Frame, Seen, State, Rules, begin, point, lower,
 use Rattle.search.specs.Whole.{whole}
 use Rattle.search.specs.Inside.{natural}
 use Rattle.search.proofs.Steps.{seenUnder}
-use Rattle.search.proofs.Heights.{Paid, Within, grade, Even, Fit, Positive, shift}
+use Rattle.search.proofs.Heights.{Paid, Within, Positive, shift}
 use Rattle.search.proofs.Contain.{Holding, hold-point, hold-under, contained}
 use Rattle.search.proofs.Safe.{Safe, safe-begin, safe-lower, safe-upper, safe-update}
 use Rattle.search.proofs.Shift.{Rel, RelFrame, RelState, RelSeen, Open, rel-begin, rel-lower, rel-upper, rel-update, rel-point, rel-stop, open-begin, open-update, shifted}
 use Rattle.promise.specs.Exact.{AtChance, EachTaken, EachTakenRoot, WholeQuotients}
+use Rattle.promise.proofs.Fit.{grade, Even, Fit}
 use Rattle.promise.proofs.Exact.{share, even, EvenR, even-begin, below}
 
 -- ---- over heights

@@ -92,6 +92,12 @@ isEnd-turn S end = refl
 isEnd-turn S (leaf n w h rest) = refl
 isEnd-turn S (inner n w k under rest) = refl
 
+pub turn-weigh : (S : ℕ) (f : Forest ℕ) → weigh (turn S f) ≡ weigh f
+unfolding turn weigh
+turn-weigh S end = refl
+turn-weigh S (leaf n w h rest) = ap (λ (x : ℕ). w + x) (turn-weigh S rest)
+turn-weigh S (inner n w k under rest) = ap (λ (x : ℕ). w + x) (turn-weigh S rest)
+
 module _ (S : ℕ) where
   unfoldable pub turnState : State ℕ → State ℕ
   turnState s = record { alpha = S - s .beta; beta = S - s .alpha; lo = S - s .hi; hi = S - s .lo; play = turnPlay S (s .play); read = s .read }

@@ -16,21 +16,21 @@ use Rattle.table.specs.Table.{Table, tree, readText, greatest, grain}
 use Rattle.table.specs.Slices.{heightTree}
 use Rattle.table.specs.Accepted.{span, one, flat, Proper}
 use Rattle.table.proofs.Heights.{above, mapForest, height-back, heights-map}
-use Rattle.table.proofs.Accepted.{accepted-flat, accepted-ranged, accepted-proper, heights-proper, heights-balanced}
+use Rattle.table.proofs.Accepted.{accepted-flat, accepted-proper}
 use Rattle.table.proofs.Ends.{top}
 use Rattle.worth.specs.Worth.{worthOf}
 use Rattle.worth.specs.Inside.Heights.{heightWorth}
 use Rattle.worth.proofs.Worth.{shift as worth-shift}
 use Rattle.turn.specs.Turn.{turnKind, turnHead, turnTree}
-use Rattle.search.specs.Search.{Play, noPlay, child, Seen, searchRoot, nodeOf}
+use Rattle.search.specs.Search.{Play, noPlay, child, Seen, framed, searchRoot, nodeOf}
 use Rattle.search.specs.Whole.{searched}
-use Rattle.search.specs.Inside.{natural, grained, frameOf, heightRules, heightSearched}
-use Rattle.search.proofs.Grains.{within}
+use Rattle.search.specs.Inside.{natural, grained, heightRules, heightSearched}
+use Rattle.search.proofs.Grains.{plain}
+use Rattle.search.proofs.Table.{tree-within, heights-order, shifted}
 use Rattle.promise.specs.Turned.{Turns}
-use Rattle.promise.proofs.Worths.{plain}
-use Rattle.promise.proofs.Turn.{turn, turnFrame, turnPlay, turnSeen, turned-root}
+use Rattle.promise.proofs.Turn.{turn, turn-weigh, turnFrame, turnPlay, turnSeen, turned-root}
 use Rattle.promise.proofs.Changed.{greatest-both}
-use Rattle.promise.proofs.Demand.{heights-width, shifted, heights-hold, heights-order}
+use Rattle.promise.proofs.Demand.{heights-hold, heights-width}
 
 -- ---- G is the same
 
@@ -142,17 +142,15 @@ module _ (a b : List ℕ) (t u : Table) (p : readText a ≡ fine t) (q : readTex
   same-top : span (u .head) * grain u ≡ S
   same-top = ap₂ _*_ (ap span (turns .head) ∙ span-turn (t .head)) same-grain
 
-  frame-turn : (T : ℕ) → frameOf S T ≡ turnFrame S (frameOf S T)
-  frame-turn T = let x : 0 ≡ S - S = omega arith in let y : S ≡ S - 0 = omega arith in λ i. record { bottom = x i; top = y i; total = T }
+  frame-turn : (f : Forest ℕ) → framed 0 S (turn S f) ≡ turnFrame S (framed 0 S f)
+  frame-turn f = let x : 0 ≡ S - S = omega arith in let y : S ≡ S - 0 = omega arith in λ i. record { bottom = x i; top = y i; total = turn-weigh S f i }
 
   seen-turn : heightSearched u ε ≡ turnSeen S (heightSearched t ε)
   seen-turn =
-      ap₂ (λ (M T : ℕ). searchRoot natural (heightRules M T ε) (grained (grain u) (heightTree u))) same-top
-      (ap (λ (h : Head). h .total) (turns .head))
-      ∙ ap (searchRoot natural (heightRules S (t .head .total) ε)) heights-turn
-      ∙ turned-root S (heightRules S (t .head .total) ε) (plain S (t .head .total)) (λ n f. frame-turn (t .head .total)) (frameOf S (t .head .total))
-      (grained G (heightTree t)) (le-refl S)
-      (within (t .head .total) (span (t .head)) G (accepted-ranged a t p .some) (greatest (t .lines)) 0 0 false (heightTree t) (heights-proper a t p) (heights-balanced a t p))
+      ap (λ (M : ℕ). searchRoot natural (heightRules 0 M ε) (grained (grain u) (heightTree u))) same-top
+      ∙ ap (searchRoot natural (heightRules 0 S ε)) heights-turn
+      ∙ turned-root S (heightRules 0 S ε) (plain S) (λ n f. frame-turn f) (record { bottom = 0; top = S; total = 0 }) (grained G (heightTree t)) (le-refl S)
+      (tree-within a t p)
 
   -- the turned table's lowest end in grains
   base-turn : u .head .lowest *ℤ pos (grain u) ≡ negℤ (t .head .lowest *ℤ pos G +ℤ pos S)
@@ -166,7 +164,7 @@ module _ (a b : List ℕ) (t u : Table) (p : readText a ≡ fine t) (q : readTex
   pub turned-low : searched u ε .low ≡ negℤ (searched t ε .high)
   turned-low =
       shifted b u q ε .0
-      ∙ bound-turn (heightSearched u ε .low) (heightSearched t ε .high) (ap (λ (r : Seen ℕ). r .low) seen-turn) (heights-hold a t p ε .2)
+      ∙ bound-turn (heightSearched u ε .low) (heightSearched t ε .high) (ap (λ (r : Seen ℕ). r .low) seen-turn) (heights-order a t p ε .1)
       ∙ ap negℤ (sym (shifted a t p ε .1))
 
   -- "its high is minus the old low"
@@ -174,7 +172,7 @@ module _ (a b : List ℕ) (t u : Table) (p : readText a ≡ fine t) (q : readTex
   turned-high =
       shifted b u q ε .1
       ∙ bound-turn (heightSearched u ε .high) (heightSearched t ε .low) (ap (λ (r : Seen ℕ). r .high) seen-turn)
-      (le-trans (heights-order a t p ε) (heights-hold a t p ε .2))
+      (le-trans (heights-order a t p ε .0) (heights-order a t p ε .1))
       ∙ ap negℤ (sym (shifted a t p ε .0))
 
   -- "its play is the same child or again none"

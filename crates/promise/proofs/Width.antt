@@ -11,8 +11,11 @@ use Rattle.table.specs.Tree.{Kind, MAX, MIN, CHANCE, Forest, end, leaf, inner, 
 use Rattle.search.specs.Search.{Frame, Seen, State, Rules, begin, lower, upper, update, finish, cut, stop, point, scan, search}
 use Rattle.search.specs.Inside.{natural, ceil}
 use Rattle.search.proofs.Steps.{seenUnder, seenAfter}
-use Rattle.search.proofs.Heights.{Paid, Sound, Within, grade, Even, Fit, total}
+use Rattle.search.proofs.Heights.{Paid, Sound, Within, total}
 use Rattle.search.proofs.Contain.{contained}
+use Rattle.search.proofs.Safe.{drop, drop-top}
+use Rattle.search.proofs.Shift.{ceil-le}
+use Rattle.promise.proofs.Fit.{grade, Even, Fit}
 use Rattle.promise.proofs.Exact.{share, even, EvenR, even-begin, below}
 
 -- A child of a chance node whose bounds are further apart than the margin, inside its own window: the node's window is then shut.

@@ -9,7 +9,6 @@ use native.Mathlib.Omega.{arith}
 use Rattle.table.specs.Tree.{Kind, MAX, MIN, CHANCE, Forest, end, leaf, inner}
 use Rattle.table.specs.Accepted.{Proper}
 use Rattle.table.proofs.Runs.{size, Numbered}
-use Rattle.search.specs.Heights.{grained}
 use Rattle.search.specs.Inside.{grained}
 use Rattle.rollout.specs.Rollout.{Kept, none, tip, knot, fresh, lows, highs, joined}
 use Rattle.rollout.specs.Inside.Heights.{natural}

@@ -14,7 +14,6 @@ use Rattle.table.specs.Accepted.{span}
 use Rattle.table.proofs.Runs.{Numbered}
 use Rattle.table.proofs.Accepted.{accepted-leaves, heights-leaves, heights-proper, heights-rooted}
 use Rattle.table.proofs.Ends.{rooted-some}
-use Rattle.search.specs.Heights.{grained}
 use Rattle.search.specs.Inside.{grained}
 use Rattle.rollout.specs.Rollout.{Kept, records, lows, firstOr, candidate, walk, roll}
 use Rattle.rollout.specs.Whole.{rolled, rolledWorth, rolledStore}

@@ -11,7 +11,6 @@ use lib.Seq.{getD-set-same, getD-set-other, drop-cons, take-add, drop-drop}
 use Rattle.line.proofs.Signs.{true-ne-false}
 use Rattle.table.specs.Tree.{Kind, Forest, end, leaf, inner, isEnd}
 use Rattle.table.proofs.Runs.{size, Numbered}
-use Rattle.search.specs.Heights.{grained}
 use Rattle.search.specs.Inside.{grained}
 use Rattle.rollout.specs.Rollout.{Kept, tip, knot, Pair, Walk, Rolled, pick, spend, fresh, lows, highs, records, firstOr, over, candidate, candidates, walk, roll}
 use Rattle.rollout.specs.Inside.Heights.{natural}

@@ -20,7 +20,6 @@ use Rattle.table.proofs.Accepted.{accepted-proper, accepted-filled}
 use Rattle.worth.specs.Worth.{worthOf}
 use Rattle.worth.specs.Inside.Heights.{heightWorth}
 use Rattle.worth.proofs.Worth.{divides, shift}
-use Rattle.search.specs.Heights.{grained}
 use Rattle.search.specs.Inside.{grained}
 use Rattle.rollout.specs.Inside.Heights.{natural, heightRolled}
 use Rattle.rollout.specs.Inside.Raised.{mapKept, mapPair, mapWalk, mapRolled, above}

@@ -13,7 +13,6 @@ use Rattle.table.specs.Accepted.{one, Proper, Filled}
 use Rattle.table.proofs.Heights.{mapForest}
 use Rattle.worth.specs.Worth.{Share}
 use Rattle.worth.specs.Inside.Heights.{tallest, shortest, heightValue, heightShares}
-use Rattle.search.specs.Heights.{grained}
 use Rattle.search.specs.Inside.{grained}
 use Rattle.rollout.specs.Inside.Heights.{natural}
 use Rattle.rollout.specs.Inside.Sound.{SomeNode, Sound}

@@ -14,7 +14,6 @@ use Rattle.table.proofs.Heights.{above as height, height-back, mapForest, map-p
 use Rattle.worth.specs.Worth.{value, shares, firstWorth}
 use Rattle.worth.specs.Inside.Heights.{heightValue, heightShares}
 use Rattle.worth.proofs.Shift.{Divides, shares-shift}
-use Rattle.search.specs.Heights.{grained}
 use Rattle.search.specs.Inside.{grained}
 use Rattle.rollout.specs.Inside.Heights.{natural}
 use Rattle.rollout.specs.Inside.Raised.{mapPair}

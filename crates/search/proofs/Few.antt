@@ -1,6 +1,6 @@
 -- A search reads at most as many leaves as there are, and its play is a node of the table. Assumes nothing.
 use Prim.Native.Nat.{ℕ, _+_, _≤_, _<_}
-use mathlib.Core.Path.{_≡_, refl}
+use mathlib.Core.Path.{_≡_, refl, subst}
 use mathlib.Core.List.{[], _∷_}
 use mathlib.Core.Option.{none, some}
 use native.Mathlib.Omega.{arith}
@@ -51,58 +51,58 @@ module _ {A : Type 0} (O : Arith A) (R : Rules A) where
 
 -- ---- the play
 
--- the numbers of nodes with one parent are below n
-abbrev pub NodesBelow : {A : Type 0} → ℕ → Forest A → Type 0
-NodesBelow n end = Unit {0}
-NodesBelow n (leaf m w v rest) = (m < n) × NodesBelow n rest
-NodesBelow n (inner m w k under rest) = (m < n) × NodesBelow n rest
+-- P of the number of each of these nodes with one parent
+abbrev pub EachNode : {A : Type 0} → (ℕ → Type 0) → Forest A → Type 0
+EachNode P end = Unit {0}
+EachNode P (leaf m w v rest) = P m × EachNode P rest
+EachNode P (inner m w k under rest) = P m × EachNode P rest
 
-module _ {A : Type 0} (O : Arith A) (R : Rules A) (n : ℕ) where
-  abbrev Below : Play A → Type 0
-  Below noPlay = Unit {0}
-  Below (child m l h) = m < n
+module _ {A : Type 0} (O : Arith A) (R : Rules A) (P : ℕ → Type 0) where
+  abbrev Among : Play A → Type 0
+  Among noPlay = Unit {0}
+  Among (child m l h) = P m
 
-  below-better : (k : Kind) (m : ℕ) (p : Play A) (r : Seen A) → m < n → Below p → Below (better O k m p r)
+  among-better : (k : Kind) (m : ℕ) (p : Play A) (r : Seen A) → P m → Among p → Among (better O k m p r)
   unfolding better
-  below-better k m noPlay r h i = h
-  below-better k m (child j l u) r h i = choose Below (beats O k (r .low) (r .high) l u) (λ _. h) (λ _. i)
+  among-better k m noPlay r h i = h
+  among-better k m (child j l u) r h i = choose Among (beats O k (r .low) (r .high) l u) (λ _. h) (λ _. i)
 
-  below-update : (e : Frame A) (k : Kind) (m w : ℕ) (s : State A) (r : Seen A) → m < n → Below (s .play) → Below (update O e k m w s r .play)
+  among-update : (e : Frame A) (k : Kind) (m w : ℕ) (s : State A) (r : Seen A) → P m → Among (s .play) → Among (update O e k m w s r .play)
   unfolding update
-  below-update e MAX m w s r h i = below-better MAX m (s .play) r h i
-  below-update e MIN m w s r h i = below-better MIN m (s .play) r h i
-  below-update e CHANCE m w s r h i = tt
+  among-update e MAX m w s r h i = among-better MAX m (s .play) r h i
+  among-update e MIN m w s r h i = among-better MIN m (s .play) r h i
+  among-update e CHANCE m w s r h i = tt
 
-  below-after : (e : Frame A) (k : Kind) (rest : Forest A) (t : State A) → Below (t .play) → Below (scan O R e k rest t .play)
-      → Below (seenAfter O R e k rest t .play)
+  among-after : (e : Frame A) (k : Kind) (rest : Forest A) (t : State A) → Among (t .play) → Among (scan O R e k rest t .play)
+      → Among (seenAfter O R e k rest t .play)
   unfolding cut
-  below-after e k rest t i more = choose (λ (r : Seen A). Below (r .play)) (stop O (R .margin) rest t) (λ _. i) (λ _. more)
+  among-after e k rest t i more = choose (λ (r : Seen A). Among (r .play)) (stop O (R .margin) rest t) (λ _. i) (λ _. more)
 
-  below-scan : (e : Frame A) (k : Kind) (f : Forest A) (s : State A) → NodesBelow n f → Below (s .play) → Below (scan O R e k f s .play)
+  among-scan : (e : Frame A) (k : Kind) (f : Forest A) (s : State A) → EachNode P f → Among (s .play) → Among (scan O R e k f s .play)
   unfolding scan finish
-  below-scan e k end s h i = i
-  below-scan e k (leaf m w v rest) s h i =
-      let j = below-update e k m w s (point m v (s .read)) (h .0) i in
-      below-after e k rest _ j (below-scan e k rest _ (h .1) j)
-  below-scan e k (inner m w c under rest) s h i =
-      let j = below-update e k m w s (seenUnder O R e k m w c under s) (h .0) i in
-      below-after e k rest _ j (below-scan e k rest _ (h .1) j)
+  among-scan e k end s h i = i
+  among-scan e k (leaf m w v rest) s h i =
+      let j = among-update e k m w s (point m v (s .read)) (h .0) i in
+      among-after e k rest _ j (among-scan e k rest _ (h .1) j)
+  among-scan e k (inner m w c under rest) s h i =
+      let j = among-update e k m w s (seenUnder O R e k m w c under s) (h .0) i in
+      among-after e k rest _ j (among-scan e k rest _ (h .1) j)
 
-  below-root : (f : Forest A) → NodesBelow n (children f) → Below (searchRoot O R f .play)
+  among-root : (f : Forest A) → EachNode P (children f) → Among (searchRoot O R f .play)
   unfolding searchRoot search point begin
-  below-root end h = tt
-  below-root (leaf m w v rest) h = tt
-  below-root (inner m w k under rest) h = let e : Frame A = R .frame m under in below-scan e k under (begin e k (e .bottom) (e .top) []) h tt
+  among-root end h = tt
+  among-root (leaf m w v rest) h = tt
+  among-root (inner m w k under rest) h = let e : Frame A = R .frame m under in among-scan e k under (begin e k (e .bottom) (e .top) []) h tt
 
-  -- the play of a root is a root child
-  pub play-below : (f : Forest A) → NodesBelow n (children f) → (m : ℕ) → nodeOf (searchRoot O R f .play) ≡ some m → m < n
-  play-below f h m = named (searchRoot O R f .play) (below-root f h)
+  -- the play of a root is a root child: what holds of the number of each of these holds of its
+  pub play-among : (f : Forest A) → EachNode P (children f) → (m : ℕ) → nodeOf (searchRoot O R f .play) ≡ some m → P m
+  play-among f h m = named (searchRoot O R f .play) (among-root f h)
     where
-      named : (p : Play A) → Below p → nodeOf p ≡ some m → m < n
+      named : (p : Play A) → Among p → nodeOf p ≡ some m → P m
       named noPlay i e = none-some e
-      named (child j l u) i e = let same : j ≡ m = cc in omega arith
+      named (child j l u) i e = let same : j ≡ m = cc in subst P same i
 
-nodes-below : (G c e : ℕ) (s : Slices) (f : Forest ℕ) → Spans s c e f → NodesBelow e (grained G f)
+nodes-below : (G c e : ℕ) (s : Slices) (f : Forest ℕ) → Spans s c e f → EachNode (λ (m : ℕ). m < e) (grained G f)
 unfolding Spans grained
 nodes-below G c e s end x = tt
 nodes-below G c e s (leaf n w h rest) x = (omega (arith, x .0, spans-le s (c + 1) e rest (x .5)), nodes-below G (c + 1) e s rest (x .5))
@@ -110,12 +110,12 @@ nodes-below G c e s (inner n w k under rest) x =
     let j : ℕ = getD (s .stops) c 0 in
     (omega (arith, x .0, spans-le s (c + 1) j under (x .3), spans-le s j e rest (x .4)), nodes-below G j e s rest (x .4))
 
-below-more : {A : Type 0} (n m : ℕ) (f : Forest A) → n ≤ m → NodesBelow n f → NodesBelow m f
+below-more : {A : Type 0} (n m : ℕ) (f : Forest A) → n ≤ m → EachNode (λ (i : ℕ). i < n) f → EachNode (λ (i : ℕ). i < m) f
 below-more n m end l h = tt
 below-more n m (leaf i w v rest) l h = (omega arith, below-more n m rest l (h .1))
 below-more n m (inner i w k under rest) l h = (omega arith, below-more n m rest l (h .1))
 
-pub children-below : (G c e : ℕ) (s : Slices) (f : Forest ℕ) → Spans s c e f → NodesBelow e (children (grained G f))
+pub children-below : (G c e : ℕ) (s : Slices) (f : Forest ℕ) → Spans s c e f → EachNode (λ (m : ℕ). m < e) (children (grained G f))
 unfolding Spans grained
 children-below G c e s end x = tt
 children-below G c e s (leaf n w h rest) x = tt

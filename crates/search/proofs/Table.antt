@@ -14,6 +14,7 @@ use Rattle.numbers.proofs.Above.{lift}
 use Rattle.line.specs.Refusal.{fine}
 use Rattle.table.specs.Tree.{MAX, Forest, end, leaf, inner, leaves}
 use Rattle.table.specs.Table.{Table, tree, readText, greatest, grain}
+use Rattle.table.specs.Root.{children}
 use Rattle.table.specs.Slices.{heightTree, slicesOf}
 use Rattle.table.specs.Accepted.{span}
 use Rattle.table.proofs.Heights.{heights-map}
@@ -26,7 +27,7 @@ use Rattle.search.proofs.Heights.{Within, Positive, shift}
 use Rattle.search.proofs.Contain.{contained}
 use Rattle.search.proofs.Shift.{Rel, RelFrame, RelPlay, RelSeen, shift-weigh, shifted-root}
 use Rattle.search.proofs.Grains.{plain, within, positive, grains-leaves, grains-shift}
-use Rattle.search.proofs.Few.{few-reads, play-below, children-below}
+use Rattle.search.proofs.Few.{EachNode, few-reads, play-among, children-below}
 
 same-node : (p q : ℕ) (u : Play ℕ) (v : Play ℤ) → RelPlay p q u v → nodeOf v ≡ nodeOf u
 same-node p q noPlay noPlay i = refl
@@ -106,8 +107,12 @@ module _ (s : List ℕ) (t : Table) (r : readText s ≡ fine t) where
     -- the play is a node of the table
     pub play-small : (m : ℕ) → nodeOf (searched t ε .play) ≡ some m → m < length (t .lines)
     play-small m e =
-        play-below natural (heightRules 0 far ε) (length (t .lines)) (grained G (heightTree t))
+        play-among natural (heightRules 0 far ε) (λ (i : ℕ). i < length (t .lines)) (grained G (heightTree t))
         (children-below G 0 (length (t .lines)) (slicesOf t) (heightTree t) (accepted-spans s t r)) m (sym (shifted .2) ∙ e)
+
+    -- the play is a root child: what holds of the number of each of these holds of its
+    pub play-child : (P : ℕ → Type 0) → EachNode P (children (inGrains G (tree t))) → (m : ℕ) → nodeOf (searched t ε .play) ≡ some m → P m
+    play-child P h m e = play-among whole (rules t ε) P (inGrains G (tree t)) h m e
 
     -- no more leaves are read than there are
     pub reads-few : length (searched t ε .read) ≤ leaves (tree t)
