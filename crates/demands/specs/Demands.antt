@@ -18,7 +18,6 @@ use Rattle.table.specs.declared.Play.the-variants.{Child}
 use Rattle.worth.specs.declared.Exact.the-variants.{Grains}
 use Rattle.worth.specs.Call.{exactCall}
 use Rattle.turn.specs.Call.{turnOf}
-use Rattle.search.specs.Whole.{playWorth}
 use Rattle.searching.specs.declared.Bounds.{Bounds}
 use Rattle.searching.specs.declared.Bounded.the-variants.{Found}
 use Rattle.searching.specs.Call.{badMargin, searchCall, searchReads}

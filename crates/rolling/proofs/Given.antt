@@ -15,7 +15,6 @@ use Rattle.table.proofs.Accepted.{accepted-lent, heights-leaves, accepted-holds
 use Rattle.rollout.specs.Rollout.{Pair}
 use Rattle.rollout.specs.Whole.{rolled, rolledWorth, rolledStore}
 use Rattle.rollout.specs.Inside.Raised.{mapPair, above}
-use Rattle.rollout.specs.Inside.{stored, ReadyRoll, WellRolled}
 use Rattle.rolling.specs.Inside.Records.{lowsOf, highsOf}
 use Rattle.rolling.specs.Inside.Lists.{Store, lowAt, highAt, pairs, RolledS, rollS, AtEnds}
 use Rattle.rolling.specs.Inside.Contracts.{stored, ReadyRoll, WellRolled}

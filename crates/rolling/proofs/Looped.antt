@@ -17,7 +17,6 @@ use Rattle.table.proofs.Nodes.{root-some}
 use Rattle.rollout.specs.Rollout.{firstOr, candidate}
 use Rattle.rollout.specs.Inside.Heights.{natural}
 use Rattle.rollout.specs.Inside.Sound.{Sound}
-use Rattle.rollout.specs.Inside.{ReadyNode, WalkLeft, Walked, ReadyRoll, RolledIn}
 use Rattle.rollout.proofs.Table.{height-numbered}
 use Rattle.rolling.specs.declared.Step.{Step}
 use Rattle.rolling.specs.Inside.Lists.{Store, lowAt, highAt, WalkS, keep, walkS, rollS, AtEnds}

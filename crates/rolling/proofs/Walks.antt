@@ -14,7 +14,6 @@ use Rattle.table.proofs.Runs.{kind-code}
 use Rattle.rollout.specs.Rollout.{pick, spend, over, candidate}
 use Rattle.rollout.specs.Inside.Heights.{natural}
 use Rattle.rollout.specs.Inside.Sound.{SomeNode, Sound}
-use Rattle.rollout.specs.Inside.{Siblings, boundsIn, chosen, Choice, Named, Chosen, ReadyNode, readAt, updated, Rung}
 use Rattle.rollout.proofs.Folds.{Some, over-any}
 use Rattle.rollout.proofs.Turns.{pick-less}
 use Rattle.rolling.specs.Inside.Lists.{Store, lowAt, highAt, putBoth, lowsS, highsS, candidatesS, WalkS, keep, walkS}
