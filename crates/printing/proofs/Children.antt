@@ -2,14 +2,15 @@
 use Prim.Native.Nat.{ℕ, zero, suc, _+_, _-_, _*_, _≤_, _<_}
 use mathlib.Core.Path.{_≡_, refl, sym, ap, ap₂, subst, _∙_}
 use mathlib.Core.Bool.{Bool, true, false, cond}
-use mathlib.Core.List.{List, [], _∷_, _++_, map, append-nil}
-use mathlib.Core.Option.{Option, none, some}
+use mathlib.Core.List.{List, [], _∷_, _++_, map, append-nil, List·Memᴰ, List·Memᴰ·cases-cons, List·Memᴰ·not-nil}
+use mathlib.Core.Logic.{_⊎_, inl, inr}
+use mathlib.Core.Option.{none, some}
 use native.Mathlib.Omega.{arith}
-use borrow.Author.Tests.{eqb-true}
+use borrow.Author.Tests.{eqb-true, eq-eqb}
 use lib.Dec.{eqb, eqb·suc-zero}
 use lib.ListN.{length, getD, take, drop, length-map}
 use lib.Seq.{take-suc, take-append-add, drop-drop}
-use lib.IntN.{ℤ, pos, _*ℤ_}
+use lib.IntN.{ℤ, pos}
 use Rattle.field.specs.Field.{fieldOf}
 use Rattle.line.specs.declared.Head.{Head}
 use Rattle.line.specs.declared.Line.{Line}
@@ -18,15 +19,13 @@ use Rattle.line.specs.Line.{Step, Above, Placed, ancestors, stepsOf, stepped, l
 use Rattle.line.proofs.Fine.{unless-fine}
 use Rattle.line.proofs.Signs.{true-ne-false}
 use Rattle.table.specs.Tree.{Forest, end, leaf, inner}
-use Rattle.table.specs.Table.{Table, prefix, nodeLines, tree, count, readText, grain}
+use Rattle.table.specs.Table.{Table, prefix, nodeLines, tree, count, readText}
 use Rattle.table.specs.Accepted.{flat, one, Rooted}
 use Rattle.table.specs.Root.{children, nodes, numbered}
 use Rattle.table.proofs.Grown.{next-fine, prefix-fine}
 use Rattle.table.proofs.Runs.{size, Numbered, flat-length}
 use Rattle.table.proofs.Known.{read-numbered}
 use Rattle.table.proofs.Accepted.{checked, accepted-size, accepted-flat, accepted-rooted}
-use Rattle.worth.specs.Worth.{shares, value}
-use Rattle.promise.specs.Play.{worthAt, playWorth}
 use Rattle.printing.specs.Program.{place}
 use Rattle.printing.specs.Inside.{childMarks}
 
@@ -159,17 +158,18 @@ place-zeros c i (inner n w k under rest) N h m e (suc j) q =
 
 -- ---- an accepted table
 
--- m has a worth among nodes, and so it is one of them
-worth-or : (b : Bool) (x v : ℤ) (o : Option ℤ) (i : Bool) → (o ≡ some v → i ≡ true) → cond b (some x) o ≡ some v → cond b true i ≡ true
-worth-or true x v o i f e = refl
-worth-or false x v o i f e = f e
+-- a number of the list is among them
+in-later-too : (b i : Bool) → i ≡ true → cond b true i ≡ true
+in-later-too true i e = refl
+in-later-too false i e = e
 
-worth-in : (T G m : ℕ) (v : ℤ) (F : Forest ℤ) → worthAt T G m F ≡ some v → isIn m (nodes F) ≡ true
-unfolding worthAt nodes
-worth-in T G m v end e = let z : _≡_ {A = ℕ} 0 1 = cc in absurd (omega arith)
-worth-in T G m v (leaf n w u rest) e = worth-or (eqb n m) (u *ℤ pos G) v (worthAt T G m rest) (isIn m (nodes rest)) (worth-in T G m v rest) e
-worth-in T G m v (inner n w k under rest) e =
-    worth-or (eqb n m) (value T k (shares T G under)) v (worthAt T G m rest) (isIn m (nodes rest)) (worth-in T G m v rest) e
+mem-in : (m : ℕ) (ns : List ℕ) → List·Memᴰ m ns → isIn m ns ≡ true
+mem-in m [] i = absurd (List·Memᴰ·not-nil i)
+mem-in m (n ∷ ns) i = go (mem-in m ns) (List·Memᴰ·cases-cons i)
+  where
+    go : (List·Memᴰ m ns → isIn m ns ≡ true) → (m ≡ n) ⊎ List·Memᴰ m ns → isIn m (n ∷ ns) ≡ true
+    go more (inl e) = rw (eq-eqb n m (sym e)) refl
+    go more (inr j) = in-later-too (eqb n m) (isIn m ns) (more j)
 
 -- the place of a number that is there is where it is found
 found-at : (m : ℕ) (ns : List ℕ) → isIn m ns ≡ true → numbered (pos (place m ns)) ns ≡ some m
@@ -193,9 +193,9 @@ rooted-place (inner n w k under rest) N R m e =
     let tail : flat n c under ++ flat 0 0 rest ≡ flat 0 c under = ap₂ (λ (a : ℕ) (f : Forest ℤ). flat a c under ++ flat 0 0 f) (R .0) (R .2) ∙ append-nil (flat 0 c under) in
     (0, map parentOf (flat 0 c under), ap (λ (l : List Line). 0 ∷ map parentOf l) tail, place-zeros c 1 under (N .1) (omega arith) m e m (omega arith))
 
-module _ (s : List ℕ) (t : Table) (h : readText s ≡ fine t) (m : ℕ) (v : ℤ) (w : playWorth t m ≡ some v) where
+module _ (s : List ℕ) (t : Table) (h : readText s ≡ fine t) (m : ℕ) (among : List·Memᴰ m (nodes (children (tree t)))) where
   child : isIn m (nodes (children (tree t))) ≡ true
-  child = worth-in (t .head .total) (grain t) m v (children (tree t)) w
+  child = mem-in m (nodes (children (tree t))) among
 
   -- the lines up to that of a root child have as many marks as its place says
   pub child-place : m < length (t .lines) → childMarks (drop 25 s) m ≡ place m (nodes (children (tree t)))

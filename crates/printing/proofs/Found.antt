@@ -26,10 +26,10 @@ use Rattle.table.proofs.Ends.{span-grains}
 use Rattle.scale.proofs.Sums.{few-digits}
 use Rattle.search.specs.Search.{Seen, nodeOf}
 use Rattle.search.specs.Whole.{searched}
+use Rattle.search.proofs.Table.{heights-order, shifted, play-child, play-small, reads-few}
 use Rattle.searching.specs.declared.Bounds.{Bounds}
 use Rattle.searching.specs.declared.Bounded.the-variants.{Found, Refused}
 use Rattle.searching.specs.Call.{badMargin, Sought, sought, boundsOf, searchAnswer}
-use Rattle.promise.proofs.Demand.{heights-hold, heights-order, shifted, play-near, play-small, reads-few}
 use Rattle.printing.specs.Program.{playNumber, leafRow, rowsOf}
 use Rattle.printing.specs.Inside.{Lined, playMarks, Narrow, boundRows}
 use Rattle.printing.proofs.Marks.{marks-few}
@@ -81,10 +81,10 @@ module _ (text : List ℕ) (t : Table) (h : readText text ≡ fine t) (ε : ℕ)
       omega (arith, d, abs-mag (z *ℤ pos (grain t) +ℤ pos x))
 
   low-narrow : natAbs (seen .low) < 10 ^ 14
-  low-narrow = rw (shifted text t h ε .0) (grains-narrow _ (omega (arith, heights-hold text t h ε .2, heights-order text t h ε, span-grains text t h)))
+  low-narrow = rw (shifted text t h ε .0) (grains-narrow _ (omega (arith, heights-order text t h ε, span-grains text t h)))
 
   high-narrow : natAbs (seen .high) < 10 ^ 14
-  high-narrow = rw (shifted text t h ε .1) (grains-narrow _ (omega (arith, heights-hold text t h ε .2, span-grains text t h)))
+  high-narrow = rw (shifted text t h ε .1) (grains-narrow _ (omega (arith, heights-order text t h ε .1, span-grains text t h)))
 
   reads-low : length (seen .read) ≤ 1024
   reads-low = omega (arith, reads-few text t h ε, accepted-leaves text t h, accepted-leaf-lines text t h, accepted-size text t h .1)
@@ -104,15 +104,11 @@ module _ (text : List ℕ) (t : Table) (h : readText text ≡ fine t) (ε : ℕ)
 
   play-marked : (p : Option ℕ) → nodeOf (seen .play) ≡ p → playMarks text (playOf p) ≡ playNumber p (nodes (children (tree t)))
   play-marked none e = refl
-  play-marked (some n) e =
-      let near = play-near text t h ε n e in
-      child-place text t h n (near .0) (near .1) (play-small text t h ε n e)
+  play-marked (some n) e = child-place text t h n (play-child text t h ε n e) (play-small text t h ε n e)
 
   -- the printed number, at an M or N root, is that by which the play can be judged
   pub play-numbered : (n : ℕ) → nodeOf (seen .play) ≡ some n → numbered (pos (playNumber (some n) (nodes (children (tree t))))) (nodes (children (tree t))) ≡ some n
-  play-numbered n e =
-      let near = play-near text t h ε n e in
-      child-numbered text t h n (near .0) (near .1)
+  play-numbered n e = child-numbered text t h n (play-child text t h ε n e)
 
 -- ---- as the call has it: the search s of the text at the margin m
 

@@ -3,7 +3,7 @@
 use Prim.Native.Nat.{ℕ, _+_, _*_, _≤_, _<_}
 use mathlib.Core.Path.{_≡_, refl, sym, ap, _∙_}
 use mathlib.Core.Bool.{false}
-use mathlib.Core.List.{List, []}
+use mathlib.Core.List.{List, [], List·Memᴰ}
 use mathlib.Core.Option.{some}
 use native.Mathlib.Nat.{le-refl, le-trans}
 use native.Mathlib.Omega.{arith}
@@ -16,6 +16,7 @@ use Rattle.table.specs.Tree.{MAX, Forest, end, leaf, inner, leaves}
 use Rattle.table.specs.Table.{Table, tree, readText, greatest, grain}
 use Rattle.table.specs.Slices.{heightTree, slicesOf}
 use Rattle.table.specs.Accepted.{span}
+use Rattle.table.specs.Root.{children, nodes}
 use Rattle.table.proofs.Heights.{heights-map}
 use Rattle.table.proofs.Accepted.{accepted-ranged, accepted-proper, accepted-spans, heights-proper, heights-balanced}
 use Rattle.table.proofs.Ends.{top}
@@ -26,13 +27,39 @@ use Rattle.search.proofs.Heights.{Within, Positive, shift}
 use Rattle.search.proofs.Contain.{contained}
 use Rattle.search.proofs.Shift.{Rel, RelFrame, RelPlay, RelSeen, shift-weigh, shifted-root}
 use Rattle.search.proofs.Grains.{plain, within, positive, grains-leaves, grains-shift}
-use Rattle.search.proofs.Few.{few-reads, play-below, children-below}
+use Rattle.search.proofs.Few.{Nodes, few-reads, play-of, children-below, nodes-in}
 
 same-node : (p q : ℕ) (u : Play ℕ) (v : Play ℤ) → RelPlay p q u v → nodeOf v ≡ nodeOf u
 same-node p q noPlay noPlay i = refl
 same-node p q noPlay (child m l h) i = absurd i
 same-node p q (child m l h) noPlay i = absurd i
 same-node p q (child m l h) (child m2 l2 h2) i = ap some (i .0)
+
+-- grains change no number
+module _ (P : ℕ → Type 0) (G : ℕ) where
+  in-grains : (f : Forest ℤ) → Nodes P f → Nodes P (inGrains G f)
+  unfolding inGrains
+  in-grains end h = tt
+  in-grains (leaf m w v rest) h = (h .0, in-grains rest (h .1))
+  in-grains (inner m w k under rest) h = (h .0, in-grains rest (h .1))
+
+  grains-nodes : (f : Forest ℤ) → Nodes P (children f) → Nodes P (children (inGrains G f))
+  unfolding inGrains
+  grains-nodes end h = tt
+  grains-nodes (leaf m w v rest) h = tt
+  grains-nodes (inner m w k under rest) h = in-grains under h
+
+  of-heights : (f : Forest ℕ) → Nodes P f → Nodes P (grained G f)
+  unfolding grained
+  of-heights end h = tt
+  of-heights (leaf m w v rest) h = (h .0, of-heights rest (h .1))
+  of-heights (inner m w k under rest) h = (h .0, of-heights rest (h .1))
+
+  heights-nodes : (f : Forest ℕ) → Nodes P (children f) → Nodes P (children (grained G f))
+  unfolding grained
+  heights-nodes end h = tt
+  heights-nodes (leaf m w v rest) h = tt
+  heights-nodes (inner m w k under rest) h = of-heights under h
 
 -- the bounds of a root lie between the ends
 root-order : (S ε : ℕ) (e : Frame ℕ) (f : Forest ℕ) → e .top ≤ S → Within (plain S) e f
@@ -103,11 +130,18 @@ module _ (s : List ℕ) (t : Table) (r : readText s ≡ fine t) where
       rel-found .read,
     )
 
-    -- the play is a node of the table
+    -- "The play is either a root child or none"
+    pub play-child : (m : ℕ) → nodeOf (searched t ε .play) ≡ some m → List·Memᴰ m (nodes (children (tree t)))
+    play-child m e =
+        let P : ℕ → Type 0 = λ n. List·Memᴰ n (nodes (children (tree t))) in
+        play-of whole (rules t ε) P (inGrains G (tree t)) (grains-nodes P G (tree t) (nodes-in (children (tree t)))) m e
+
+    -- and so a node of the table
     pub play-small : (m : ℕ) → nodeOf (searched t ε .play) ≡ some m → m < length (t .lines)
     play-small m e =
-        play-below natural (heightRules 0 far ε) (length (t .lines)) (grained G (heightTree t))
-        (children-below G 0 (length (t .lines)) (slicesOf t) (heightTree t) (accepted-spans s t r)) m (sym (shifted .2) ∙ e)
+        let P : ℕ → Type 0 = λ n. n < length (t .lines) in
+        play-of natural (heightRules 0 far ε) P (grained G (heightTree t))
+        (heights-nodes P G (heightTree t) (children-below 0 (length (t .lines)) (slicesOf t) (heightTree t) (accepted-spans s t r))) m (sym (shifted .2) ∙ e)
 
     -- no more leaves are read than there are
     pub reads-few : length (searched t ε .read) ≤ leaves (tree t)
