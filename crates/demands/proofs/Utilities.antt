@@ -11,7 +11,8 @@ use Rattle.line.specs.declared.Head.{Head}
 use Rattle.line.specs.declared.Line.{Line}
 use Rattle.line.specs.declared.Entry.{Entry}
 use Rattle.line.specs.Refusal.{fine}
-use Rattle.line.specs.Line.{outside, Step, Above, ancestors, stepsOf, stepped, Placed, placed, lineChecks, placeOf, Ranged, Within}
+use Rattle.line.specs.Line.{outside, Step, Above, ancestors, stepsOf, stepped, Placed, placed, lineChecks, placeOf, Within}
+use Rattle.line.specs.Inside.{Ranged}
 use Rattle.line.proofs.Checks.{or-left}
 use Rattle.line.proofs.Fine.{unless-fine}
 use Rattle.table.specs.Tree.{Kind, Forest, leaf, inner, kindOf, isChance, run, after, grow, forest, isEnd, weigh, nodesWhere, childless, unbalanced}

@@ -9,7 +9,7 @@ use lib.Dec.{eqb, ltb, eqb·suc-zero}
 use lib.ListN.{length, getD, take, drop, length-drop, drop-of-length-le}
 use lib.Seq.{drop-cons, getD-drop}
 use Rattle.field.specs.Field.{strip, digits, whole, plain, minus, signed}
-use Rattle.field.specs.Reader.{strange, beforeOf, Blanks, AllDigits, Starts, off, withSign}
+use Rattle.field.specs.Inside.{strange, beforeOf, Blanks, AllDigits, Starts, off, withSign}
 use Rattle.field.specs.declared.Whole.{Whole}
 use Rattle.field.specs.declared.Whole.the-variants.{Digits, Wrong}
 use Rattle.field.specs.declared.Field.{Field}

@@ -10,7 +10,7 @@ ghost use lib.IntN.{natAbs};
 ghost use Rattle.field.specs.Field.{strip, digits, signed, fieldOf, digit, textOf, written};
 ghost use Rattle.field.specs.declared.Whole.the-variants.{Digits};
 ghost use Rattle.field.specs.declared.Field.the-variants.{Ill};
-ghost use Rattle.field.specs.Reader.{Blanks, Starts, AllDigits, strange, beforeOf, off, withSign};
+ghost use Rattle.field.specs.Inside.{Blanks, Starts, AllDigits, strange, beforeOf, off, withSign};
 
 // The number that a run of digits means, or none; for the definitions alone.
 pub enum Whole {

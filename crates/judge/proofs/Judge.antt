@@ -16,7 +16,7 @@ use Rattle.line.specs.Refusal.{refused, fine}
 use Rattle.line.specs.Line.{Within}
 use Rattle.table.specs.Tree.{Forest, end, leaf, inner, isChance}
 use Rattle.table.specs.Table.{Table, tree, readText, greatest, grain}
-use Rattle.table.specs.Slices.{heightTree}
+use Rattle.table.specs.Inside.{heightTree}
 use Rattle.table.specs.Accepted.{one, Filled, Proper}
 use Rattle.table.specs.Root.{Side, Root, undecided, decided, rootOf, children, nodes, numbered}
 use Rattle.table.proofs.Heights.{above, mapForest, heights-map}

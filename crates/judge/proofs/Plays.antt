@@ -9,7 +9,8 @@ use Rattle.line.specs.Refusal.{fine}
 use Rattle.table.specs.Tree.{Forest, end, leaf, inner}
 use Rattle.table.specs.Table.{Table, readText}
 use Rattle.table.specs.Accepted.{Rooted}
-use Rattle.table.specs.Slices.{Slices, Spans, stopsOf, slicesOf, fitted, heightTree}
+use Rattle.table.specs.Inside.{Slices, Spans, slicesOf, heightTree}
+use Rattle.table.specs.Slices.{stopsOf, fitted}
 use Rattle.table.specs.declared.Play.{Play}
 use Rattle.table.specs.Root.{children, nodes, numbered, childNode, playOf}
 use Rattle.table.proofs.Accepted.{accepted-spans, heights-rooted}

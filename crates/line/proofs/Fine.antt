@@ -18,8 +18,8 @@ use Rattle.line.specs.declared.Heading.{Heading}
 use Rattle.line.specs.declared.Entry.{Entry}
 use Rattle.line.specs.declared.Refusal.{Refusal}
 use Rattle.line.specs.Refusal.{refused, fine, Check, unless, unlessAt}
-use Rattle.line.specs.Line.{isIll, isBlank, outside, valueOf, toNat, countOf, headOf, headerChecks, headerFor, letterCode, Step, Above, wrong, path, climb, ancestors, isWrong, stepsOf, chancesOf, atChance, stepped, Placed, placed, lineChecks, placeOf, Ranged, Weighs, Within}
-use Rattle.line.specs.Inside.{Sized}
+use Rattle.line.specs.Line.{isIll, isBlank, outside, valueOf, toNat, countOf, headOf, headerChecks, headerFor, letterCode, Step, Above, wrong, path, climb, ancestors, isWrong, stepsOf, chancesOf, atChance, stepped, Placed, placed, lineChecks, placeOf, Within}
+use Rattle.line.specs.Inside.{Ranged, Weighs, Sized}
 use Rattle.line.proofs.Signs.{true-ne-false}
 use Rattle.line.proofs.Checks.{or-left, or-right}
 

@@ -1,7 +1,24 @@
--- What contracts of internal functions cite; no promise of a public call names this.
-use Prim.Native.Nat.{_≤_, _<_}
-use lib.Signed.{mag}
+-- What holds of a header and of a line that were read; contracts of internal functions and proofs cite these, and no promise of a public call.
+use Prim.Native.Nat.{ℕ, _≤_, _<_}
+use mathlib.Core.Path.{_≡_}
+use mathlib.Core.Bool.{Bool, true, false}
+use lib.IntN.{natAbs}
+use lib.Signed.{mag, ltZ}
+use Rattle.line.specs.declared.Head.{Head}
 use Rattle.line.specs.declared.Line.{Line}
+
+-- "T 1 to 64; ends -1,000,000 to 1,000,000, the lowest at most the highest"
+pub record Ranged (h : Head) : Type 0 where
+  pub some : 0 < h .total
+  pub total : h .total ≤ 64
+  pub lowest : natAbs (h .lowest) ≤ 1000000
+  pub highest : natAbs (h .highest) ≤ 1000000
+  pub order : ltZ (h .highest) (h .lowest) ≡ false
+
+-- "weights 1 to T" under a C, and none elsewhere
+abbrev pub Weighs : Bool → ℕ → ℕ → Type 0
+Weighs true T w = (0 < w) × (w ≤ T)
+Weighs false T w = w ≡ 0
 
 -- a line's numbers fit the slices
 pub record Sized (l : Line) : Type 0 where

@@ -1,11 +1,11 @@
 -- What one line says. Document 01, 'The table on paper', with the conditions of 'Refused tables and calls'.
-use Prim.Native.Nat.{ℕ, _+_, _≤_, _<_}
+use Prim.Native.Nat.{ℕ, _+_}
 use mathlib.Core.Path.{_≡_}
 use mathlib.Core.Bool.{Bool, true, false, not, _||_, cond}
 use mathlib.Core.List.{List, [], _∷_, _++_}
 use lib.ListN.{length, getD}
 use lib.Dec.{eqb, ltb}
-use lib.IntN.{ℤ, pos, negsuc, natAbs}
+use lib.IntN.{ℤ, pos, negsuc}
 use lib.Signed.{ltZ}
 use Rattle.field.specs.Field.{fieldOf}
 use Rattle.field.specs.declared.Field.{Field}
@@ -228,21 +228,6 @@ placeOf h i e fifth last P =
 abbrev pub nodeLine : Head → ℕ → List Step → List ℕ → Verdict Placed
 nodeLine h i P s = placeOf h i (entryOf s) (getD s 4 0) (getD s 24 0) P
 
--- ---- a header and a line that were read
-
--- "T 1 to 64; ends -1,000,000 to 1,000,000, the lowest at most the highest"
-pub record Ranged (h : Head) : Type 0 where
-  pub some : 0 < h .total
-  pub total : h .total ≤ 64
-  pub lowest : natAbs (h .lowest) ≤ 1000000
-  pub highest : natAbs (h .highest) ≤ 1000000
-  pub order : ltZ (h .highest) (h .lowest) ≡ false
-
 -- "utilities within the ends"
 abbrev pub Within : Head → ℤ → Type 0
 Within h z = (ltZ z (h .lowest) ≡ false) × (ltZ (h .highest) z ≡ false)
-
--- "weights 1 to T" under a C, and none elsewhere
-abbrev pub Weighs : Bool → ℕ → ℕ → Type 0
-Weighs true T w = (0 < w) × (w ≤ T)
-Weighs false T w = w ≡ 0

@@ -11,7 +11,7 @@ use lib.IntN.{ℤ, pos, _+ℤ_, _*ℤ_}
 use Rattle.line.specs.declared.Head.{Head}
 use Rattle.line.specs.Line.{Within}
 use Rattle.table.specs.Tree.{Kind, Forest, end, leaf, inner, isChance}
-use Rattle.table.specs.Slices.{Slices, Spans}
+use Rattle.table.specs.Inside.{Slices, Spans}
 use Rattle.table.specs.Accepted.{one, Filled, Proper}
 use Rattle.table.specs.Root.{children, rootOf}
 use Rattle.table.proofs.Heights.{above, mapForest, map-end, map-filled}

@@ -13,7 +13,7 @@ use Rattle.numbers.proofs.Above.{le-above}
 use Rattle.line.specs.Refusal.{fine}
 use Rattle.table.specs.Tree.{Forest, isEnd}
 use Rattle.table.specs.Table.{Table, tree, readText, greatest, grain}
-use Rattle.table.specs.Slices.{Spans, heightTree, slicesOf}
+use Rattle.table.specs.Inside.{Spans, heightTree, slicesOf}
 use Rattle.table.specs.Accepted.{span, Filled, Balanced, Proper, Rooted}
 use Rattle.table.specs.Root.{Side, AtM, AtN, Root, undecided, decided, children, rootOf}
 use Rattle.table.proofs.Heights.{above, mapForest, heights-map}

@@ -13,7 +13,7 @@ use Rattle.line.specs.Refusal.{fine}
 use Rattle.line.specs.Line.{toNat, Within}
 use Rattle.table.specs.Tree.{Kind, MAX, MIN, CHANCE, Forest, end, leaf, inner, isChance}
 use Rattle.table.specs.Table.{Table, tree, readText, greatest, grain}
-use Rattle.table.specs.Slices.{heightTree}
+use Rattle.table.specs.Inside.{heightTree}
 use Rattle.table.specs.Accepted.{span, one, flat, Proper}
 use Rattle.table.proofs.Heights.{above, mapForest, height-back, heights-map}
 use Rattle.table.proofs.Accepted.{accepted-flat, accepted-proper}

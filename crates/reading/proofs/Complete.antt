@@ -19,7 +19,8 @@ use Rattle.table.specs.declared.Reading.{Reading}
 use Rattle.table.specs.declared.Reading.the-variants.{Accepted, Refused}
 use Rattle.table.specs.Tree.{Kind, Forest, end, leaf, inner, isEnd, isChance, run, weigh, nodesWhere, childless, unbalanced}
 use Rattle.table.specs.Table.{Table, nodeLines, linesOf, tree, complete, greatest, leafLines, answer}
-use Rattle.table.specs.Slices.{Slices, Spans, heightOf, heightTree, lineStops, laid, kindsOf, weightsOf, heightsOf, stopsOf}
+use Rattle.table.specs.Inside.{Slices, Spans, heightTree}
+use Rattle.table.specs.Slices.{heightOf, lineStops, laid, kindsOf, weightsOf, heightsOf, stopsOf}
 use Rattle.table.proofs.Grown.{lines-counted, lines-first}
 use Rattle.table.proofs.Heights.{mapForest, map-end, map-weigh, above, heights-map}
 use Rattle.table.proofs.Known.{read-length}

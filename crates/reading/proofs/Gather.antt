@@ -13,8 +13,8 @@ use Rattle.line.specs.declared.Head.{Head}
 use Rattle.line.specs.declared.Line.{Line}
 use Rattle.line.specs.declared.Refusal.{Refusal}
 use Rattle.line.specs.Refusal.{Verdict, refused, fine, next}
-use Rattle.line.specs.Line.{Step, Placed, ancestors, stepsOf, entryOf, nodeLine, Ranged}
-use Rattle.line.specs.Inside.{Sized}
+use Rattle.line.specs.Line.{Step, Placed, ancestors, stepsOf, entryOf, nodeLine}
+use Rattle.line.specs.Inside.{Ranged, Sized}
 use Rattle.line.proofs.Fine.{Falling, falling-more, Climbs, climbed, Read, line-read, read-sized}
 use Rattle.parsing.specs.Inside.{pathOf, Bounded}
 use Rattle.table.specs.Table.{prefix, nodeLines, greatest, leafLines}

@@ -9,7 +9,8 @@ use lib.Seq.{length-take-le}
 use Rattle.line.specs.Refusal.{fine}
 use Rattle.table.specs.Tree.{leaves}
 use Rattle.table.specs.Table.{Table, readText, grain, leafLines}
-use Rattle.table.specs.Slices.{kindsOf, stopsOf, weightsOf, heightsOf, heightTree, fitted, laid}
+use Rattle.table.specs.Slices.{kindsOf, stopsOf, weightsOf, heightsOf, fitted, laid}
+use Rattle.table.specs.Inside.{heightTree}
 use Rattle.table.specs.Accepted.{span}
 use Rattle.table.proofs.Accepted.{accepted-lent, heights-leaves, accepted-holds}
 use Rattle.rollout.specs.Rollout.{Pair}

@@ -9,7 +9,7 @@ use lib.ListN.{length, take, length-append}
 use Rattle.line.specs.Refusal.{fine}
 use Rattle.table.specs.Tree.{Kind, Forest, inner, isEnd, leaves}
 use Rattle.table.specs.Table.{Table, tree, readText, greatest, grain}
-use Rattle.table.specs.Slices.{heightTree}
+use Rattle.table.specs.Inside.{heightTree}
 use Rattle.table.specs.Accepted.{span}
 use Rattle.table.proofs.Runs.{Numbered}
 use Rattle.table.proofs.Accepted.{accepted-leaves, heights-leaves, heights-proper, heights-rooted}

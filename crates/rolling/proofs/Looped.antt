@@ -9,7 +9,8 @@ use lib.ListN.{length, getD, set, drop, length-append}
 use lib.Seq.{drop-cons, set-append-seam}
 use Rattle.table.specs.Tree.{Forest, end, leaf, inner, leaves}
 use Rattle.table.specs.Table.{grain}
-use Rattle.table.specs.Slices.{heightTree, laid, slices}
+use Rattle.table.specs.Inside.{heightTree, slices}
+use Rattle.table.specs.Slices.{laid}
 use Rattle.table.specs.Accepted.{span}
 use Rattle.table.proofs.Accepted.{accepted-size, accepted-grain, heights-rooted}
 use Rattle.table.proofs.Runs.{size}

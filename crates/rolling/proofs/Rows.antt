@@ -8,7 +8,7 @@ use lib.Dec.{eqb}
 use lib.ListN.{getD}
 use Rattle.line.proofs.Signs.{true-ne-false}
 use Rattle.table.specs.Tree.{MAX, MIN, CHANCE, Kind, Forest, end, leaf, inner}
-use Rattle.table.specs.Slices.{Slices, Spans}
+use Rattle.table.specs.Inside.{Slices, Spans}
 use Rattle.table.proofs.Spans.{spans-le}
 use Rattle.table.proofs.Nodes.{restOf, stopOf}
 use Rattle.rollout.specs.Rollout.{joined, over, candidate}

@@ -7,7 +7,7 @@ use native.Mathlib.Omega.{arith}
 use lib.Dec.{eqb}
 use lib.ListN.{getD}
 use Rattle.table.specs.Tree.{Kind, Forest, end, leaf, inner, codeOf, kindOf}
-use Rattle.table.specs.Slices.{Slices, Spans, slices}
+use Rattle.table.specs.Inside.{Slices, Spans, slices}
 use Rattle.table.proofs.Spans.{spans-le}
 use Rattle.table.proofs.Nodes.{stopOf, code-pos}
 use Rattle.table.proofs.Runs.{kind-code}

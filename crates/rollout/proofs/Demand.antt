@@ -13,7 +13,7 @@ use Rattle.line.specs.Refusal.{fine}
 use Rattle.line.specs.Line.{Within}
 use Rattle.table.specs.Tree.{leaves}
 use Rattle.table.specs.Table.{Table, tree, readText, grain}
-use Rattle.table.specs.Slices.{heightTree}
+use Rattle.table.specs.Inside.{heightTree}
 use Rattle.table.specs.Accepted.{span, Proper}
 use Rattle.table.proofs.Heights.{heights-map}
 use Rattle.table.proofs.Accepted.{accepted-proper, accepted-filled}

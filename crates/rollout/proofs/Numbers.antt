@@ -5,7 +5,7 @@ use mathlib.Core.List.{List, [], _∷_, _++_}
 use native.Mathlib.Omega.{arith}
 use lib.ListN.{length, getD}
 use Rattle.table.specs.Tree.{Forest, end, leaf, inner}
-use Rattle.table.specs.Slices.{Slices, Spans}
+use Rattle.table.specs.Inside.{Slices, Spans}
 use Rattle.table.proofs.Runs.{size, Numbered}
 use Rattle.table.proofs.Places.{Below, below-append}
 use Rattle.rollout.specs.Leaves.{leafNodes, Drops, now, later, Picks, nothing, this, Lacks, Distinct}

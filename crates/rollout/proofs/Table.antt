@@ -11,7 +11,7 @@ use lib.ListN.{length}
 use Rattle.line.specs.Refusal.{fine}
 use Rattle.table.specs.Tree.{Forest, leaves}
 use Rattle.table.specs.Table.{Table, tree, readText, greatest, grain}
-use Rattle.table.specs.Slices.{heightTree, slicesOf}
+use Rattle.table.specs.Inside.{heightTree, slicesOf}
 use Rattle.table.specs.Accepted.{span, Proper}
 use Rattle.table.proofs.Heights.{above as height, heights-map}
 use Rattle.table.proofs.Accepted.{heights-rooted, heights-proper, heights-filled, accepted-spans}

@@ -10,7 +10,7 @@ use lib.ListN.{getD}
 use lib.Dec.{eqb}
 use native.Mathlib.Decide.{decLe}
 use Rattle.table.specs.Tree.{Kind, Forest, end, leaf, inner, codeOf, isChance, isEnd, weigh, nodesWhere}
-use Rattle.table.specs.Slices.{Slices, Spans}
+use Rattle.table.specs.Inside.{Slices, Spans}
 use Rattle.table.proofs.Runs.{code-inner, code-chance}
 use Rattle.table.proofs.Spans.{spans-le}
 use Rattle.runs.specs.Inside.{scanFrom, firstOr, bareAt, weighAt, oddAt, Has}

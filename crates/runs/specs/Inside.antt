@@ -6,7 +6,7 @@ use mathlib.Core.Path.{_≡_}
 use lib.ListN.{length, getD, drop}
 use lib.Dec.{leb, ltb, eqb}
 use Rattle.table.specs.Tree.{Forest}
-use Rattle.table.specs.Slices.{Spans}
+use Rattle.table.specs.Inside.{Spans}
 
 -- ---- runs, by the parents' numbers alone
 

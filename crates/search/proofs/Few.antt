@@ -7,7 +7,7 @@ use native.Mathlib.Omega.{arith}
 use lib.ListN.{length, getD, length-append}
 use Rattle.field.proofs.Small.{choose}
 use Rattle.table.specs.Tree.{Kind, MAX, MIN, CHANCE, Forest, end, leaf, inner, leaves}
-use Rattle.table.specs.Slices.{Slices, Spans}
+use Rattle.table.specs.Inside.{Slices, Spans}
 use Rattle.table.specs.Root.{children}
 use Rattle.table.proofs.Spans.{spans-le}
 use Rattle.search.specs.Search.{Frame, Play, noPlay, child, Seen, State, Arith, Rules, begin, finish, cut, point, lower, upper, beats, better, update, stop, scan, search, searchRoot, nodeOf}

@@ -6,7 +6,8 @@ use native.Mathlib.Nat.{mul-le-mul-right, le-refl}
 use native.Mathlib.Omega.{arith}
 use lib.IntN.{ℤ, pos, _*ℤ_}
 use Rattle.line.specs.declared.Head.{Head}
-use Rattle.line.specs.Line.{Weighs, Within as Between}
+use Rattle.line.specs.Inside.{Weighs}
+use Rattle.line.specs.Line.{Within as Between}
 use Rattle.table.specs.Tree.{Kind, MAX, MIN, CHANCE, Forest, end, leaf, inner, isChance, weigh, leaves}
 use Rattle.table.specs.Accepted.{one, Sums, Balanced, Proper}
 use Rattle.table.proofs.Heights.{above, mapForest}

@@ -15,7 +15,7 @@ use Rattle.line.specs.Refusal.{fine}
 use Rattle.table.specs.Tree.{MAX, Forest, end, leaf, inner, leaves}
 use Rattle.table.specs.Table.{Table, tree, readText, greatest, grain}
 use Rattle.table.specs.Root.{children}
-use Rattle.table.specs.Slices.{heightTree, slicesOf}
+use Rattle.table.specs.Inside.{heightTree, slicesOf}
 use Rattle.table.specs.Accepted.{span}
 use Rattle.table.proofs.Heights.{heights-map}
 use Rattle.table.proofs.Accepted.{accepted-ranged, accepted-proper, accepted-spans, heights-proper, heights-balanced}

@@ -6,11 +6,11 @@ use mathlib.Core.List.{List}
 use native.Mathlib.Nat.{mul-le-mul-right}
 use native.Mathlib.Omega.{arith}
 use lib.ListN.{length}
-use Rattle.line.specs.Line.{Weighs}
+use Rattle.line.specs.Inside.{Weighs}
 use Rattle.line.specs.Refusal.{fine}
 use Rattle.table.specs.Tree.{Kind, MAX, Forest, end, leaf, inner, isChance}
 use Rattle.table.specs.Table.{Table, readText, greatest, leafLines, grain}
-use Rattle.table.specs.Slices.{lent, heightTree}
+use Rattle.table.specs.Inside.{lent, heightTree}
 use Rattle.table.specs.Accepted.{span, Filled, Balanced, Proper}
 use Rattle.table.proofs.Accepted.{accepted-ranged, accepted-grain, accepted-lent, accepted-holds, heights-rooted, heights-proper, heights-filled, heights-balanced, heights-leaves}
 use Rattle.table.proofs.Ends.{span-grains}

@@ -5,7 +5,8 @@ use mathlib.Core.List.{List, [], _∷_}
 use native.Mathlib.Omega.{arith}
 use lib.ListN.{length, set}
 use Rattle.table.specs.Tree.{MAX, Forest, end, leaf, inner}
-use Rattle.table.specs.Slices.{Slices, laid}
+use Rattle.table.specs.Inside.{Slices}
+use Rattle.table.specs.Slices.{laid}
 use Rattle.table.specs.Accepted.{Rooted}
 use Rattle.table.proofs.Nodes.{leaves-split, root-stop, root-some}
 use Rattle.search.specs.Search.{Seen, search, searchRoot}

@@ -8,7 +8,7 @@ use native.Mathlib.Omega.{arith}
 use lib.ListN.{length, getD, set, length-set, length-append}
 use Rattle.line.proofs.Signs.{true-ne-false}
 use Rattle.table.specs.Tree.{Kind, MAX, MIN, CHANCE, Forest, end, leaf, inner, codeOf, isEnd, weigh, leaves}
-use Rattle.table.specs.Slices.{Slices, Spans, Holds}
+use Rattle.table.specs.Inside.{Slices, Spans, Holds}
 use Rattle.table.proofs.Nodes.{code-inj, code-pos, stopOf, restOf, numberOf, weightOf, leaves-split, weigh-split, Step, step, spans-last, spans-more, spans-lt, spans-same}
 use Rattle.runs.specs.Inside.{weighAt}
 use Rattle.runs.proofs.Scan.{spans-weigh}

@@ -15,7 +15,8 @@ use Rattle.line.proofs.Checks.{or-right}
 use Rattle.table.specs.declared.Summary.{Summary}
 use Rattle.table.specs.Tree.{leaves}
 use Rattle.table.specs.Table.{Table, readText, tree, summary, grain}
-use Rattle.table.specs.Slices.{laid, slices}
+use Rattle.table.specs.Slices.{laid}
+use Rattle.table.specs.Inside.{slices}
 use Rattle.table.specs.Root.{playOf}
 use Rattle.table.proofs.Accepted.{accepted-leaves}
 use Rattle.table.proofs.Ends.{span-grains}

@@ -9,7 +9,8 @@ use lib.IntN.{ℤ}
 use lib.ListN.{length, set}
 use Rattle.line.specs.Line.{toNat}
 use Rattle.table.specs.Tree.{Kind, MAX, MIN, CHANCE, Forest, end, leaf, inner, isChance, isEnd, weigh, leaves}
-use Rattle.table.specs.Slices.{Slices, Spans, Holds, laid}
+use Rattle.table.specs.Inside.{Slices, Spans, Holds}
+use Rattle.table.specs.Slices.{laid}
 use Rattle.table.specs.Accepted.{Rooted}
 use Rattle.scale.specs.declared.Scale.{Scale}
 use Rattle.search.specs.Search as alg

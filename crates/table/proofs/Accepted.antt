@@ -14,14 +14,16 @@ use Rattle.line.specs.declared.Line.{Line}
 use Rattle.line.specs.declared.Refusal.{Refusal}
 use Rattle.line.specs.declared.Refusal.the-variants.{Length}
 use Rattle.line.specs.Refusal.{Verdict, refused, fine, next}
-use Rattle.line.specs.Line.{header, headingOf, Ranged, Within}
+use Rattle.line.specs.Line.{header, headingOf, Within}
+use Rattle.line.specs.Inside.{Ranged}
 use Rattle.line.proofs.Signs.{true-ne-false}
 use Rattle.line.proofs.Fine.{header-ranged}
 use Rattle.table.specs.declared.Summary.{Summary}
 use Rattle.table.specs.declared.Reading.the-variants.{Accepted, Refused}
 use Rattle.table.specs.Tree.{Kind, Forest, end, leaf, inner, isChance, isEnd, weigh, nodesWhere, childless, unbalanced, leaves}
 use Rattle.table.specs.Table.{Table, badLength, nodeLines, tree, complete, count, readText, greatest, leafLines, grain, summary, answer}
-use Rattle.table.specs.Slices.{heightOf, kindsOf, stopsOf, weightsOf, heightsOf, fitted, Spans, Holds, heightTree, slicesOf, lent}
+use Rattle.table.specs.Slices.{heightOf, kindsOf, stopsOf, weightsOf, heightsOf, fitted}
+use Rattle.table.specs.Inside.{Spans, Holds, heightTree, slicesOf, lent}
 use Rattle.table.specs.Accepted.{span, flat, Sums, Filled, Balanced, Proper, Rooted}
 use Rattle.table.proofs.Grown.{fine-refused, next-fine}
 use Rattle.table.proofs.Heights.{above, height-back, height-span, map-leaves, map-filled, map-balanced, map-rooted, map-proper, heights-map}

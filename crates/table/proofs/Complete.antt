@@ -12,7 +12,8 @@ use Rattle.line.specs.Refusal.{fine, unlessAt}
 use Rattle.line.proofs.Fine.{unlessAt-fine}
 use Rattle.table.specs.Tree.{Forest, end, leaf, inner, childless, unbalanced}
 use Rattle.table.specs.Table.{Table, nodeLines, tree, complete}
-use Rattle.table.specs.Slices.{Slices, Spans, slicesOf, heightOf, heightTree, lineStops, laid, kindsOf, weightsOf, heightsOf, stopsOf}
+use Rattle.table.specs.Inside.{Slices, Spans, slicesOf, heightTree}
+use Rattle.table.specs.Slices.{heightOf, lineStops, laid, kindsOf, weightsOf, heightsOf, stopsOf}
 use Rattle.table.proofs.Spans.{spans-le}
 use Rattle.table.proofs.Laid.{laid-at}
 use Rattle.table.proofs.Grown.{next-fine}

@@ -14,7 +14,8 @@ use Rattle.line.specs.Line.{toNat}
 use Rattle.line.proofs.Signs.{true-ne-false}
 use Rattle.table.specs.Tree.{Forest, end, leaf, inner, isChance, isEnd, kindOf, run, after, forest, weigh, leaves}
 use Rattle.table.specs.Table.{Table, tree}
-use Rattle.table.specs.Slices.{heightOf, heightTree}
+use Rattle.table.specs.Slices.{heightOf}
+use Rattle.table.specs.Inside.{heightTree}
 use Rattle.table.specs.Accepted.{one, Filled, Balanced, Proper, Rooted}
 
 -- ---- differences of integers

@@ -10,7 +10,7 @@ use Rattle.line.specs.Refusal.{fine}
 use Rattle.line.specs.Line.{Within}
 use Rattle.table.specs.Tree.{forest, leaves}
 use Rattle.table.specs.Table.{Table, nodeLines, tree, greatest, leafLines}
-use Rattle.table.specs.Slices.{Spans, heightTree, slicesOf}
+use Rattle.table.specs.Inside.{Spans, heightTree, slicesOf}
 use Rattle.table.specs.Accepted.{flat, Proper, Rooted}
 use Rattle.table.proofs.Runs.{size, Numbered, flat-length, flat-leaves, regrow-root}
 use Rattle.table.proofs.Grown.{lines-counted, OneTree, one-tree}

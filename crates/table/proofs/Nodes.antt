@@ -6,7 +6,7 @@ use native.Mathlib.Omega.{arith}
 use lib.ListN.{getD}
 use Rattle.line.proofs.Signs.{true-ne-false}
 use Rattle.table.specs.Tree.{Kind, MAX, MIN, CHANCE, Forest, end, leaf, inner, codeOf, isEnd, weigh, leaves}
-use Rattle.table.specs.Slices.{Slices, Spans}
+use Rattle.table.specs.Inside.{Slices, Spans}
 use Rattle.table.specs.Accepted.{Rooted}
 use Rattle.table.proofs.Spans.{spans-le}
 

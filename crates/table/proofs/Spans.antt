@@ -9,7 +9,8 @@ use lib.IntN.{ℤ, pos}
 use Rattle.line.specs.declared.Line.{Line}
 use Rattle.table.specs.Tree.{Kind, Forest, end, leaf, inner, codeOf, run}
 use Rattle.table.specs.Table.{Table}
-use Rattle.table.specs.Slices.{heightOf, lineStops, Slices, Spans, slicesOf}
+use Rattle.table.specs.Slices.{heightOf, lineStops}
+use Rattle.table.specs.Inside.{Slices, Spans, slicesOf}
 use Rattle.table.specs.Accepted.{flat, one, Rooted}
 use Rattle.table.proofs.Runs.{size, Numbered, flat-length, Outside, outside-more, flat-outside, run-outside, run-under}
 use Rattle.table.proofs.Heights.{mapForest, above}

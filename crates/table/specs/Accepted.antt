@@ -6,7 +6,8 @@ use mathlib.Core.List.{List, [], _∷_, _++_}
 use lib.IntN.{ℤ, pos, _-ℤ_}
 use Rattle.line.specs.declared.Head.{Head}
 use Rattle.line.specs.declared.Line.{Line}
-use Rattle.line.specs.Line.{toNat, Weighs}
+use Rattle.line.specs.Line.{toNat}
+use Rattle.line.specs.Inside.{Weighs}
 use Rattle.table.specs.Tree.{Kind, Forest, end, leaf, inner, codeOf, isChance, isEnd, weigh}
 
 -- how many points the ends are apart

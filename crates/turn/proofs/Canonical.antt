@@ -9,7 +9,8 @@ use lib.Seq.{length-take-le}
 use Rattle.line.specs.declared.Head.{Head}
 use Rattle.line.specs.declared.Line.{Line}
 use Rattle.line.specs.Refusal.{fine}
-use Rattle.line.specs.Line.{Step, Placed, nodeLine, Ranged}
+use Rattle.line.specs.Line.{Step, Placed, nodeLine}
+use Rattle.line.specs.Inside.{Ranged}
 use Rattle.table.specs.Table.{Table, nodeLines, count, readText}
 use Rattle.table.proofs.Grown.{lines-first}
 use Rattle.table.proofs.Known.{read-length}

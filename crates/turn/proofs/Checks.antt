@@ -16,7 +16,8 @@ use Rattle.line.specs.declared.Head.{Head}
 use Rattle.line.specs.declared.Line.{Line}
 use Rattle.line.specs.declared.Entry.{Entry}
 use Rattle.line.specs.Refusal.{Verdict, fine, Check, unless}
-use Rattle.line.specs.Line.{isIll, isBlank, outside, valueOf, countOf, headerFor, headerChecks, letterCode, Step, Above, wrong, path, climb, ancestors, isWrong, stepsOf, chancesOf, atChance, illEntry, deep, misfilled, wideEntry, wideHeading, stepped, Placed, placed, earlyChecks, lateChecks, placeOf, Ranged}
+use Rattle.line.specs.Line.{isIll, isBlank, outside, valueOf, countOf, headerFor, headerChecks, letterCode, Step, Above, wrong, path, climb, ancestors, isWrong, stepsOf, chancesOf, atChance, illEntry, deep, misfilled, wideEntry, wideHeading, stepped, Placed, placed, earlyChecks, lateChecks, placeOf}
+use Rattle.line.specs.Inside.{Ranged}
 use Rattle.line.proofs.Fine.{Passed, unless-fine}
 use Rattle.turn.specs.Text.{letterOf}
 use Rattle.turn.specs.Turn.{turnCode, turnLine, turnHead}

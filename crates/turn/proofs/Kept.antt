@@ -16,7 +16,8 @@ use Rattle.line.specs.declared.Head.{Head}
 use Rattle.line.specs.declared.Line.{Line}
 use Rattle.line.specs.declared.Entry.{Entry}
 use Rattle.line.specs.Refusal.{fine, unlessAt}
-use Rattle.line.specs.Line.{header, headerFor, headingOf, Step, entryOf, Placed, placeOf, nodeLine, Ranged}
+use Rattle.line.specs.Line.{header, headerFor, headingOf, Step, entryOf, Placed, placeOf, nodeLine}
+use Rattle.line.specs.Inside.{Ranged}
 use Rattle.table.specs.Tree.{childless, unbalanced}
 use Rattle.table.specs.Table.{Table, badLength, nodeLines, tree, complete, count, readText}
 use Rattle.table.proofs.Accepted.{Checked, checked, accepted-ranged, accepted-size}

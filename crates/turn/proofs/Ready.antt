@@ -13,7 +13,8 @@ use lib.IntN.{ℤ, pos, negsuc, natAbs}
 use lib.Signed.{ltZ}
 use Rattle.line.specs.declared.Head.{Head}
 use Rattle.line.specs.declared.Line.{Line}
-use Rattle.line.specs.Line.{Ranged, Within, Weighs}
+use Rattle.line.specs.Inside.{Ranged, Weighs}
+use Rattle.line.specs.Line.{Within}
 use Rattle.line.specs.Refusal.{fine}
 use Rattle.line.proofs.Signs.{true-ne-false}
 use Rattle.table.specs.Tree.{Kind, MAX, MIN, CHANCE, Forest, end, leaf, inner, codeOf}

@@ -19,7 +19,8 @@ use Rattle.line.specs.declared.Line.{Line}
 use Rattle.line.specs.declared.Heading.{Heading}
 use Rattle.line.specs.declared.Entry.{Entry}
 use Rattle.line.specs.Refusal.{fine}
-use Rattle.line.specs.Line.{isIll, isBlank, hasNumber, outside, valueOf, toNat, countOf, headingOf, headOf, headerChecks, header, entryOf, letterCode, Step, Above, ancestors, isWrong, stepsOf, atChance, stepped, lineChecks, placed, Placed, nodeLine, Ranged}
+use Rattle.line.specs.Line.{isIll, isBlank, hasNumber, outside, valueOf, toNat, countOf, headingOf, headOf, headerChecks, header, entryOf, letterCode, Step, Above, ancestors, isWrong, stepsOf, atChance, stepped, lineChecks, placed, Placed, nodeLine}
+use Rattle.line.specs.Inside.{Ranged}
 use Rattle.line.proofs.Signs.{true-ne-false}
 use Rattle.line.proofs.Checks.{or-left, or-right}
 use Rattle.line.proofs.Fine.{unless-fine, nor9, Valued, line-read, valued-small}

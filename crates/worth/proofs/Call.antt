@@ -13,7 +13,8 @@ use Rattle.table.specs.declared.Summary.{Summary}
 use Rattle.table.specs.Tree.{MAX, Forest, end, leaf, inner}
 use Rattle.table.specs.Table.{Table, readText, summary, grain}
 use Rattle.table.specs.Accepted.{Rooted}
-use Rattle.table.specs.Slices.{heightOf, stopsOf, weightsOf, heightsOf, fitted, heightTree}
+use Rattle.table.specs.Slices.{heightOf, stopsOf, weightsOf, heightsOf, fitted}
+use Rattle.table.specs.Inside.{heightTree}
 use Rattle.table.proofs.Accepted.{accepted-size, accepted-grain, heights-rooted, heights-filled}
 use Rattle.table.proofs.Complete.{stops-long}
 use Rattle.table.proofs.Laid.{fitted-long}

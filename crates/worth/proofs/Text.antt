@@ -12,7 +12,8 @@ use Rattle.line.specs.Line.{Step, Above, ancestors, stepsOf, stepped, letterCod
 use Rattle.line.proofs.Fine.{unless-fine}
 use Rattle.table.specs.Tree.{Forest, end, leaf, inner}
 use Rattle.table.specs.Table.{Table, nodeLines, count, readText}
-use Rattle.table.specs.Slices.{kindsOf, stopsOf, weightsOf, heightsOf, fitted, Slices, Spans, heightTree}
+use Rattle.table.specs.Slices.{kindsOf, stopsOf, weightsOf, heightsOf, fitted}
+use Rattle.table.specs.Inside.{Slices, Spans, heightTree}
 use Rattle.table.proofs.Accepted.{checked, accepted-lent}
 use Rattle.table.proofs.Laid.{fitted-at}
 use Rattle.table.proofs.Grown.{lines-first}

@@ -10,7 +10,7 @@ use Rattle.numbers.proofs.Above.{le-above}
 use Rattle.line.specs.Refusal.{fine}
 use Rattle.table.specs.Tree.{Forest, end, leaf, inner, weigh}
 use Rattle.table.specs.Table.{Table, tree, readText, greatest, grain}
-use Rattle.table.specs.Slices.{heightTree}
+use Rattle.table.specs.Inside.{heightTree}
 use Rattle.table.specs.Accepted.{span, Balanced}
 use Rattle.table.proofs.Heights.{heights-map}
 use Rattle.table.proofs.Accepted.{accepted-ranged, accepted-proper, accepted-filled, accepted-balanced, heights-rooted, heights-proper, heights-balanced}

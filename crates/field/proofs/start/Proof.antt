@@ -7,7 +7,7 @@ use borrow.Author.Needs.{needs}
 use borrow.Author.Tests.{eq-eqb, ne-eqb}
 use denote.Ref.{now}
 use lib.ListN.{length, getD}
-use Rattle.field.specs.Reader.{strange}
+use Rattle.field.specs.Inside.{strange}
 use Rattle.field.proofs.Reader.{one-more}
 use Rattle.field.proofs.start.Statement.{statement}
 use Rattle.field.proofs.start.Tie as tie

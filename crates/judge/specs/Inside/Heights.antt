@@ -9,7 +9,7 @@ use Rattle.line.specs.declared.Refusal.the-variants.{NoChild}
 use Rattle.line.specs.Refusal.{Verdict, refused, fine}
 use Rattle.table.specs.Tree.{Forest, end, leaf, inner}
 use Rattle.table.specs.Table.{Table, grain}
-use Rattle.table.specs.Slices.{heightTree}
+use Rattle.table.specs.Inside.{heightTree}
 use Rattle.table.specs.Root.{Side, AtM, AtN, Root, undecided, decided, rootOf, children, numbered}
 use Rattle.worth.specs.Worth.{Share}
 use Rattle.worth.specs.Inside.Heights.{heightShares, heightWorth}

@@ -17,8 +17,8 @@ use mir.ValLaws.{toZ-ofZ}
 use Rattle.field.proofs.Bits.{mag-abs}
 use Rattle.field.proofs.Small.{one-or-none}
 use Rattle.line.specs.declared.Line.{Line}
-use Rattle.line.specs.Line.{nodeLine, Ranged}
-use Rattle.line.specs.Inside.{Sized}
+use Rattle.line.specs.Line.{nodeLine}
+use Rattle.line.specs.Inside.{Ranged, Sized}
 use Rattle.parsing.specs.declared.Placing
 use Rattle.parsing.specs.declared.Placing.{Placing}
 use Rattle.parsing.specs.Inside.{pathOf, placingShown, Roomy}

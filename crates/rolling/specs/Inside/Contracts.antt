@@ -8,7 +8,8 @@ use lib.ListN.{length, getD, set, take, drop}
 use Rattle.line.specs.Refusal.{Verdict, fine}
 use Rattle.table.specs.Tree.{Kind, kindOf, Forest, end, leaf, inner, leaves}
 use Rattle.table.specs.Table.{Table, readText, grain}
-use Rattle.table.specs.Slices.{Spans, heightTree, laid, slices}
+use Rattle.table.specs.Inside.{Spans, heightTree, slices}
+use Rattle.table.specs.Slices.{laid}
 use Rattle.table.specs.Accepted.{span}
 use Rattle.rollout.specs.Rollout.{pick, over, candidate}
 use Rattle.rollout.specs.Inside.Heights.{natural}

@@ -3,7 +3,7 @@ use Prim.Native.Nat.{ℕ, _*_, min, max}
 use mathlib.Core.List.{List}
 use lib.Dec.{ltb}
 use Rattle.table.specs.Table.{Table, grain}
-use Rattle.table.specs.Slices.{heightTree}
+use Rattle.table.specs.Inside.{heightTree}
 use Rattle.table.specs.Accepted.{span}
 use Rattle.search.specs.Inside.{grained}
 use Rattle.rollout.specs.Rollout.{Order, Rolled, rollouts}

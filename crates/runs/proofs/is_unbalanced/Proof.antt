@@ -4,7 +4,7 @@ use borrow.Author.Tests.{eq-eqb, ne-eqb}
 use borrow.Author.Needs.{needs}
 use denote.Ref.{now}
 use lib.ListN.{getD}
-use Rattle.table.specs.Slices.{Slices}
+use Rattle.table.specs.Inside.{Slices}
 use Rattle.runs.proofs.Scan.{spans-under}
 use Rattle.runs.proofs.is_unbalanced.Statement.{statement}
 use Rattle.runs.proofs.is_unbalanced.Tie as tie

@@ -11,7 +11,7 @@ use Rattle.numbers.proofs.at8.Reads as at8-reads
 use Rattle.numbers.proofs.node_at.Reads as node-at-reads
 use Rattle.numbers.proofs.wide8.Reads as wide8-reads
 use Rattle.table.specs.Tree.{MAX, MIN, CHANCE, weigh}
-use Rattle.table.specs.Slices.{slices}
+use Rattle.table.specs.Inside.{slices}
 use Rattle.runs.proofs.sum_weights.Reads as sum-weights-reads
 use Rattle.search.specs.Search.{runLow, runHigh}
 use Rattle.searching.specs.declared.State.{State}

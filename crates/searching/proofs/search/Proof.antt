@@ -5,7 +5,7 @@ use borrow.Author.Needs.{needs}
 use denote.Ref.{now}
 use lib.ListN.{length}
 use Rattle.table.specs.Tree.{MAX, MIN, CHANCE}
-use Rattle.table.specs.Slices.{slices}
+use Rattle.table.specs.Inside.{slices}
 use Rattle.searching.proofs.Rules.{ReadyNode, ready-inner, ready-three, ready-leaf, told-leaf, told-inner}
 use Rattle.searching.proofs.Root.{rootWindow, root-ready, root-long, root-searched}
 use Rattle.searching.proofs.search.Statement.{statement}

@@ -6,7 +6,7 @@ use mathlib.Core.Path.{_≡_}
 use lib.IntN.{ℤ, pos, _+ℤ_}
 use Rattle.table.specs.Tree.{Kind, MAX, MIN, CHANCE, Forest, end, leaf, inner, isChance}
 use Rattle.table.specs.Table.{Table, grain}
-use Rattle.table.specs.Slices.{heightTree}
+use Rattle.table.specs.Inside.{heightTree}
 use Rattle.worth.specs.Worth.{Share, total}
 
 -- the maximum, the minimum and the sum of weight × worth over the children

@@ -1,4 +1,4 @@
--- What the code that reads a field asks of its columns.
+-- What the code that reads a field asks of its columns. No promise of a public call names these.
 use Prim.Native.Nat.{ℕ, _-_, _≤_, _<_}
 use mathlib.Core.Path.{_≡_}
 use mathlib.Core.Bool.{Bool, true, false, cond, not, _||_, _&&_}
