@@ -51,10 +51,6 @@ module _ (s : List ℕ) (t : Table) (h : readText s ≡ fine t) where
   pub span-grains : span (t .head) * grain t ≤ 2000000 * 16777216
   span-grains = mul-le-mul (accepted-span s t h) (accepted-grain s t h)
 
-  -- no sum under a C is greater than this
-  pub sum-grains : t .head .total * (span (t .head) * grain t) ≤ 64 * (2000000 * 16777216)
-  sum-grains = mul-le-mul (accepted-ranged s t h .total) span-grains
-
   -- the highest end in grains
   pub top : t .head .highest *ℤ pos (grain t) ≡ t .head .lowest *ℤ pos (grain t) +ℤ pos (span (t .head) * grain t)
   top =
