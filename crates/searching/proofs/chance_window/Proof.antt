@@ -1,13 +1,12 @@
 -- `searching::chance_window` meets its contract. Assumes nothing.
 use Prim.Native.Nat.{ℕ, _+_, _-_, _*_, _/_, min, max}
 use mathlib.Core.Path.{_≡_, ap, _∙_}
-use native.Mathlib.Nat.{div-le-self}
 use native.Mathlib.Omega.{arith}
 use borrow.Author.Needs.{needs}
 use Rattle.search.specs.Search.{lower, upper}
 use Rattle.search.specs.Inside.{ceil}
 use Rattle.searching.specs.declared.Window.{Window}
-use Rattle.searching.proofs.Sizes.{product}
+use Rattle.searching.proofs.Sizes.{product, quotient-fits}
 use Rattle.searching.proofs.chance_window.Statement.{statement}
 use Rattle.searching.proofs.chance_window.Tie as tie
 
@@ -51,7 +50,7 @@ add-min-of : tie.Need-add-min-of
 add-min-of c =
     let m = c .before .before .before .monus2 in
     let a = c .before .before .before .before .before .args in
-    omega (arith, div-le-self (m .result * a .total + (a .w - 1)) (a .w), product (m .result) (a .total) (omega (arith, m .ensures)) (omega arith))
+    record { fits = quotient-fits _ _ (a .w) (omega arith) (omega (arith, product (m .result) (a .total) (omega (arith, m .ensures)) (omega arith))) }
 
 min-of-requires : tie.Need-min-of-requires
 min-of-requires c κs = search needs
