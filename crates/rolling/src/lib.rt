@@ -353,10 +353,10 @@ fn start(high: &mut [u64], n: usize, top: u64)
     requires { ⌜ n ≤ length (now high) ⌝ }
     ensures { λ _. ⌜ Started n top (now (high .exit)) ⌝ }
 {
-    let mut i = 0;
-    while i < n {
-        high[i] = top;
-        i += 1;
+    let mut k = 0;
+    while k < n {
+        high[k] = top;
+        k += 1;
     }
 }
 

@@ -10,10 +10,10 @@ use Rattle.rolling.proofs.start.Statement.{statement}
 use Rattle.rolling.proofs.start.Tie as tie
 
 abbrev Inv-loop : tie.InvT-loop
-Inv-loop high₀ n top i₀ high i = (i ≤ n) × (length high ≡ length high₀) × Started i top high
+Inv-loop high₀ n top k₀ high k = (k ≤ n) × (length high ≡ length high₀) × Started k top high
 
 abbrev μ-loop : tie.MeasureT-loop
-μ-loop high₀ n top i₀ high i = n - i
+μ-loop high₀ n top k₀ high k = n - k
 
 loop-holds : tie.Need-loop-holds Inv-loop μ-loop
 loop-holds c = (omega arith, refl, λ i o. absurd (omega (arith, o)))
@@ -24,8 +24,8 @@ mul-high c = search needs
 slice-write-high : tie.Need-slice-write-high Inv-loop μ-loop
 slice-write-high c = let l = c .before .loop in omega (arith, c .loop-test .taken, l .inv .1, c .before .before .pre)
 
-add-i : tie.Need-add-i Inv-loop μ-loop
-add-i c = search needs
+add-k : tie.Need-add-k Inv-loop μ-loop
+add-k c = search needs
 
 loop-less : tie.Need-loop-less Inv-loop μ-loop
 loop-less c = search needs
@@ -35,8 +35,8 @@ loop-again c =
     let l = c .before .loop in
     let a = c .before .before .args in (
       omega (arith, c .loop-test .taken),
-      length-set (l .high) (l .i) (a .top) ∙ l .inv .1,
-      started-more (l .high) (l .i) (a .top) (omega (arith, c .loop-test .taken, l .inv .1, c .before .before .pre)) (l .inv .2),
+      length-set (l .high) (l .k) (a .top) ∙ l .inv .1,
+      started-more (l .high) (l .k) (a .top) (omega (arith, c .loop-test .taken, l .inv .1, c .before .before .pre)) (l .inv .2),
     )
 
 same-length : tie.Need-same-length Inv-loop μ-loop
@@ -56,7 +56,7 @@ start-spec =
     loop-holds
     mul-high
     slice-write-high
-    add-i
+    add-k
     loop-less
     loop-again
     same-length
