@@ -13,6 +13,7 @@ use Rattle.table.specs.Tree.{Kind, Forest, end, leaf, inner, codeOf, isChance, 
 use Rattle.table.specs.Inside.{Slices, Spans}
 use Rattle.table.proofs.Runs.{code-inner, code-chance}
 use Rattle.table.proofs.Spans.{spans-le}
+use Rattle.table.proofs.Nodes.{code-pos}
 use Rattle.runs.specs.Inside.{scanFrom, firstOr, bareAt, weighAt, oddAt, Has}
 
 module _ (test : ℕ → Bool) where
@@ -123,6 +124,13 @@ module _ (S : Slices) where
         within = spans-le S (getD (S .stops) j 0) e rest (h .4);
       }
 
+  -- the run of a leaf is itself alone
+  leaf-stop : (j e : ℕ) (f : Forest ℕ) → j < e → Spans S j e f → getD (S .kinds) j 0 ≡ 0 → getD (S .stops) j 0 ≡ j + 1
+  unfolding Spans
+  leaf-stop j e end l h z = absurd (omega arith)
+  leaf-stop j e (leaf n w v rest) l h z = h .2
+  leaf-stop j e (inner n w k under rest) l h z = absurd (omega (arith, code-pos k, h .1))
+
   -- what stands under the C at entry i
   pub record Under (i e : ℕ) : Type 0 where
     pub forest : Forest ℕ
@@ -207,6 +215,9 @@ module _ (ks ss ws : List ℕ) (c e : ℕ) where
 
     pub summing-later : (j < getD ss j 0) × (getD ss j 0 ≤ e)
     summing-later = (step .later, step .within)
+
+    pub summing-leaf : getD ks j 0 ≡ 0 → getD ss j 0 ≡ j + 1
+    summing-leaf z = leaf-stop (slices (S .heights)) j e (S .rest) l (S .spans) z
 
     pub summing-more : getD ws j 0 < 256 → Summing (sum + getD ws j 0) (getD ss j 0)
     summing-more b =

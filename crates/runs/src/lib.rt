@@ -1,7 +1,7 @@
 // Runs of nodes in the decoded slices: where each stops, and the nodes without a child or with weights that do not sum to T.
 ghost use mathlib.Core.Path.{_≡_};
 ghost use Prim.Native.Nat.{_+_, _<_, _≤_};
-ghost use lib.ListN.{length, take};
+ghost use lib.ListN.{length, getD, take};
 ghost use Rattle.table.specs.Slices.{laid};
 ghost use Rattle.runs.specs.Inside.{stopIn, stopsFrom, HasStops, firstOr, scanFrom, bareAt, Has, weighAt, oddAt};
 use numbers::index;
@@ -59,16 +59,27 @@ pub fn first_childless(kind: &[u8], stop: &[u16], n: usize) -> usize
     n
 }
 
+// The child after j. A leaf's run is itself alone: among leaves no entry of `stop` is waited for.
+fn next_child(kind: &[u8], stop: &[u16], j: usize) -> usize
+    requires { ⌜ (j < length (now kind)) × (j < length (now stop)) × (j < 1024) × (getD (now kind) j 0 ≡ 0 → getD (now stop) j 0 ≡ j + 1) ⌝ }
+    ensures { λ r. ⌜ r ≡ getD (now (stop .entry)) j 0 ⌝ }
+{
+    if kind[j] == 0 {
+        return j + 1;
+    }
+    index(stop[j])
+}
+
 // The weights of the children in the entries from c up to e, from child to child.
 pub fn sum_weights(kind: &[u8], stop: &[u16], weight: &[u8], c: usize, e: usize) -> u64
-    requires { ⌜ (e ≤ length (now stop)) × (e ≤ length (now weight)) × (e ≤ 1024) × Has (now kind) (now stop) (now weight) c e ⌝ }
+    requires { ⌜ (e ≤ length (now kind)) × (e ≤ length (now stop)) × (e ≤ length (now weight)) × (e ≤ 1024) × Has (now kind) (now stop) (now weight) c e ⌝ }
     ensures { λ r. ⌜ r ≡ weighAt (now (stop .entry)) (now (weight .entry)) 1024 c e ⌝ }
 {
     let mut sum: u64 = 0;
     let mut j = c;
     while j < e {
         sum = sum + wide8(weight[j]);
-        j = index(stop[j]);
+        j = next_child(kind, stop, j);
     }
     sum
 }

@@ -6,13 +6,14 @@ use mathlib.Core.List.{List, [], _∷_}
 use native.Mathlib.Omega.{arith}
 use lib.ListN.{length, getD, take, drop, length-drop}
 use lib.Seq.{length-take-le, take-nil, take-take, drop-drop}
+use Rattle.line.proofs.Signs.{true-ne-false}
 use Rattle.table.specs.Tree.{Kind, MAX, MIN, CHANCE, Forest, end, leaf, inner, kindOf, isChance, isEnd}
 use Rattle.table.specs.Inside.{begin, taken, sealed}
 use Rattle.table.proofs.Runs.{kind-code}
 use Rattle.scale.specs.declared.Scale.{Scale}
 use Rattle.worth.specs.Worth.{Share, total}
 use Rattle.worth.specs.Inside.Heights.{tallest, shortest, summed, heightValue, heightShares, SmallWorths}
-use Rattle.worth.specs.Inside.{kindIn, Beside, Reach, Lays, takeAll, OkScale, Fits, ReadyRun}
+use Rattle.worth.specs.Inside.{kindIn, Beside, Reach, Lays, takeAll, weighing, OkScale, Fits, ReadyRun}
 use Rattle.worth.proofs.Bounds.{Each, shortest-one, summed-le, weights-shares, small-each}
 use Rattle.worth.proofs.Shift.{Some, some-shares}
 use Rattle.worth.proofs.Codes.{code-inner, mul-most}
@@ -178,7 +179,22 @@ module _ (S : Beside) (g : Scale) (c e : ℕ) (s : List ℕ) where
 
 -- ---- the loop
 
--- Up to node i the children are taken and come to a, and their weights to w: taking the rest from there is taking all from the start.
+weighing-chance : (k : Kind) (w : ℕ) → isChance k ≡ true → weighing k w ≡ w
+weighing-chance MAX w i = absurd (true-ne-false (sym i))
+weighing-chance MIN w i = absurd (true-ne-false (sym i))
+weighing-chance CHANCE w i = refl
+
+taken-weighing : (k : Kind) (a w h : ℕ) → taken k a (weighing k w) h ≡ taken k a w h
+taken-weighing MAX a w h = refl
+taken-weighing MIN a w h = refl
+taken-weighing CHANCE a w h = refl
+
+sealed-same : (k : Kind) (m n a : ℕ) → (isChance k ≡ true → m ≡ n) → sealed m k a ≡ sealed n k a
+sealed-same MAX m n a e = refl
+sealed-same MIN m n a e = refl
+sealed-same CHANCE m n a e = ap (λ (x : ℕ). a / x) (e refl)
+
+-- Up to node i the children are taken and come to a, and under a C their weights to w: taking the rest from there is taking all from the start.
 pub record Going (S : Beside) (g : Scale) (k : Kind) (c e : ℕ) (s : List ℕ) (f : Forest ℕ) (a w i : ℕ) : Type 0 where
   pub rest : Forest ℕ
   pub from : c ≤ i
@@ -186,7 +202,7 @@ pub record Going (S : Beside) (g : Scale) (k : Kind) (c e : ℕ) (s : List ℕ) 
   pub lays : Lays S i e (drop (25 * (i - c)) s) rest
   pub fits : Fits g rest
   pub same : takeAll k (begin (g .top) k) (heightShares (g .grain) f) ≡ takeAll k a (heightShares (g .grain) rest)
-  pub weighed : w + total (heightShares (g .grain) rest) ≡ total (heightShares (g .grain) f)
+  pub weighed : isChance k ≡ true → w + total (heightShares (g .grain) rest) ≡ total (heightShares (g .grain) f)
   pub light : w ≤ 255 * i
 
 module _ (S : Beside) (g : Scale) (k : Kind) (c e : ℕ) (s : List ℕ) where
@@ -203,7 +219,7 @@ module _ (S : Beside) (g : Scale) (k : Kind) (c e : ℕ) (s : List ℕ) where
         lays = subst (λ (t : List ℕ). Lays S c e t (R .nodes)) (sym (drop-none c s)) (R .lays);
         fits = R .fits;
         same = ap (λ (x : ℕ). takeAll k x (heightShares (g .grain) (R .nodes))) (sym p);
-        weighed = omega arith;
+        weighed = λ i. omega arith;
         light = omega arith;
       }
     where
@@ -223,7 +239,7 @@ module _ (S : Beside) (g : Scale) (k : Kind) (c e : ℕ) (s : List ℕ) where
       )
 
   going-turn : (a w i : ℕ) (R : ReadyRun S g k c e s) (N : Next a w i R) (b v j : ℕ) → j ≡ getD (S .stops) i 0 → b ≡ taken k a v (N .1 .share .worth)
-      → v ≡ N .1 .share .weight → v ≤ 255 → Going S g k c e s (R .nodes) b (w + v) j
+      → v ≡ weighing k (N .1 .share .weight) → v ≤ 255 → Going S g k c e s (R .nodes) b (w + v) j
   unfolding takeAll total
   going-turn a w i R N b v j stop step weight light =
       let G = N .0 in
@@ -233,7 +249,7 @@ module _ (S : Beside) (g : Scale) (k : Kind) (c e : ℕ) (s : List ℕ) where
       let at : 25 * (i - c) + 25 * (m - i) ≡ 25 * (m - c) = omega (arith, G .from, F .later) in
       let cut : drop (25 * (m - i)) (drop (25 * (i - c)) s) ≡ drop (25 * (m - c)) s =
       drop-drop (25 * (m - i)) (25 * (i - c)) s ∙ ap (λ (n : ℕ). drop n s) at in
-      let took : b ≡ taken k a (F .share .weight) (F .share .worth) = step ∙ ap (λ (n : ℕ). taken k a n (F .share .worth)) weight in
+      let took : b ≡ taken k a (F .share .weight) (F .share .worth) = step ∙ ap (λ (n : ℕ). taken k a n (F .share .worth)) weight ∙ taken-weighing k a (F .share .weight) (F .share .worth) in
       rw stop
       (record {
         rest = F .rest;
@@ -242,7 +258,7 @@ module _ (S : Beside) (g : Scale) (k : Kind) (c e : ℕ) (s : List ℕ) where
         lays = subst (λ (t : List ℕ). Lays S m e t (F .rest)) cut (F .lays);
         fits = F .fits;
         same = G .same ∙ ap (takeAll k a) (F .shares) ∙ ap (λ (x : ℕ). takeAll k x (heightShares Q (F .rest))) (sym took);
-        weighed = omega (arith, G .weighed, ap total (F .shares), weight);
+        weighed = λ i. omega (arith, G .weighed i, ap total (F .shares), weight, weighing-chance k (F .share .weight) i);
         light = omega (arith, G .light, F .later);
       })
 
@@ -251,19 +267,21 @@ module _ (S : Beside) (g : Scale) (k : Kind) (c e : ℕ) (s : List ℕ) where
     none-left = lays-none S (g .grain) i e (drop (25 * (i - c)) s) (all R .rest) (all R .lays) last
 
     -- every weight is added
-    all-weighed : w ≡ total (heightShares (g .grain) (R .nodes))
+    all-weighed : isChance k ≡ true → w ≡ total (heightShares (g .grain) (R .nodes))
     unfolding total
-    all-weighed = omega (arith, all R .weighed, ap total none-left)
+    all-weighed i = omega (arith, all R .weighed i, ap total none-left)
 
     pub going-total : k ≡ CHANCE → 0 < w
-    going-total e = omega (arith, all-weighed, weights-shares (g .grain) (R .nodes), R .total (ap isChance e) .0)
+    going-total e = omega (arith, all-weighed (ap isChance e), weights-shares (g .grain) (R .nodes), R .total (ap isChance e) .0)
 
     -- every child is taken
     pub going-end : sealed w k a ≡ heightValue k (heightShares (g .grain) (R .nodes))
     unfolding takeAll
     going-end =
         let z : takeAll k (begin (g .top) k) (heightShares (g .grain) (R .nodes)) ≡ a = all R .same ∙ ap (takeAll k a) none-left in
-        ap₂ (λ (n : ℕ) (x : ℕ). sealed n k x) all-weighed (sym z) ∙ value-taken (g .grain) (g .top) k (R .nodes) (R .some) (R .fits .small)
+        sealed-same k w (total (heightShares (g .grain) (R .nodes))) a all-weighed
+        ∙ ap (sealed (total (heightShares (g .grain) (R .nodes))) k) (sym z)
+        ∙ value-taken (g .grain) (g .top) k (R .nodes) (R .some) (R .fits .small)
 
 -- at a C the sum of all bounds every sum on the way
 sum-so-far : (a most : ℕ) (x : Share ℕ) (xs ys : List (Share ℕ))
@@ -321,10 +339,12 @@ module _ (S : Beside) (g : Scale) (k : Kind) (c e : ℕ) (s : List ℕ) (a w i :
   leaf-of none = sym (N .1 .leafy none)
 
   -- the child is worth h, and its weight is v
-  module _ (h v : ℕ) (worth : h ≡ N .1 .share .worth) (weight : v ≡ getD (S .weights) i 0) where
+  module _ (h v : ℕ) (worth : h ≡ N .1 .share .worth) (weight : v ≡ weighing k (getD (S .weights) i 0)) where
     pub turn-fits : k ≡ CHANCE → a + v * h < 9223372036854775808
-    turn-fits chance = rw (weight, N .1 .weighs, worth) (sum-fits S g k c e s a w i R N chance)
+    turn-fits chance =
+        let same : v ≡ N .1 .share .weight = weight ∙ weighing-chance k (getD (S .weights) i 0) (ap isChance chance) ∙ N .1 .weighs in
+        rw (same, worth) (sum-fits S g k c e s a w i R N chance)
 
     pub turn-on : (b j : ℕ) → j ≡ getD (S .stops) i 0 → b ≡ taken k a v h → v ≤ 255 → Going S g k c e s (R .nodes) b (w + v) j
     turn-on b j stop step light =
-        going-turn S g k c e s a w i R N b v j stop (step ∙ ap (taken k a v) worth) (weight ∙ N .1 .weighs) light
+        going-turn S g k c e s a w i R N b v j stop (step ∙ ap (taken k a v) worth) (weight ∙ ap (weighing k) (N .1 .weighs)) light

@@ -6,7 +6,7 @@ use mathlib.Core.Bool.{true, false}
 use mathlib.Core.List.{List, [], _∷_}
 use lib.ListN.{length, getD, take, drop}
 use Rattle.line.specs.Line.{letterCode}
-use Rattle.table.specs.Tree.{Kind, Forest, end, leaf, inner, codeOf, isChance, isEnd, weigh}
+use Rattle.table.specs.Tree.{Kind, MAX, MIN, CHANCE, Forest, end, leaf, inner, codeOf, isChance, isEnd, weigh}
 use Rattle.table.specs.Accepted.{Filled}
 use Rattle.table.specs.Inside.{taken}
 use Rattle.scale.specs.declared.Scale.{Scale}
@@ -46,6 +46,12 @@ Lays S c e s (inner n w k under rest) =
     × (getD (S .weights) c 0 ≡ w)
     × Lays S (c + 1) (getD (S .stops) c 0) (take (25 * (getD (S .stops) c 0 - (c + 1))) (drop 25 s)) under
     × Lays S (getD (S .stops) c 0) e (drop (25 * (getD (S .stops) c 0 - c)) s) rest
+
+-- a child's weight where its parent is a C; an M or N needs none
+abbrev pub weighing : Kind → ℕ → ℕ
+weighing MAX w = 0
+weighing MIN w = 0
+weighing CHANCE w = w
 
 unfoldable pub takeAll : Kind → ℕ → List (Share ℕ) → ℕ
 takeAll k a [] = a

@@ -4,7 +4,7 @@ ghost use mathlib.Core.Path.{_≡_};
 ghost use Prim.Native.Nat.{_+_, _*_, _<_, _≤_};
 ghost use lib.ListN.{length, getD, take, drop};
 ghost use Rattle.table.specs.Tree.{MAX, CHANCE, kindOf};
-ghost use Rattle.worth.specs.Inside.{kindIn, beside, ReadyRun, Worthy};
+ghost use Rattle.worth.specs.Inside.{kindIn, beside, weighing, ReadyRun, Worthy};
 ghost use Rattle.table.specs.Inside.{begin, taken, sealed};
 ghost use Rattle.table.specs.Table.{readText};
 ghost use Rattle.worth.specs.Call.{exactCall};
@@ -34,10 +34,17 @@ fn leaf_worth(height: &[u32], i: usize, grain: u64) -> u64
     height[i] as u64 * grain
 }
 
-fn weight_at(weight: &[u8], i: usize) -> u64
+// The weight of child i where its parent, of kind k, is a C; an M or N needs none.
+fn weight_at(k: u8, weight: &[u8], i: usize) -> u64
     requires { ⌜ i < length (now weight) ⌝ }
-    ensures { λ r. ⌜ (r ≡ getD (now (weight .entry)) i 0) × (r ≤ 255) ⌝ }
+    ensures { λ r. ⌜ (r ≡ weighing (kindOf k) (getD (now (weight .entry)) i 0)) × (r ≤ 255) ⌝ }
 {
+    if k == 1 {
+        return 0;
+    }
+    if k == 2 {
+        return 0;
+    }
     weight[i] as u64
 }
 
@@ -112,7 +119,7 @@ fn worth_under(
                 g,
             );
         }
-        let w = weight_at(weight, i);
+        let w = weight_at(k, weight, i);
         a = take_child(k, a, w, h);
         total += w;
         i = s;

@@ -108,7 +108,7 @@ chance-over-sum-weights-requires : (t : ℕ) → chance-over-lts.Need-sum-weight
 chance-over-sum-weights-requires t c κs =
     let p = c .before .before .before .before .before in
     let R = p .pre .1 in
-    (R .holds .stops, R .holds .weights, R .holds .few, record { heights = p .args .height .now; forest = R .nodes; spans = R .spans })
+    (R .holds .kinds, R .holds .stops, R .holds .weights, R .holds .few, record { heights = p .args .height .now; forest = R .nodes; spans = R .spans })
 
 chance-over-loop-holds : (t : ℕ) → chance-over-lts.Need-loop-holds (chance-over-claims t) (chance-over-at t) chance-over.Post chance-over-Inv-loop chance-over-μ-loop
 chance-over-loop-holds t c = let p = c .before .before .before .before .before .before in going-start CHANCE (p .args .w) (p .pre .1)
