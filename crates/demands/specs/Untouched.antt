@@ -23,7 +23,7 @@ use Rattle.rolling.specs.Call.{rollCall, rollReads, rollStore, recorded}
 use Rattle.rolling.specs.declared.Rolled
 use Rattle.codes.specs.Numbers.{readCode, numbersOf, worthCode, worthNumbers, judgeCode, judgeNumbers, searchCode, searchNumbers, rollCode, rollNumbers, turnedCode, put}
 
--- ---- the calls of `table` and `engine`; the exact worth and the judgement are lent nothing but the text
+-- ---- the calls of Rattle; the exact worth and the judgement are lent nothing but the text
 
 -- the four slices that a table is decoded into
 abbrev pub SlicesKept : Verdict Table → (kind stop weight height : List ℕ) → Type 0

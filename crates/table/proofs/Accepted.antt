@@ -179,7 +179,7 @@ module _ (s : List ℕ) (t : Table) (h : readText s ≡ fine t) where
   pub accepted-spans : Spans (slicesOf t) 0 (length (t .lines)) (heightTree t)
   accepted-spans = read-spans t (count s) (drop 25 s) (checked s t h .lines) some
 
-  -- and so do lent slices with room for it, as `table::read` leaves them
+  -- and so do lent slices with room for it, as `reading::decode` leaves them
   -- in slices that are long enough
   module _ (K S W H : List ℕ) (roomK : length (t .lines) ≤ length K) (roomS : length (t .lines) ≤ length S) (roomW : length (t .lines) ≤ length W)
       (roomH : length (t .lines) ≤ length H) where

@@ -1,4 +1,4 @@
--- An accepted table, with its slices as `table::read` leaves them, can be turned. Assumes nothing.
+-- An accepted table, with its slices as `reading::decode` leaves them, can be turned. Assumes nothing.
 use Prim.Native.Nat.{ℕ, suc, _+_, _≤_, _<_}
 use mathlib.Core.Path.{_≡_, refl, sym, ap, subst, _∙_}
 use mathlib.Core.Bool.{Bool, true, false}

@@ -108,7 +108,7 @@ module _ (h : Head) where
 
 -- ---- an accepted table
 
--- st, w and g are the slices that were lent for the stops, the weights and the heights, as `table::decode` leaves them
+-- st, w and g are the slices that were lent for the stops, the weights and the heights, as `reading::decode` leaves them
 pub accepted-lays : (s : List ℕ) (t : Table) → readText s ≡ fine t → (st w g : List ℕ) → Reach (beside st w g) (length (t .lines))
     → Lays (beside (fitted (stopsOf t) st) (fitted (weightsOf t) w) (fitted (heightsOf t) g)) 0 (length (t .lines)) (drop 25 s) (heightTree t)
 accepted-lays s t h st w g room =
