@@ -19,12 +19,12 @@ use Rattle.judge.specs.declared.Opinion
 use Rattle.judge.specs.Judge.{Judgement, judge}
 use Rattle.judge.specs.Call.{judgeAnswer, judgeCall}
 use Rattle.judge.proofs.Judge.{judge-refused}
-use Rattle.searching.specs.declared.Bounds.{Bounds}
-use Rattle.searching.proofs.Answered.{Sizes, PlayBelow}
-use Rattle.rolling.specs.declared.Rolled
-use Rattle.rolling.specs.declared.Rolled.{Rolled}
-use Rattle.rolling.specs.declared.Rolled
-use Rattle.rolling.proofs.Answered.{RollSized}
+use Rattle.search_call.specs.declared.Bounds.{Bounds}
+use Rattle.search_call.proofs.Answered.{Sizes, PlayBelow}
+use Rattle.rollout_call.specs.declared.Rolled
+use Rattle.rollout_call.specs.declared.Rolled.{Rolled}
+use Rattle.rollout_call.specs.declared.Rolled
+use Rattle.rollout_call.proofs.Answered.{RollSized}
 use Rattle.codes.specs.Numbers.{nodeNumber}
 use Rattle.codes.specs.Inside.{SmallSummary, SmallBounds, SmallRolled}
 

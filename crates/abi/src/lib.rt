@@ -6,15 +6,15 @@ ghost use Rattle.table.specs.Table.{readText, answer};
 ghost use Rattle.table.specs.Slices.{laid, fitted, kindsOf, stopsOf, weightsOf, heightsOf, decoded};
 ghost use Rattle.worth.specs.Call.{exactCall};
 ghost use Rattle.judge.specs.Call.{judgeCall};
-ghost use Rattle.searching.specs.Call.{searchCall, searchReads};
-ghost use Rattle.rolling.specs.Call.{rollCall, rollReads, rollStore, recorded};
-ghost use Rattle.turn.specs.Call.{turnCall, turnBytes};
+ghost use Rattle.search_call.specs.Call.{searchCall, searchReads};
+ghost use Rattle.rollout_call.specs.Call.{rollCall, rollReads, rollStore, recorded};
+ghost use Rattle.turn_call.specs.Call.{turnCall, turnBytes};
 ghost use Rattle.codes.specs.Numbers.{readCode, numbersOf, worthCode, worthNumbers, judgeCode, judgeNumbers, searchCode, searchNumbers, rollCode, rollNumbers, turnedCode, put};
 use judge::Opinion;
-use rolling::Record;
-use searching::Bounded;
+use rollout_call::Record;
+use search_call::Bounded;
 use table::Reading;
-use turn::Turned;
+use turn_call::Turned;
 use worth::Exact;
 
 // An accepted table: its numbers of nodes, T, the lowest and the highest end, K, G and its number of leaves go to `numbers`, and its
@@ -88,7 +88,7 @@ pub extern "C" fn margin_search(
     ensures numbers { λ _. ⌜ now (numbers .exit) ≡ put 0 (searchNumbers (searchCall (readText (now (text .entry))) margin (length (now (leaves .entry))))) (now (numbers .entry)) ⌝ }
     ensures lists { λ _. ⌜ now (leaves .exit) ≡ laid (searchReads (readText (now (text .entry))) margin (length (now (leaves .entry)))) (now (leaves .entry)) ⌝ }
 {
-    match searching::search_table(text, margin, leaves) {
+    match search_call::search_table(text, margin, leaves) {
         Bounded::Refused(r) => codes::refusal_code(r),
         Bounded::Found(b) => {
             codes::put_bounds(b, numbers);
@@ -103,7 +103,7 @@ pub extern "C" fn margin_turn(text: &[u8], buffer: &mut [u8]) -> u64
     ensures code { λ r. ⌜ r ≡ turnedCode (turnCall (readText (now (text .entry))) (length (now (buffer .entry)))) ⌝ }
     ensures writes { λ _. ⌜ now (buffer .exit) ≡ laid (turnBytes (readText (now (text .entry))) (length (now (buffer .entry)))) (now (buffer .entry)) ⌝ }
 {
-    match turn::turn_table(text, buffer) {
+    match turn_call::turn_table(text, buffer) {
         Turned::Refused(r) => codes::refusal_code(r),
         Turned::Written(_) => 0,
     }
@@ -124,5 +124,5 @@ pub extern "C" fn margin_rollout(
     ensures lists { λ _. ⌜ now (leaves .exit) ≡ laid (rollReads (readText (now (text .entry))) (now (policy .entry)) (length (now (leaves .entry))) (length (now (store .entry)))) (now (leaves .entry)) ⌝ }
     ensures store { λ _. ⌜ now (store .exit) ≡ recorded (rollStore (readText (now (text .entry))) (now (policy .entry)) (length (now (leaves .entry))) (length (now (store .entry)))) (now (store .entry)) ⌝ }
 {
-    codes::put_rolled(rolling::rollouts(text, policy, store, leaves), numbers)
+    codes::put_rolled(rollout_call::rollouts(text, policy, store, leaves), numbers)
 }

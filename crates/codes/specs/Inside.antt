@@ -5,10 +5,10 @@ use Rattle.table.specs.declared.Summary.{Summary}
 use Rattle.table.specs.declared.Reading.the-variants.{Refused}
 use Rattle.worth.specs.declared.Exact
 use Rattle.judge.specs.declared.Opinion
-use Rattle.searching.specs.declared.Bounds.{Bounds}
-use Rattle.searching.specs.declared.Bounded
-use Rattle.rolling.specs.declared.Rolled
-use Rattle.rolling.specs.declared.Rolled.{Rolled}
+use Rattle.search_call.specs.declared.Bounds.{Bounds}
+use Rattle.search_call.specs.declared.Bounded
+use Rattle.rollout_call.specs.declared.Rolled
+use Rattle.rollout_call.specs.declared.Rolled.{Rolled}
 use Rattle.codes.specs.Numbers.{nodeNumber}
 
 -- a table's counts fit a signed number

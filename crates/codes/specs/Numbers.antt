@@ -18,17 +18,17 @@ use Rattle.judge.specs.declared.Judged.the-variants.{NoDecision, Loss}
 use Rattle.judge.specs.declared.Opinion
 use Rattle.judge.specs.declared.Opinion.{Opinion}
 use Rattle.judge.specs.Call.{judgeNumber, judgeLine}
-use Rattle.turn.specs.Call.{turnedNumber, turnedLine}
-use Rattle.turn.specs.declared.Turned.{Turned}
-use Rattle.searching.specs.declared.Bounds.{Bounds}
-use Rattle.searching.specs.declared.Bounded
-use Rattle.searching.specs.declared.Bounded.{Bounded}
-use Rattle.searching.specs.Call.{searchNumber, searchLine}
-use Rattle.searching.specs.declared.Bounded
-use Rattle.rolling.specs.Call.{rollNumber, rollLine}
-use Rattle.rolling.specs.declared.Rolled
-use Rattle.rolling.specs.declared.Rolled.{Rolled}
-use Rattle.rolling.specs.declared.Rolled
+use Rattle.turn_call.specs.Call.{turnedNumber, turnedLine}
+use Rattle.turn_call.specs.declared.Turned.{Turned}
+use Rattle.search_call.specs.declared.Bounds.{Bounds}
+use Rattle.search_call.specs.declared.Bounded
+use Rattle.search_call.specs.declared.Bounded.{Bounded}
+use Rattle.search_call.specs.Call.{searchNumber, searchLine}
+use Rattle.search_call.specs.declared.Bounded
+use Rattle.rollout_call.specs.Call.{rollNumber, rollLine}
+use Rattle.rollout_call.specs.declared.Rolled
+use Rattle.rollout_call.specs.declared.Rolled.{Rolled}
+use Rattle.rollout_call.specs.declared.Rolled
 
 -- 0, or the refusal's line and number as one: the number in the last two decimal digits, so that 309 is refusal 9 at line 3
 abbrev pub readCode : Reading → ℕ

@@ -9,8 +9,8 @@ ghost use Rattle.codes.specs.Numbers.{readCode, numbersOf, worthNumbers,
 ghost use Rattle.codes.specs.Inside.{SmallSummary, SmallBounds, SmallRolled};
 use judge::Judged;
 use line::Refusal;
-use rolling::Rolled;
-use searching::Bounds;
+use rollout_call::Rolled;
+use search_call::Bounds;
 use table::Play;
 use table::Reading;
 use table::Summary;

@@ -24,16 +24,16 @@ use Rattle.worth.specs.declared.Exact.the-variants.{Grains}
 use Rattle.worth.specs.Call.{exactCall}
 use Rattle.turn.specs.Text.{tableText}
 use Rattle.turn.specs.Turn.{turnTable, turnedText}
-use Rattle.turn.specs.Call.{turnOf}
 use Rattle.turn.proofs.Tree.{tree-turned, turn-twice}
 use Rattle.turn.proofs.Accepted.{turned-accepted, turned-length}
-use Rattle.turn.proofs.Call.{turn-fine}
+use Rattle.turn_call.specs.Call.{turnOf}
+use Rattle.turn_call.proofs.Call.{turn-fine}
 use Rattle.search.specs.Search.{Seen, nodeOf}
 use Rattle.search.specs.Whole.{searched}
-use Rattle.searching.specs.declared.Bounds.{Bounds}
-use Rattle.searching.specs.declared.Bounded.the-variants.{Found, Refused}
-use Rattle.searching.specs.Call.{badMargin, boundsOf, searchReads}
-use Rattle.searching.proofs.Answered.{answered, answers, reads}
+use Rattle.search_call.specs.declared.Bounds.{Bounds}
+use Rattle.search_call.specs.declared.Bounded.the-variants.{Found, Refused}
+use Rattle.search_call.specs.Call.{badMargin, boundsOf, searchReads}
+use Rattle.search_call.proofs.Answered.{answered, answers, reads}
 use Rattle.promise.specs.Unread.{Alike, ReadBy}
 use Rattle.promise.specs.Turned.{Turns}
 use Rattle.promise.proofs.Demand.{contains, width, play-near}
@@ -43,10 +43,10 @@ use Rattle.rollout.specs.Leaves.{Distinct}
 use Rattle.rollout.specs.Rollout.{Rolled}
 use Rattle.rollout.specs.Whole.{hasChance, rolled, rolledWorth}
 use Rattle.rollout.proofs.Demand.{ends-on-worth, no-leaf-twice}
-use Rattle.rolling.specs.declared.Rolled
-use Rattle.rolling.specs.declared.Rolled.the-variants.{Done}
-use Rattle.rolling.specs.Call.{rolls, rollAnswer, rollList, rollCall}
-use Rattle.rolling.specs.declared.Rolled
+use Rattle.rollout_call.specs.declared.Rolled
+use Rattle.rollout_call.specs.declared.Rolled.the-variants.{Done}
+use Rattle.rollout_call.specs.Call.{rolls, rollAnswer, rollList, rollCall}
+use Rattle.rollout_call.specs.declared.Rolled
 use Rattle.demands.specs.Demands.{childWorth, Promised, SameLines, Mirrors, Answers, Sentence1, Sentence2, GivenText, Sentence3, TurnAnswers, TurningTwice, RolloutsEnd, RollAnswers}
 use Rattle.demands.proofs.Utilities.{tree-alike, given-same, given-accepted}
 

@@ -17,10 +17,10 @@ use Rattle.worth.specs.Call.{exactCall}
 use Rattle.judge.specs.declared.Opinion
 use Rattle.judge.specs.declared.Opinion.{Opinion}
 use Rattle.judge.specs.Call.{judgeCall}
-use Rattle.turn.specs.Call.{turnOf, turnAnswer, turnWritten}
-use Rattle.searching.specs.Call.{Sought, sought, searchAnswer, searchList}
-use Rattle.rolling.specs.declared.Record.{Record}
-use Rattle.rolling.specs.Call.{rolls, rollAnswer, rollList, rollRecords, recorded}
+use Rattle.turn_call.specs.Call.{turnOf, turnAnswer, turnWritten}
+use Rattle.search_call.specs.Call.{Sought, sought, searchAnswer, searchList}
+use Rattle.rollout_call.specs.declared.Record.{Record}
+use Rattle.rollout_call.specs.Call.{rolls, rollAnswer, rollList, rollRecords, recorded}
 use Rattle.codes.specs.Numbers.{readCode, numbersOf, worthCode, worthNumbers, judgeCode, judgeNumbers, searchCode, searchNumbers, rollCode, rollNumbers, turnedCode, put}
 use Rattle.demands.specs.Untouched.{Refuses, CodesRefuse, SlicesKept, ReadUntouched, SearchUntouched, TurnUntouched, RollUntouched, CReadUntouched, CWorthUntouched, CJudgeUntouched, CSearchUntouched, CTurnUntouched, CRollUntouched}
 

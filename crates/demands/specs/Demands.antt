@@ -17,15 +17,15 @@ use Rattle.table.specs.Table.{Table, tree, readText}
 use Rattle.table.specs.declared.Play.the-variants.{Child}
 use Rattle.worth.specs.declared.Exact.the-variants.{Grains}
 use Rattle.worth.specs.Call.{exactCall}
-use Rattle.turn.specs.Call.{turnOf}
-use Rattle.searching.specs.declared.Bounds.{Bounds}
-use Rattle.searching.specs.declared.Bounded.the-variants.{Found}
-use Rattle.searching.specs.Call.{badMargin, searchCall, searchReads}
+use Rattle.turn_call.specs.Call.{turnOf}
+use Rattle.search_call.specs.declared.Bounds.{Bounds}
+use Rattle.search_call.specs.declared.Bounded.the-variants.{Found}
+use Rattle.search_call.specs.Call.{badMargin, searchCall, searchReads}
 use Rattle.promise.specs.Play.{playWorth}
 use Rattle.rollout.specs.Leaves.{Distinct}
 use Rattle.rollout.specs.Whole.{hasChance}
-use Rattle.rolling.specs.declared.Rolled.the-variants.{Done}
-use Rattle.rolling.specs.Call.{rollCall, rollReads}
+use Rattle.rollout_call.specs.declared.Rolled.the-variants.{Done}
+use Rattle.rollout_call.specs.Call.{rollCall, rollReads}
 
 -- ---- the bounds and the play
 

@@ -12,15 +12,15 @@ use Rattle.judge.specs.declared.Judged.the-variants.{Loss}
 use Rattle.judge.specs.declared.Opinion.{Opinion}
 use Rattle.judge.specs.declared.Opinion.the-variants.{Given}
 use Rattle.judge.specs.Call.{judgeCall}
-use Rattle.turn.specs.declared.Turned.{Turned}
-use Rattle.turn.specs.declared.Turned.the-variants.{Written}
-use Rattle.turn.specs.Call.{turnCall, turnBytes}
-use Rattle.searching.specs.declared.Bounded.{Bounded}
-use Rattle.searching.specs.declared.Bounded.the-variants.{Found}
-use Rattle.searching.specs.Call.{searchCall, searchReads}
-use Rattle.rolling.specs.declared.Rolled.{Rolled}
-use Rattle.rolling.specs.declared.Rolled.the-variants.{Done}
-use Rattle.rolling.specs.Call.{rollCall, rollReads}
+use Rattle.turn_call.specs.declared.Turned.{Turned}
+use Rattle.turn_call.specs.declared.Turned.the-variants.{Written}
+use Rattle.turn_call.specs.Call.{turnCall, turnBytes}
+use Rattle.search_call.specs.declared.Bounded.{Bounded}
+use Rattle.search_call.specs.declared.Bounded.the-variants.{Found}
+use Rattle.search_call.specs.Call.{searchCall, searchReads}
+use Rattle.rollout_call.specs.declared.Rolled.{Rolled}
+use Rattle.rollout_call.specs.declared.Rolled.the-variants.{Done}
+use Rattle.rollout_call.specs.Call.{rollCall, rollReads}
 
 -- a call with its arguments; leaf lists have 1,024 entries, stores 1,024 records and buffers 25,625 bytes
 pub data Call : Type 0 where

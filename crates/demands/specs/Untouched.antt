@@ -12,15 +12,15 @@ use Rattle.table.specs.Table.{Table, readText, answer}
 use Rattle.table.specs.Slices.{laid, fitted, kindsOf, stopsOf, weightsOf, heightsOf, decoded}
 use Rattle.worth.specs.Call.{exactCall}
 use Rattle.judge.specs.Call.{judgeCall}
-use Rattle.turn.specs.declared.Turned
-use Rattle.turn.specs.Call.{turnCall, turnBytes}
-use Rattle.turn.specs.declared.Turned
-use Rattle.searching.specs.declared.Bounded
-use Rattle.searching.specs.Call.{searchCall, searchReads}
-use Rattle.rolling.specs.declared.Record.{Record}
-use Rattle.rolling.specs.declared.Rolled
-use Rattle.rolling.specs.Call.{rollCall, rollReads, rollStore, recorded}
-use Rattle.rolling.specs.declared.Rolled
+use Rattle.turn_call.specs.declared.Turned
+use Rattle.turn_call.specs.Call.{turnCall, turnBytes}
+use Rattle.turn_call.specs.declared.Turned
+use Rattle.search_call.specs.declared.Bounded
+use Rattle.search_call.specs.Call.{searchCall, searchReads}
+use Rattle.rollout_call.specs.declared.Record.{Record}
+use Rattle.rollout_call.specs.declared.Rolled
+use Rattle.rollout_call.specs.Call.{rollCall, rollReads, rollStore, recorded}
+use Rattle.rollout_call.specs.declared.Rolled
 use Rattle.codes.specs.Numbers.{readCode, numbersOf, worthCode, worthNumbers, judgeCode, judgeNumbers, searchCode, searchNumbers, rollCode, rollNumbers, turnedCode, put}
 
 -- ---- the calls of Rattle; the exact worth and the judgement are lent nothing but the text

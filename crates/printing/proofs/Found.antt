@@ -27,9 +27,9 @@ use Rattle.scale.proofs.Sums.{few-digits}
 use Rattle.search.specs.Search.{Seen, nodeOf}
 use Rattle.search.specs.Whole.{searched}
 use Rattle.search.proofs.Table.{heights-order, shifted, play-small, reads-few}
-use Rattle.searching.specs.declared.Bounds.{Bounds}
-use Rattle.searching.specs.declared.Bounded.the-variants.{Found, Refused}
-use Rattle.searching.specs.Call.{badMargin, Sought, sought, boundsOf, searchAnswer}
+use Rattle.search_call.specs.declared.Bounds.{Bounds}
+use Rattle.search_call.specs.declared.Bounded.the-variants.{Found, Refused}
+use Rattle.search_call.specs.Call.{badMargin, Sought, sought, boundsOf, searchAnswer}
 use Rattle.printing.specs.Program.{playNumber, leafRow, rowsOf}
 use Rattle.printing.specs.Inside.{Lined, playMarks, Narrow, boundRows}
 use Rattle.printing.proofs.Marks.{marks-few}

@@ -11,7 +11,7 @@ use lib.Seq.{take-all, length-take-le}
 use Rattle.line.specs.declared.Refusal.the-variants.{Length}
 use Rattle.line.specs.Refusal.{Verdict, refused}
 use Rattle.table.specs.Table.{Table, readText}
-use Rattle.searching.specs.Call.{sought}
+use Rattle.search_call.specs.Call.{sought}
 use Rattle.printing.specs.Program.{marginOf, tableOf, printed, rowsOf, outputOf}
 
 or-last : (a b : Bool) → (a || b || true) ≡ true

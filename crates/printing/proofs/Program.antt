@@ -17,8 +17,8 @@ use Rattle.table.specs.Table.{Table, readText, tree}
 use Rattle.table.specs.Slices.{laid}
 use Rattle.table.proofs.Accepted.{accepted-size, accepted-leaves, accepted-leaf-lines}
 use Rattle.search.specs.Whole.{searched}
-use Rattle.searching.specs.Call.{badMargin, Sought, sought, boundsOf}
-use Rattle.searching.proofs.Searching.{sought-fine}
+use Rattle.search_call.specs.Call.{badMargin, Sought, sought, boundsOf}
+use Rattle.search_call.proofs.Call.{sought-fine}
 use Rattle.printing.specs.Program.{WordLine, marginOf, tableOf, printed, leafRow, rowsOf, outputOf}
 use Rattle.printing.specs.Inside.{playMarks, boundRows}
 use Rattle.printing.proofs.Sizes.{refusal-size, found-size}

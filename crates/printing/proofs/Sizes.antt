@@ -8,7 +8,7 @@ use Rattle.field.specs.Field.{textOf}
 use Rattle.field.proofs.Width.{few-columns}
 use Rattle.line.specs.declared.Refusal.{Refusal}
 use Rattle.line.specs.Refusal.{numberOf, lineOf}
-use Rattle.searching.specs.declared.Bounds.{Bounds}
+use Rattle.search_call.specs.declared.Bounds.{Bounds}
 use Rattle.printing.specs.Program.{Word, Low, High, Grain, Play, Leaves, Leaf, Refuse, Line, WordLine, columns, rowOf, printed, leafRow}
 use Rattle.printing.specs.Inside.{Narrow, boundRows, refusalRows}
 use Rattle.printing.proofs.Stores.{count-columns, row-size, printed-append, leaves-size}

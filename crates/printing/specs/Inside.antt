@@ -11,7 +11,7 @@ use Rattle.line.specs.Refusal.{numberOf, lineOf}
 use Rattle.line.specs.Line.{countOf}
 use Rattle.table.specs.declared.Play.{Play}
 use Rattle.table.specs.declared.Play.the-variants.{Child, NoPlay}
-use Rattle.searching.specs.declared.Bounds.{Bounds}
+use Rattle.search_call.specs.declared.Bounds.{Bounds}
 use Rattle.printing.specs.Program.{WordLine, Low, High, Grain, Play as PlayWord, Leaves, Refuse, Line}
 
 -- ---- the play

@@ -13,7 +13,7 @@ use Rattle.line.specs.Refusal.{Verdict, refused, fine, numberOf, lineOf}
 use Rattle.table.specs.Table.{tree, readText, grain}
 use Rattle.table.specs.Root.{children, nodes}
 use Rattle.search.specs.Search.{nodeOf}
-use Rattle.searching.specs.Call.{Sought, sought}
+use Rattle.search_call.specs.Call.{Sought, sought}
 
 -- ---- the input
 

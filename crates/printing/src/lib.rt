@@ -9,13 +9,13 @@ ghost use Rattle.field.specs.Field.{textOf};
 ghost use Rattle.line.specs.Refusal.{lineOf};
 ghost use Rattle.table.specs.Table.{readText};
 ghost use Rattle.table.specs.Slices.{fitted};
-ghost use Rattle.searching.specs.Call.{sought};
+ghost use Rattle.search_call.specs.Call.{sought};
 ghost use Rattle.printing.specs.Program.{marginIn, marginOf, Leaf, columns, rowOf, printed, leafRow, rowsOf, outputOf};
 ghost use Rattle.printing.specs.Inside.{childMark, childMarks, Lined, playMarks, Narrow, boundRows, refusalRows};
 use field::Field;
 use line::Refusal;
-use searching::Bounded;
-use searching::Bounds;
+use search_call::Bounded;
+use search_call::Bounds;
 use table::Play;
 
 // ---- the input
@@ -177,7 +177,7 @@ fn print_search(table: &[u8], margin: i64, text: &mut [u8]) -> usize
     ensures text { λ _. ⌜ now (text .exit) ≡ sets (now (text .entry)) 0 (printed (rowsOf (sought (readText (now (table .entry))) margin 1024))) ⌝ }
 {
     let mut leaves = [0u16; 1024];
-    match searching::search_table(table, margin, &mut leaves) {
+    match search_call::search_table(table, margin, &mut leaves) {
         Bounded::Refused(r) => put_refusal(text, r),
         Bounded::Found(b) => {
             let play = b.play;

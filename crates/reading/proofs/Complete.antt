@@ -27,9 +27,10 @@ use Rattle.table.proofs.Known.{read-length}
 use Rattle.table.proofs.Complete.{completed, spans}
 use Rattle.runs.specs.Inside.{reach, stopsFrom, scanFrom, firstOr, bareAt, oddAt, Has}
 use Rattle.runs.proofs.Scan.{scan-below, spans-where, bare-tests, odd-tests}
-use Rattle.reading.specs.declared.Lines
-use Rattle.reading.specs.declared.Lines.{Lines}
-use Rattle.reading.specs.Inside.{Gathered, summaryOf, refuseAt, completeAt, Decoded}
+use Rattle.gathering.specs.declared.Lines
+use Rattle.gathering.specs.declared.Lines.{Lines}
+use Rattle.gathering.specs.Inside.{Gathered}
+use Rattle.reading.specs.Inside.{summaryOf, refuseAt, completeAt, Decoded}
 
 -- ---- what the node lines left
 

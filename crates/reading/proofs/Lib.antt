@@ -1,4 +1,3 @@
-pub mod Gather
 pub mod Copied
 pub mod Complete
 pub mod Top

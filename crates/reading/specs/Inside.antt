@@ -1,43 +1,20 @@
 -- What `decode` asks of the crates above and promises them, and what the contracts below it cite. No promise of `reading::read` names these.
-use Prim.Native.Nat.{ℕ, _+_, _^_, _<_}
+use Prim.Native.Nat.{ℕ, _+_, _^_}
 use mathlib.Core.Bool.{cond}
-use mathlib.Core.List.{List, map}
+use mathlib.Core.List.{List}
 use mathlib.Core.Path.{_≡_}
-use lib.ListN.{length}
-use lib.IntN.{ℤ}
 use lib.Dec.{ltb}
 use Rattle.line.specs.declared.Head.{Head}
-use Rattle.line.specs.declared.Line.{Line}
 use Rattle.line.specs.declared.Refusal.{Refusal}
 use Rattle.line.specs.declared.Refusal.the-variants.{Childless, WrongSum}
 use Rattle.line.specs.Refusal.{Verdict, refused, fine}
 use Rattle.table.specs.declared.Summary.{Summary}
 use Rattle.table.specs.declared.Reading.{Reading}
 use Rattle.table.specs.declared.Reading.the-variants.{Accepted, Refused}
-use Rattle.table.specs.Slices.{heightOf, laid, kindsOf, stopsOf, weightsOf, heightsOf}
-use Rattle.table.specs.Table.{Table, greatest, leafLines, summary}
+use Rattle.table.specs.Slices.{laid, kindsOf, stopsOf, weightsOf, heightsOf}
+use Rattle.table.specs.Table.{Table, summary}
 use Rattle.runs.specs.Inside.{firstOr, scanFrom, bareAt, oddAt}
-use Rattle.reading.specs.declared.Lines
-use Rattle.reading.specs.declared.Lines.{Lines}
-
--- each of four slices has an entry i
-pub record Roomed (i : ℕ) (k u w h : List ℕ) : Type 0 where
-  pub kinds : i < length k
-  pub ups : i < length u
-  pub weights : i < length w
-  pub heights : i < length h
-
--- the node lines v, gathered into slices: k, u, w and h as they came, then as they are
-abbrev pub Gathered : ℤ → Verdict (List Line) → Lines → List ℕ → List ℕ → List ℕ → List ℕ → List ℕ → List ℕ → List ℕ → List ℕ → Type 0
-Gathered lowest (refused r) out k u w h k′ u′ w′ h′ = out ≡ Lines.the-variants.Refused r
-Gathered lowest (fine ls) out k u w h k′ u′ w′ h′ =
-    (out ≡ Lines.the-variants.Fine (greatest ls) (leafLines ls))
-    × (k′ ≡ laid (map (λ (l : Line). l .kind) ls) k)
-    × (u′ ≡ laid (map (λ (l : Line). l .parent) ls) u)
-    × (w′ ≡ laid (map (λ (l : Line). l .weight) ls) w)
-    × (h′ ≡ laid (map (heightOf lowest) ls) h)
-
--- ---- the end of the reading
+use Rattle.gathering.specs.declared.Lines
 
 abbrev pub summaryOf : ℕ → Head → ℕ → ℕ → Summary
 summaryOf n h most leaves =

@@ -5,8 +5,3 @@ pub mod Rows
 pub mod Walks
 pub mod Paths
 pub mod Looped
-pub mod Filling
-pub mod Given
-pub mod Lent
-pub mod Call
-pub mod Answered

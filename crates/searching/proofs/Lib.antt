@@ -4,5 +4,3 @@ pub mod Fits
 pub mod Rules
 pub mod Root
 pub mod Ready
-pub mod Searching
-pub mod Answered

@@ -5,14 +5,11 @@ use mathlib.Core.Bool.{Bool, true, false, _||_, cond}
 use mathlib.Core.List.{List, [], _∷_}
 use mathlib.Core.Option.{Option, none, some}
 use lib.Dec.{eqb}
-use lib.IntN.{ℤ}
 use lib.ListN.{length, set}
-use Rattle.line.specs.Line.{toNat}
 use Rattle.table.specs.Tree.{Kind, MAX, MIN, CHANCE, Forest, end, leaf, inner, isChance, isEnd, weigh, leaves}
 use Rattle.table.specs.Inside.{Slices, Spans, Holds}
 use Rattle.table.specs.Slices.{laid}
 use Rattle.table.specs.Accepted.{Rooted}
-use Rattle.scale.specs.declared.Scale.{Scale}
 use Rattle.search.specs.Search as alg
 use Rattle.search.specs.Search.{Frame, Play, noPlay, Seen, Rules, framed, begin, lower, upper, beats, update, scan, searchRoot, nodeOf}
 use Rattle.search.specs.Inside.{natural, grained, heightRules}
@@ -176,13 +173,3 @@ pub record Shows (r : Found) (a : Seen ℕ) (came now : List ℕ) : Type 0 where
 abbrev pub Searched : Slices → Rule → Ends → ℕ → Found → List ℕ → List ℕ → Type 0
 Searched t g v n r came now =
     (R : ReadyRoot t g v n (length came)) → Shows r (searchRoot natural (rulesOf g v) (grained (g .grain) (R .nodes))) came now
-
--- ---- the call
-
--- the numbers that a search goes by
-abbrev pub ruleFor : Scale → ℤ → Rule
-ruleFor s margin = record { margin = toNat margin; grain = s .grain }
-
--- the ends of a table, in grains above the lowest
-abbrev pub endsFor : Scale → Ends
-endsFor s = record { bottom = 0; top = s .top }

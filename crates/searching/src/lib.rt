@@ -1,16 +1,10 @@
-// The bounded search over the decoded table: Algorithm 1 of document 000, whose lines are named here, in grains above the lowest end. The call
-// `search_table` stands last.
+// The bounded search over the decoded table: Algorithm 1 of document 000, whose lines are named here, in grains above the lowest end.
 ghost use mathlib.Core.Path.{_≡_};
 ghost use Prim.Native.Nat.{_+_, _*_, _<_, _≤_};
 ghost use lib.ListN.{length, getD};
 ghost use Rattle.table.specs.Tree.{MAX, MIN, CHANCE};
-ghost use Rattle.table.specs.Table.{readText};
 ghost use Rattle.table.specs.Inside.{slices};
-ghost use Rattle.table.specs.Slices.{laid};
-ghost use Rattle.table.specs.Root.{playOf};
-ghost use Rattle.searching.specs.Inside.{frameAt, windowFor, preferred, after, stops, playAt, LeafAt, limit, OkEnds, OkState, ReadyChildren, Told, ReadyRoot, Searched, ruleFor, endsFor};
-ghost use Rattle.searching.specs.Call.{badMargin, searchCall, searchReads};
-use line::Refusal;
+ghost use Rattle.searching.specs.Inside.{frameAt, windowFor, preferred, after, stops, LeafAt, limit, OkEnds, OkState, ReadyChildren, Told, ReadyRoot, Searched};
 use numbers::at8;
 use numbers::max_of;
 use numbers::min_of;
@@ -18,9 +12,6 @@ use numbers::monus;
 use numbers::node_at;
 use numbers::wide8;
 use numbers::wide32;
-use scale::Scale;
-use table::Play;
-use table::Reading;
 
 // The margin, and the grains in a point.
 pub struct Rule {
@@ -55,21 +46,6 @@ pub struct Found {
     pub high: u64,
     pub play: usize,
     pub used: usize,
-}
-
-// What a search answers: two bounds, the best root child entered, how many leaves were read, and G.
-pub struct Bounds {
-    pub low: i64,
-    pub high: i64,
-    pub play: Play,
-    pub leaves: usize,
-    pub grain: u64,
-}
-
-// The bounds, or a refusal.
-pub enum Bounded {
-    Found(Bounds),
-    Refused(Refusal),
 }
 
 // Line 24: whether the window is within the margin.
@@ -413,76 +389,4 @@ pub fn search(
         return min_over(kind, stop, weight, height, leaves, 0, g, 1, n, v, w);
     }
     chance_over(kind, stop, weight, height, leaves, 0, g, 1, n, v, w)
-}
-
-fn is_bad_margin(margin: i64) -> bool
-    ensures { λ r. ⌜ r ≡ badMargin margin ⌝ }
-{
-    (margin < 0) | (40000000000000 < margin)
-}
-
-// The numbers that a search goes by.
-fn rule_of(s: Scale, margin: i64) -> Rule
-    ensures { λ r. ⌜ r ≡ ruleFor s margin ⌝ }
-{
-    Rule {
-        margin: line::natural(margin),
-        grain: s.grain,
-    }
-}
-
-// The ends of a table.
-fn ends_of(s: Scale) -> Ends
-    ensures { λ r. ⌜ r ≡ endsFor s ⌝ }
-{
-    Ends {
-        bottom: 0,
-        top: s.top,
-    }
-}
-
-// A node number as a play, where 0 stands for none.
-fn play_at(node: usize) -> Play
-    ensures { λ r. ⌜ r ≡ playOf (playAt node) ⌝ }
-{
-    if node == 0 {
-        return Play::NoPlay;
-    }
-    Play::Child(node)
-}
-
-// The bounded search: for any text, any margin and any list. The list gets the leaves read in reading sequence, and keeps its other
-// entries; a refused call writes nothing.
-pub fn search_table(text: &[u8], margin: i64, leaves: &mut [u16]) -> Bounded
-    ensures answers { λ r. ⌜ r ≡ searchCall (readText (now (text .entry))) margin (length (now (leaves .entry))) ⌝ }
-    ensures lists { λ _. ⌜ now (leaves .exit) ≡ laid (searchReads (readText (now (text .entry))) margin (length (now (leaves .entry)))) (now (leaves .entry)) ⌝ }
-{
-    let mut kind = [0u8; 1024];
-    let mut stop = [0u16; 1024];
-    let mut weight = [0u8; 1024];
-    let mut height = [0u32; 1024];
-    match reading::decode(text, &mut kind, &mut stop, &mut weight, &mut height) {
-        Reading::Refused(r) => Bounded::Refused(r),
-        Reading::Accepted(t) => {
-            if is_bad_margin(margin) {
-                return Bounded::Refused(Refusal::BadMargin);
-            }
-            if leaves.len() < t.leaves {
-                return Bounded::Refused(Refusal::NoRoom);
-            }
-            let s = scale::scale_of(t);
-            let g = rule_of(s, margin);
-            let v = ends_of(s);
-            let f = search(&kind, &stop, &weight, &height, leaves, t.nodes, g, v);
-            let low = scale::in_grains(t.lowest, t.grain, f.low);
-            let high = scale::in_grains(t.lowest, t.grain, f.high);
-            Bounded::Found(Bounds {
-                low: low,
-                high: high,
-                play: play_at(f.play),
-                leaves: f.used,
-                grain: t.grain,
-            })
-        }
-    }
 }

@@ -10,4 +10,3 @@ pub mod Bytes
 pub mod Rows
 pub mod Written
 pub mod Ready
-pub mod Call

@@ -1,4 +1,3 @@
 pub mod Text
 pub mod Turn
-pub mod Call
 pub mod Inside

@@ -4,18 +4,8 @@ ghost use Prim.Native.Nat.{_+_, _≤_};
 ghost use lib.ListN.{length};
 ghost use lib.IntN.{pos, negℤ, natAbs, _+ℤ_};
 ghost use Rattle.field.specs.Field.{written};
-ghost use Rattle.table.specs.Table.{readText};
 ghost use Rattle.table.specs.Slices.{laid};
-ghost use Rattle.turn.specs.Call.{turnCall, turnBytes};
 ghost use Rattle.turn.specs.Inside.{turnedAt, Rows, RowsTurned, ReadyText, TextTurned};
-use line::Refusal;
-use table::Reading;
-
-// How many bytes of the turned text were written, or a refusal.
-pub enum Turned {
-    Written(usize),
-    Refused(Refusal),
-}
 
 // The text, copied to the front of the buffer.
 fn copy(text: &[u8], buffer: &mut [u8])
@@ -84,26 +74,4 @@ pub fn turn(
     write_negated(buffer, 8, highest);
     write_negated(buffer, 16, lowest);
     turn_lines(kind, height, n, lowest, buffer);
-}
-
-// The turned table's text: for any text and any buffer. The text goes to the start of the buffer, whose other bytes stay; a refused call
-// writes nothing.
-pub fn turn_table(text: &[u8], buffer: &mut [u8]) -> Turned
-    ensures answers { λ r. ⌜ r ≡ turnCall (readText (now (text .entry))) (length (now (buffer .entry))) ⌝ }
-    ensures writes { λ _. ⌜ now (buffer .exit) ≡ laid (turnBytes (readText (now (text .entry))) (length (now (buffer .entry)))) (now (buffer .entry)) ⌝ }
-{
-    let mut kind = [0u8; 1024];
-    let mut stop = [0u16; 1024];
-    let mut weight = [0u8; 1024];
-    let mut height = [0u32; 1024];
-    match reading::decode(text, &mut kind, &mut stop, &mut weight, &mut height) {
-        Reading::Refused(r) => Turned::Refused(r),
-        Reading::Accepted(t) => {
-            if buffer.len() < text.len() {
-                return Turned::Refused(Refusal::NoRoom);
-            }
-            turn(text, &kind, &height, t.nodes, t.lowest, t.highest, buffer);
-            Turned::Written(text.len())
-        }
-    }
 }

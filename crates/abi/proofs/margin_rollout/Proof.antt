@@ -40,17 +40,17 @@ use denote.Triple.Walked.{says, Stays, gave-slice, stay-none-slice, walkOf, goes
 use denote.Exit.{yes}
 use Rattle.table.specs.Table.{readText}
 use Rattle.table.specs.Slices.{laid}
-use Rattle.rolling.specs.declared.Record.{Record}
-use Rattle.rolling.specs.declared.Rolled.{Rolled}
-use Rattle.rolling.specs.Call.{rollCall, rollReads, rollStore, recorded}
-use Rattle.rolling.proofs.Record as T
-use Rattle.rolling.proofs.Answered.{roll-sizes}
-use Rattle.rolling.proofs.Rolled as G
-use Rattle.rolling.proofs.Rolled.Laws as G′
-use Rattle.rolling.proofs.rollouts as rolls
-use Rattle.rolling.proofs.rollouts.Symbol as rolls-def
-use Rattle.rolling.proofs.rollouts.Symbol.{name as #rolling·rollouts}
-use Rattle.rolling.proofs.rollouts.Met as rolls-thm
+use Rattle.rollout_call.specs.declared.Record.{Record}
+use Rattle.rollout_call.specs.declared.Rolled.{Rolled}
+use Rattle.rollout_call.specs.Call.{rollCall, rollReads, rollStore, recorded}
+use Rattle.rollout_call.proofs.Record as T
+use Rattle.rollout_call.proofs.Answered.{roll-sizes}
+use Rattle.rollout_call.proofs.Rolled as G
+use Rattle.rollout_call.proofs.Rolled.Laws as G′
+use Rattle.rollout_call.proofs.rollouts as rolls
+use Rattle.rollout_call.proofs.rollouts.Symbol as rolls-def
+use Rattle.rollout_call.proofs.rollouts.Symbol.{name as #rollout-call·rollouts}
+use Rattle.rollout_call.proofs.rollouts.Met as rolls-thm
 use Rattle.codes.specs.Numbers.{rollCode, rollNumbers, put}
 use Rattle.codes.specs.Inside.{SmallRolled}
 use Rattle.codes.proofs.put_rolled as puts
@@ -220,7 +220,7 @@ module _ {M : Type 1} (𝓤 : URA M) (H : Heap 𝓤) (A : Atoms 𝓤) (W : Given
   small-answer r e = subst SmallRolled (sym e) (rolled-small answer (roll-sizes ts ps (length vs) (length ys)))
 
   module _ (C : Calls 𝓤 H) (Λ : Loops 𝓤 H) (fm : FmC 𝓤 H (W .laws) C)
-      (known-rolls : Triple 𝓤 (C #rolling·rollouts) (Rolls 𝓤 H A at-mem run)) (known-puts : Triple 𝓤 (C #codes·put-rolled) (Puts 𝓤 H A at-mem run)) where
+      (known-rolls : Triple 𝓤 (C #rollout-call·rollouts) (Rolls 𝓤 H A at-mem run)) (known-puts : Triple 𝓤 (C #codes·put-rolled) (Puts 𝓤 H A at-mem run)) where
     walk : ent 𝓤 (onEntry 𝓤 H A rollout.signature (κ₀, (κ₁, (κ₂, (κ₃, (κ₄, tt))))) (q₀, (q₁, (q₂, (q₃, (q₄, tt))))) a vals) (WpFn 𝓤 H C Λ code.function (s₀ ∷ s₁ ∷ s₂ ∷ s₃ ∷ s₄ ∷ []) Post)
     walk =
         qed W (Tok ∷ ‵ (owns (ShrSlice (named 0) κ₀ u8 ∷ ShrSlice (named 1) κ₁ u8 ∷ MutSlice (named 2) κ₂ T.the-row ∷ MutSlice (named 3) κ₃ u16 ∷ MutSlice (named 4) κ₄ i64 ∷ []) a vals) ∷ []) ∵ enter ! C Λ code.function (s₀ ∷ s₁ ∷ s₂ ∷ s₃ ∷ s₄ ∷ []) _ $
@@ -269,7 +269,7 @@ module _ {M : Type 1} (𝓤 : URA M) (H : Heap 𝓤) (A : Atoms 𝓤) (W : Given
         keep ! (9 ∷ 8 ∷ 7 ∷ 6 ∷ 1 ∷ 14 ∷ 15 ∷ 11 ∷ 10 ∷ 3 ∷ []) $ by ! (exits n w (e .1 .1 .0) (e .1 .1 .1 .0) (f .1 .0) isₙ (en ∙ ap rollCode er) (ef ∙ ap (λ (x : Rolled). put 0 (rollNumbers x) ns) er) el es k₂ k₃ k₄))))))))))))))))))))))))))))))
 
 module _ {M : Type 1} (𝓤 : URA M) (H : Heap 𝓤) (A : Atoms 𝓤) (W : Given 𝓤 H A) (at-mem : Memory → SProp 𝓤) (run : Routine → Fun 𝓤) where
-  rollout-walks : (C : Calls 𝓤 H) (Λ : Loops 𝓤 H) → FmC 𝓤 H (W .laws) C → Triple 𝓤 (C #rolling·rollouts) (Rolls 𝓤 H A at-mem run) → Triple 𝓤 (C #codes·put-rolled) (Puts 𝓤 H A at-mem run)
+  rollout-walks : (C : Calls 𝓤 H) (Λ : Loops 𝓤 H) → FmC 𝓤 H (W .laws) C → Triple 𝓤 (C #rollout-call·rollouts) (Rolls 𝓤 H A at-mem run) → Triple 𝓤 (C #codes·put-rolled) (Puts 𝓤 H A at-mem run)
       → Walks 𝓤 H A rollout.ended stayed (WpFn 𝓤 H C Λ code.function) (rollout.clauses 𝓤 H A at-mem run)
   rollout-walks C Λ fm known-rolls known-puts = walked 𝓤 H A rollout.ended stayed (rollout.clauses 𝓤 H A at-mem run) (WpFn 𝓤 H C Λ code.function)
       (λ κs. (slice-vals, (slice-vals, (slice-vals, (slice-vals, (slice-vals, tt))))))
@@ -280,7 +280,7 @@ module _ {M : Type 1} (𝓤 : URA M) (H : Heap 𝓤) (A : Atoms 𝓤) (W : Given
       (are .0 .0 .1) (are .1 .0 .0 .1) (are .1 .1 .0 .0 .1) (are .1 .1 .1 .0 .0 .1) (are .1 .1 .1 .1 .0 .0 .1) C Λ fm known-rolls known-puts))
 
 rollout-meets : {M : Type 1} (𝓤 : URA M) (H : Heap 𝓤) (A : Atoms 𝓤) → Given 𝓤 H A → (at-mem : Memory → SProp 𝓤) (run : Routine → Fun 𝓤) (𝓣 : Tables 𝓤 H)
-    → Triple 𝓤 (𝓣 .C #rolling·rollouts) (Rolls 𝓤 H A at-mem run) → Triple 𝓤 (𝓣 .C #codes·put-rolled) (Puts 𝓤 H A at-mem run)
+    → Triple 𝓤 (𝓣 .C #rollout-call·rollouts) (Rolls 𝓤 H A at-mem run) → Triple 𝓤 (𝓣 .C #codes·put-rolled) (Puts 𝓤 H A at-mem run)
     → Meets 𝓤 H A rollout.signature (WpFn 𝓤 H (𝓣 .C) (𝓣 .Λ) code.function) (rollout.spec 𝓤 H A at-mem run)
 rollout-meets 𝓤 H A W at-mem run 𝓣 known-rolls known-puts =
     walk-meets 𝓤 H A rollout.ended stayed W
@@ -294,5 +294,5 @@ margin-rollout-spec 𝓤 H 𝓜 𝓖 𝓡 =
     entered 𝓤 H (tripleOf 𝓤 H (𝓖 .A) rollout.signature (rollout.spec 𝓤 H (𝓖 .A) (𝓜 .mem) (𝓡 .run)))
     (tables 𝓤 H 𝓜 𝓡 code.env .C) (tables 𝓤 H 𝓜 𝓡 code.env .Λ) #abi·margin-rollout code.function (code.unfolded 𝓤 H 𝓜 𝓡)
     (rollout-meets 𝓤 H (𝓖 .A) (givenOf 𝓤 H 𝓜 𝓖) (𝓜 .mem) (𝓡 .run) (tablesOf 𝓤 H 𝓜 (tables 𝓤 H 𝓜 𝓡 code.env))
-    (cited 𝓤 H (Rolls 𝓤 H (𝓖 .A) (𝓜 .mem) (𝓡 .run)) 𝓜 𝓡 code.env #rolling·rollouts rolls-def.routine code.calls-rolling·rollouts (rolls-thm.met 𝓤 H 𝓜 𝓖 𝓡))
+    (cited 𝓤 H (Rolls 𝓤 H (𝓖 .A) (𝓜 .mem) (𝓡 .run)) 𝓜 𝓡 code.env #rollout-call·rollouts rolls-def.routine code.calls-rollout-call·rollouts (rolls-thm.met 𝓤 H 𝓜 𝓖 𝓡))
     (cited 𝓤 H (Puts 𝓤 H (𝓖 .A) (𝓜 .mem) (𝓡 .run)) 𝓜 𝓡 code.env #codes·put-rolled puts-def.routine code.calls-codes·put-rolled (puts-thm.met 𝓤 H 𝓜 𝓖 𝓡)))

@@ -11,10 +11,10 @@ use mir.Val.{toZ, ofZ}
 use mir.ValLaws.{toZ-ofZ}
 use Rattle.table.specs.Slices.{laid}
 use Rattle.table.specs.Table.{readText}
-use Rattle.searching.specs.declared.Bounded.{Bounded}
-use Rattle.searching.specs.declared.Bounded.the-variants.{Found, Refused}
-use Rattle.searching.specs.Call.{searchCall, searchReads}
-use Rattle.searching.proofs.Answered.{search-line, search-sizes}
+use Rattle.search_call.specs.declared.Bounded.{Bounded}
+use Rattle.search_call.specs.declared.Bounded.the-variants.{Found, Refused}
+use Rattle.search_call.specs.Call.{searchCall, searchReads}
+use Rattle.search_call.proofs.Answered.{search-line, search-sizes}
 use Rattle.codes.specs.Numbers.{searchCode, searchNumbers, put}
 use Rattle.abi.proofs.Answers.{bounds-small}
 use Rattle.abi.proofs.margin_search.Statement.{statement}

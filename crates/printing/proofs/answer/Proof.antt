@@ -11,7 +11,7 @@ use lib.Seq.{sets, length-take-le}
 use mir.Syntax.{w64}
 use mir.Val.{toZ, ofZ}
 use Rattle.table.specs.Table.{readText}
-use Rattle.searching.specs.Call.{sought}
+use Rattle.search_call.specs.Call.{sought}
 use Rattle.printing.specs.Program.{marginOf, tableOf, printed, rowsOf, outputOf}
 use Rattle.printing.proofs.Fitted.{part-table, copied}
 use Rattle.printing.proofs.answer.Statement.{statement}

@@ -15,9 +15,9 @@ use Rattle.line.specs.declared.Refusal.{Refusal}
 use Rattle.line.specs.Refusal.{Verdict, refused, fine}
 use Rattle.table.specs.Table.{readText}
 use Rattle.table.specs.Slices.{laid}
-use Rattle.searching.specs.declared.Bounds.{Bounds}
-use Rattle.searching.specs.declared.Bounded.the-variants.{Found, Refused}
-use Rattle.searching.specs.Call.{Sought, sought, boundsOf, searchAnswer, searchList}
+use Rattle.search_call.specs.declared.Bounds.{Bounds}
+use Rattle.search_call.specs.declared.Bounded.the-variants.{Found, Refused}
+use Rattle.search_call.specs.Call.{Sought, sought, boundsOf, searchAnswer, searchList}
 use Rattle.printing.specs.Program.{WordLine, printed, leafRow, rowsOf}
 use Rattle.printing.specs.Inside.{Lined, playMarks, Narrow, boundRows}
 use Rattle.printing.proofs.Sizes.{refusal-size}

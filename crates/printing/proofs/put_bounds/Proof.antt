@@ -13,7 +13,7 @@ use mir.Val.{toZ, ofZ}
 use Rattle.field.specs.Field.{textOf}
 use Rattle.field.proofs.Bits.{back}
 use Rattle.field.proofs.Width.{few-columns}
-use Rattle.searching.specs.declared.Bounds.{Bounds}
+use Rattle.search_call.specs.declared.Bounds.{Bounds}
 use Rattle.printing.specs.Program.{Low, High, Grain, Play, Leaves, columns, rowOf, printed}
 use Rattle.printing.proofs.Stores.{count-columns, row-size, then, last-row}
 use Rattle.printing.proofs.put_bounds.Statement.{statement}

@@ -7,7 +7,7 @@ use borrow.Author.Needs.{needs}
 use denote.Ref.{now}
 use lib.ListN.{length, take}
 use lib.Seq.{sets, length-take-le}
-use Rattle.searching.specs.declared.Bounds.{Bounds}
+use Rattle.search_call.specs.declared.Bounds.{Bounds}
 use Rattle.printing.specs.Program.{printed, leafRow}
 use Rattle.printing.specs.Inside.{boundRows}
 use Rattle.printing.proofs.Stores.{then, printed-append}

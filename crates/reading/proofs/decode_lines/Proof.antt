@@ -10,9 +10,9 @@ use Rattle.line.specs.Refusal.{Verdict, refused}
 use Rattle.table.specs.Table.{nodeLines, linesOf}
 use Rattle.table.specs.Slices.{lineStops, laid}
 use Rattle.table.proofs.Grown.{lines-counted}
-use Rattle.reading.specs.declared.Lines
-use Rattle.reading.specs.declared.Lines.{Lines}
-use Rattle.reading.specs.Inside.{Gathered}
+use Rattle.gathering.specs.declared.Lines
+use Rattle.gathering.specs.declared.Lines.{Lines}
+use Rattle.gathering.specs.Inside.{Gathered}
 use Rattle.reading.proofs.Complete.{Lined, gathered-lined, gathered-refusal, stops-are, has, decoded-all}
 use Rattle.reading.proofs.Top.{decoded-refused}
 use Rattle.reading.proofs.decode_lines.Statement.{statement}

@@ -4,8 +4,8 @@ use mathlib.Core.Path.{_≡_}
 use mathlib.Core.Bool.{Bool, true, _&&_, cond}
 use mathlib.Core.List.{List, [], _∷_}
 use lib.Dec.{eqb}
-use lib.ListN.{length, getD, set, take, drop}
-use Rattle.line.specs.Refusal.{Verdict, fine}
+use lib.ListN.{length, getD, set, drop}
+use Rattle.line.specs.Refusal.{fine}
 use Rattle.table.specs.Tree.{Kind, kindOf, Forest, end, leaf, inner, leaves}
 use Rattle.table.specs.Table.{Table, readText, grain}
 use Rattle.table.specs.Inside.{Spans, heightTree, slices}
@@ -15,9 +15,6 @@ use Rattle.rollout.specs.Rollout.{pick, over, candidate}
 use Rattle.rollout.specs.Inside.Heights.{natural}
 use Rattle.rollout.specs.Inside.Sound.{Sound}
 use Rattle.rolling.specs.declared.Step.{Step}
-use Rattle.rolling.specs.declared.Outcome.{Outcome}
-use Rattle.rolling.specs.Call.{rollCall, rollReads, rollStore}
-use Rattle.rolling.specs.Inside.Records.{lowsOf, highsOf, risen, SmallHeights}
 use Rattle.rolling.specs.Inside.Lists.{Store, lowAt, highAt, putBoth, candidatesS, WalkS, RolledS, keep, walkS, rollS, AtEnds}
 
 abbrev pub stored : (low high : List ℕ) → Store
@@ -201,21 +198,3 @@ abbrev pub WellRolled : (K S H : List ℕ) (G n : ℕ) (P : List ℕ) → (st la
 WellRolled K S H G n P st last r came now =
     (R : ReadyRoll K S H G n st (length came))
     → RolledIn (rollS (grain (R .table)) (leaves (heightTree (R .table))) P (heightTree (R .table)) st) last r came now
-
--- ---- the call
-
--- the first n highs are the highest end
-abbrev pub Started : (n top : ℕ) → List ℕ → Type 0
-Started n top high = (i : ℕ) → i < n → getD high i 0 ≡ top
-
--- the outcome o, the leaf list, as it came and as it is now, and the lows and the highs above the base are those of the call
-pub record RollsTo (v : Verdict Table) (p : List ℕ) (room : ℕ) (o : Outcome) (came now low high : List ℕ) : Type 0 where
-  pub answers : o .answer ≡ rollCall v p (length came) room
-  pub nodes : o .nodes ≡ length (rollStore v p (length came) room)
-  pub fits : o .nodes ≤ room
-  pub few : o .nodes ≤ 1024
-  pub lists : now ≡ laid (rollReads v p (length came) room) came
-  pub lows-are : risen (o .base) (take (o .nodes) low) ≡ lowsOf (rollStore v p (length came) room)
-  pub highs-are : risen (o .base) (take (o .nodes) high) ≡ highsOf (rollStore v p (length came) room)
-  pub small-low : SmallHeights (o .base) (o .nodes) low
-  pub small-high : SmallHeights (o .base) (o .nodes) high

@@ -1,0 +1,174 @@
+-- `search_call::search_table` meets its contract. Assumes nothing.
+use Prim.Native.Nat.{ℕ, _≤_}
+use mathlib.Core.Path.{_≡_, sym, ap, ap₂, _∙_}
+use mathlib.Core.Bool.{false}
+use mathlib.Core.List.{List}
+use borrow.Author.Needs.{needs}
+use denote.Ref.{now}
+use lib.ListN.{length}
+use lib.IntN.{ℤ}
+use mir.Syntax.{w64}
+use mir.ValLaws.{toZ-ofZ}
+use Rattle.line.specs.declared.Refusal.{Refusal}
+use Rattle.line.specs.declared.Refusal.the-variants.{NoRoom, BadMargin}
+use Rattle.line.specs.Refusal.{Verdict, refused}
+use Rattle.table.specs.declared.Summary.{Summary}
+use Rattle.table.specs.Slices.{laid}
+use Rattle.table.specs.Table.{Table, readText}
+use Rattle.table.specs.declared.Reading.the-variants.{Refused}
+use Rattle.scale.specs.Inside.{scaleFor}
+use Rattle.scale.proofs.Taken.{Taken, refused-by, taken-by, spread-at, grains-ready, grains-at}
+use Rattle.searching.specs.declared.Found.{Found}
+use Rattle.search_call.specs.declared.Bounded.the-variants.{Found as Given}
+use Rattle.search_call.specs.Call.{badMargin, Sought, sought, searchAnswer, searchList, searchCall, searchReads}
+use Rattle.search_call.specs.Inside.{ruleFor, endsFor}
+use Rattle.search_call.proofs.Call.{bad-margin, no-room, search-ready, found-small, given-at, reads-at}
+use Rattle.search_call.proofs.search_table.Statement.{statement}
+use Rattle.search_call.proofs.search_table.Tie as tie
+
+abbrev start-of : tie.After-decode → tie.Start
+start-of R = R .before .before .before .before .before .before .before
+
+abbrev text-of : tie.After-decode → List ℕ
+text-of R = now (start-of R .args .text)
+
+abbrev margin-of : tie.After-decode → ℤ
+margin-of R = start-of R .args .margin
+
+abbrev list-of : tie.After-decode → List ℕ
+list-of R = now (start-of R .args .leaves)
+
+-- the reading refused x
+refused-at : (R : tie.After-decode) (x : Refusal) → R .decode .result ≡ Refused x → readText (text-of R) ≡ refused x
+refused-at R x e =
+    let l = R .decode .last .1 in
+    refused-by (text-of R) (R .decode .result) x (l .0) (l .1 .0) (l .1 .1 .0) (l .1 .1 .1 .0) (R .decode .ensures) e
+
+-- at an accepted table: the reading, the summary, and what is left
+abbrev read-of : tie.After-known-told2 → tie.After-decode
+read-of c = c .before .before .before .before .before .before .before
+
+abbrev summary-of : tie.After-known-told2 → Summary
+summary-of c = c .before .t .given .0 .0
+
+taken : (c : tie.After-known-told2)
+    → let x = read-of c .decode .last .1 in Taken (text-of (read-of c)) (summary-of c) (x .0) (x .1 .0) (x .1 .1 .0) (x .1 .1 .1 .0)
+taken c = taken-by (text-of (read-of c)) (read-of c .decode .ensures) (c .before .t .given .1)
+
+-- the test of the margin is the definition's
+tested : (c : tie.After-is-bad-margin) → c .is-bad-margin .result ≡ badMargin (margin-of (read-of (c .before)))
+tested c =
+    let S = start-of (read-of (c .before)) in
+    c .is-bad-margin .ensures ∙ ap badMargin (toZ-ofZ w64 (S .args .margin) (S .fits .margin))
+
+-- the refusals, and what is then in the list
+refusing : (R : tie.After-decode) (v : Verdict Sought) → sought (readText (text-of R)) (margin-of R) (length (list-of R)) ≡ v
+    → (searchAnswer v ≡ searchCall (readText (text-of R)) (margin-of R) (length (list-of R))) × (laid (searchList v) (list-of R) ≡ laid (searchReads (readText (text-of R)) (margin-of R) (length (list-of R))) (list-of R))
+refusing R v e = (sym (ap searchAnswer e), sym (ap (λ (x : Verdict Sought). laid (searchList x) (list-of R)) e))
+
+returns : tie.Need-returns
+returns c =
+    let K = c .before .before in
+    let R = read-of K in
+    refusing R (refused BadMargin) (bad-margin (taken K) (margin-of R) (length (list-of R)) (sym (tested (c .before)) ∙ c .if1 .taken))
+
+returns-2 : tie.Need-returns-2
+returns-2 c =
+    let E = c .before .before in
+    let K = E .before .before in
+    let R = read-of K in
+    refusing R (refused NoRoom) (no-room (taken K) (margin-of R) (length (list-of R)) (sym (tested (E .before)) ∙ E .if1 .left) (c .if2 .taken))
+
+-- ---- where the search is called: at an accepted table, an accepted margin and a list that is long enough
+
+abbrev known-of : tie.After-ends-of → tie.After-known-told2
+known-of L = L .before .before .before .before .before .before .before
+
+abbrev room-of : tie.After-ends-of → tie.Else2
+room-of L = L .before .before .before
+
+good : (L : tie.After-ends-of) → badMargin (margin-of (read-of (known-of L))) ≡ false
+good L = let E = room-of L .before .before in sym (tested (E .before)) ∙ E .if1 .left
+
+rule-is : (L : tie.After-ends-of) → L .before .rule-of .result ≡ ruleFor (scaleFor (summary-of (known-of L))) (margin-of (read-of (known-of L)))
+rule-is L =
+    let S = start-of (read-of (known-of L)) in
+    L .before .rule-of .ensures ∙ ap₂ ruleFor (L .before .before .scale-of .ensures) (toZ-ofZ w64 (S .args .margin) (S .fits .margin))
+
+ends-are : (L : tie.After-ends-of) → L .ends-of .result ≡ endsFor (scaleFor (summary-of (known-of L)))
+ends-are L = L .ends-of .ensures ∙ ap endsFor (L .before .before .scale-of .ensures)
+
+search-requires : tie.Need-search-requires
+search-requires c κs =
+    let L = c .before .before .before .before .before in
+    let K = known-of L in
+    search-ready (taken K) (margin-of (read-of K)) (good L) (rule-is L) (ends-are L) (length (list-of (read-of K))) (room-of L .if2 .left)
+
+-- ---- what it found
+
+abbrev rule-at : tie.After-search → tie.After-ends-of
+rule-at W = W .before .before .before .before .before .before
+
+small : (W : tie.After-search) → (W .search .result .low ≤ 35184372088832) × (W .search .result .high ≤ 35184372088832)
+small W =
+    let L = rule-at W in
+    let K = known-of L in
+    let R = read-of K in
+    found-small (taken K) (margin-of R) (good L) (rule-is L) (ends-are L) (W .search .result) (list-of R) (W .search .last .1 .1 .1 .1 .0) (room-of L .if2 .left) (W .search .ensures)
+
+in-grains-requires : tie.Need-in-grains-requires
+in-grains-requires c κs = let W = c .before .before .before in grains-ready (taken (known-of (rule-at W))) (small W .0)
+
+in-grains-requires-2 : tie.Need-in-grains-requires-2
+in-grains-requires-2 c κs = let W = c .before .before .before .before .before in grains-ready (taken (known-of (rule-at W))) (small W .1)
+
+returns-3 : tie.Need-returns-3
+returns-3 c =
+    let r = c .before .r .given in
+    let R = c .before .before .before .before .before .before .before in
+    let v = refused-at R (r .0 .0) (r .1) in
+    refusing R (refused (r .0 .0)) (ap (λ (v : Verdict Table). sought v (margin-of R) (length (list-of R))) v)
+
+returns-4 : tie.Need-returns-4
+returns-4 c =
+    let W = c .before .before .before .before .before .before .before in
+    let L = rule-at W in
+    let K = known-of L in
+    let R = read-of K in
+    let G = taken K in
+    let f : Found = W .search .result in
+    let low = grains-at G (small W .0) (c .before .before .before .in-grains .ensures) in
+    let high = grains-at G (small W .1) (c .before .in-grains2 .ensures) in (
+      (λ i. Given (record { low = low i; high = high i; play = (c .play-at .ensures) i; leaves = f .used; grain = summary-of K .grain }))
+          ∙ given-at G (margin-of R) (good L) (rule-is L) (ends-are L) f (list-of R) (W .search .last .1 .1 .1 .1 .0) (room-of L .if2 .left) (W .search .ensures),
+      reads-at G (margin-of R) (good L) (rule-is L) (ends-are L) f (list-of R) (W .search .last .1 .1 .1 .1 .0) (room-of L .if2 .left) (W .search .ensures),
+    )
+
+pub search-table-spec : {M : Type 1} → statement M
+search-table-spec =
+    tie.close
+    (tie.spec
+    (λ c. search needs)
+    (λ c. search needs)
+    (λ c. search needs)
+    (λ c. search needs)
+    (λ c κs. search needs)
+    (λ c. search needs)
+    (λ c. search needs)
+    (λ c κs. search needs)
+    returns
+    returns-2
+    (λ c κs. spread-at (taken (c .before .before .before .before)))
+    (λ c κs. search needs)
+    (λ c κs. search needs)
+    (λ c. search needs)
+    (λ c. search needs)
+    (λ c. search needs)
+    (λ c. search needs)
+    search-requires
+    in-grains-requires
+    in-grains-requires-2
+    (λ c κs. search needs)
+    returns-3
+    (λ c. search needs)
+    returns-4)

@@ -1,0 +1,72 @@
+-- What the call `search_table` answers. Document 01, 'The search' and 'Refused tables and calls'.
+use Prim.Native.Nat.{ℕ}
+use mathlib.Core.Bool.{Bool, _||_}
+use mathlib.Core.List.{List, [], _∷_}
+use lib.Dec.{ltb}
+use lib.ListN.{length}
+use lib.IntN.{ℤ, pos}
+use lib.Signed.{ltZ}
+use Rattle.line.specs.declared.Refusal.the-variants.{NoRoom, BadMargin}
+use Rattle.line.specs.Refusal.{Verdict, refused, fine, unless, next, numberOf, lineOf}
+use Rattle.line.specs.Line.{toNat}
+use Rattle.table.specs.Tree.{leaves}
+use Rattle.table.specs.Table.{Table, tree, grain}
+use Rattle.table.specs.Root.{playOf}
+use Rattle.search.specs.Search.{Seen, nodeOf}
+use Rattle.search.specs.Whole.{searched}
+use Rattle.search_call.specs.declared.Bounded
+use Rattle.search_call.specs.declared.Bounded.{Bounded}
+use Rattle.search_call.specs.declared.Bounds.{Bounds}
+
+-- 12: "margin not a whole number from 0 to 40,000,000,000,000"
+abbrev pub badMargin : ℤ → Bool
+badMargin m = ltZ m (pos 0) || ltZ (pos 40000000000000) m
+
+-- an accepted table, and what its search gave
+pub record Sought : Type 0 where
+  pub table : Table
+  pub seen : Seen ℤ
+
+-- The search at the margin m, with a leaf list of so many entries: after the table's refusals 12, then 11, "leaf list shorter than the
+-- table's leaves".
+abbrev pub sought : Verdict Table → ℤ → ℕ → Verdict Sought
+sought v m room =
+    next v
+    (λ (t : Table).
+    unless (record { holds = badMargin m; gives = BadMargin } ∷ record { holds = ltb room (leaves (tree t)); gives = NoRoom } ∷ [])
+    (record { table = t; seen = searched t (toNat m) }))
+
+-- "The answer holds low, high, the play, the number of leaves read", and G
+abbrev pub boundsOf : Sought → Bounds
+boundsOf s =
+    record {
+      low = s .seen .low;
+      high = s .seen .high;
+      play = playOf (nodeOf (s .seen .play));
+      leaves = length (s .seen .read);
+      grain = grain (s .table);
+    }
+
+abbrev pub searchAnswer : Verdict Sought → Bounded
+searchAnswer (refused r) = Bounded.the-variants.Refused r
+searchAnswer (fine s) = Bounded.the-variants.Found (boundsOf s)
+
+-- "their node numbers fill the lent list in reading sequence"; nothing is written where the call is refused
+abbrev pub searchList : Verdict Sought → List ℕ
+searchList (refused r) = []
+searchList (fine s) = s .seen .read
+
+abbrev pub searchCall : Verdict Table → ℤ → ℕ → Bounded
+searchCall v m room = searchAnswer (sought v m room)
+
+abbrev pub searchReads : Verdict Table → ℤ → ℕ → List ℕ
+searchReads v m room = searchList (sought v m room)
+
+-- document 01's number and line of every answer, 0 where there is no refusal
+abbrev pub searchNumber : Bounded → ℕ
+searchNumber (Bounded.the-variants.Found b) = 0
+searchNumber (Bounded.the-variants.Refused r) = numberOf r
+
+abbrev pub searchLine : Bounded → ℕ
+searchLine (Bounded.the-variants.Found b) = 0
+searchLine (Bounded.the-variants.Refused r) = lineOf r
