@@ -25,9 +25,9 @@ use Rattle.scale.proofs.Taken.{zeros, zeros-enough, Taken, of-table}
 use Rattle.search.specs.Inside.{heightSearched}
 use Rattle.search.specs.Whole.{searched}
 use Rattle.search.proofs.Table.{heights-order, shifted}
-use Rattle.searching.specs.declared.Rule.{Rule}
-use Rattle.searching.specs.declared.Ends.{Ends}
-use Rattle.searching.specs.declared.Found.{Found}
+use Rattle.steps.specs.declared.Rule.{Rule}
+use Rattle.steps.specs.declared.Ends.{Ends}
+use Rattle.steps.specs.declared.Found.{Found}
 use Rattle.searching.specs.Inside.{ReadyRoot, Shows, Searched, playAt}
 use Rattle.searching.proofs.Ready.{accepted-search-ready, accepted-searched}
 use Rattle.search_call.specs.Inside.{ruleFor, endsFor}

@@ -2,8 +2,8 @@
 use lib.IntN.{ℤ}
 use Rattle.line.specs.Line.{toNat}
 use Rattle.scale.specs.declared.Scale.{Scale}
-use Rattle.searching.specs.declared.Rule.{Rule}
-use Rattle.searching.specs.declared.Ends.{Ends}
+use Rattle.steps.specs.declared.Rule.{Rule}
+use Rattle.steps.specs.declared.Ends.{Ends}
 
 -- the numbers that a search goes by
 abbrev pub ruleFor : Scale → ℤ → Rule

@@ -10,8 +10,8 @@ ghost use Rattle.search_call.specs.Inside.{ruleFor, endsFor};
 ghost use Rattle.search_call.specs.Call.{badMargin, searchCall, searchReads};
 use line::Refusal;
 use scale::Scale;
-use searching::Ends;
-use searching::Rule;
+use steps::Ends;
+use steps::Rule;
 use table::Play;
 use table::Reading;
 

@@ -14,11 +14,12 @@ use Rattle.search.specs.Search as alg
 use Rattle.search.specs.Search.{Frame, Play, noPlay, child, Seen, Arith, Rules, begin, finish, cut, point, lower, upper, beats, prefer, update, stop, scan, framed, nodeOf}
 use Rattle.search.specs.Inside.{natural, grained}
 use Rattle.search.proofs.Steps.{seenUnder, seenAfter}
-use Rattle.searching.specs.declared.Rule.{Rule}
-use Rattle.searching.specs.declared.Ends.{Ends}
-use Rattle.searching.specs.declared.State.{State}
-use Rattle.searching.specs.declared.Window.{Window}
-use Rattle.searching.specs.Inside.{lift, windowFor, preferred, after, rulesOf, seenIn, playAt}
+use Rattle.steps.specs.declared.Rule.{Rule}
+use Rattle.steps.specs.declared.Ends.{Ends}
+use Rattle.steps.specs.declared.State.{State}
+use Rattle.steps.specs.declared.Window.{Window}
+use Rattle.steps.specs.Inside.{lift, windowFor, preferred, after}
+use Rattle.searching.specs.Inside.{rulesOf, seenIn, playAt}
 
 -- ---- the leaves read before change nothing else
 

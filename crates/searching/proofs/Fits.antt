@@ -15,10 +15,11 @@ use Rattle.search.proofs.Heights.{Sound, Within}
 use Rattle.search.proofs.Contain.{Holding, hold-point, hold-under, contained}
 use Rattle.search.proofs.Grains.{grained-weigh}
 use Rattle.search.proofs.Few.{few-scan}
-use Rattle.searching.specs.declared.Rule.{Rule}
-use Rattle.searching.specs.declared.Ends.{Ends}
-use Rattle.searching.specs.declared.Window.{Window}
-use Rattle.searching.specs.Inside.{frameAt, rulesOf, OkEnds, Pays, Fit}
+use Rattle.steps.specs.declared.Rule.{Rule}
+use Rattle.steps.specs.declared.Ends.{Ends}
+use Rattle.steps.specs.declared.Window.{Window}
+use Rattle.steps.specs.Inside.{frameAt, OkEnds}
+use Rattle.searching.specs.Inside.{rulesOf, Pays, Fit}
 use Rattle.searching.proofs.Bridge.{nodeSeen}
 
 grained-leaves : (G : ℕ) (F : Forest ℕ) → leaves (grained G F) ≡ leaves F

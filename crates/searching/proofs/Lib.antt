@@ -1,4 +1,3 @@
-pub mod Sizes
 pub mod Bridge
 pub mod Fits
 pub mod Rules

@@ -15,9 +15,9 @@ use Rattle.table.specs.Accepted.{span, Filled, Balanced, Proper}
 use Rattle.table.proofs.Accepted.{accepted-ranged, accepted-grain, accepted-lent, accepted-holds, heights-rooted, heights-proper, heights-filled, heights-balanced, heights-leaves}
 use Rattle.table.proofs.Ends.{span-grains}
 use Rattle.search.specs.Inside.{heightSearched}
-use Rattle.searching.specs.declared.Rule.{Rule}
-use Rattle.searching.specs.declared.Ends.{Ends}
-use Rattle.searching.specs.declared.Found.{Found}
+use Rattle.steps.specs.declared.Rule.{Rule}
+use Rattle.steps.specs.declared.Ends.{Ends}
+use Rattle.steps.specs.declared.Found.{Found}
 use Rattle.searching.specs.Inside.{Pays, Fit, ReadyRoot, Shows, Searched}
 
 -- the numbers of a table, and the margin

@@ -11,10 +11,10 @@ use Rattle.table.specs.Accepted.{Rooted}
 use Rattle.table.proofs.Nodes.{leaves-split, root-stop, root-some}
 use Rattle.search.specs.Search.{Seen, search, searchRoot}
 use Rattle.search.specs.Inside.{natural, grained}
-use Rattle.searching.specs.declared.Rule.{Rule}
-use Rattle.searching.specs.declared.Ends.{Ends}
-use Rattle.searching.specs.declared.Window.{Window}
-use Rattle.searching.specs.declared.Found.{Found}
+use Rattle.steps.specs.declared.Rule.{Rule}
+use Rattle.steps.specs.declared.Ends.{Ends}
+use Rattle.steps.specs.declared.Window.{Window}
+use Rattle.steps.specs.declared.Found.{Found}
 use Rattle.searching.specs.Inside.{rulesOf, putFrom, Gives, ReadyRoot, Shows, Searched}
 use Rattle.searching.proofs.Bridge.{nodeSeen}
 use Rattle.searching.proofs.Fits.{node-few}

@@ -19,12 +19,13 @@ use Rattle.search.proofs.Steps.{seenAfter}
 use Rattle.search.proofs.Contain.{Holding}
 use Rattle.search.proofs.Grains.{grained-weigh}
 use Rattle.search.proofs.Safe.{Safe, safe-window, safe-begin, safe-update}
-use Rattle.searching.specs.declared.Rule.{Rule}
-use Rattle.searching.specs.declared.Ends.{Ends}
-use Rattle.searching.specs.declared.State.{State}
-use Rattle.searching.specs.declared.Window.{Window}
-use Rattle.searching.specs.declared.Found.{Found}
-use Rattle.searching.specs.Inside.{frameAt, lift, windowFor, after, stops, rulesOf, seenIn, putFrom, Gives, LeafAt, limit, OkEnds, OkRule, OkState, Light, Fit, ReadyChildren, Told}
+use Rattle.steps.specs.declared.Rule.{Rule}
+use Rattle.steps.specs.declared.Ends.{Ends}
+use Rattle.steps.specs.declared.State.{State}
+use Rattle.steps.specs.declared.Window.{Window}
+use Rattle.steps.specs.declared.Found.{Found}
+use Rattle.steps.specs.Inside.{frameAt, lift, windowFor, after, stops, LeafAt, limit, OkEnds, OkState}
+use Rattle.searching.specs.Inside.{rulesOf, seenIn, putFrom, Gives, OkRule, Light, Fit, ReadyChildren, Told}
 use Rattle.searching.proofs.Bridge.{ahead, nodeSeen, update-lift, scan-step, Plays, plays-number, plays-after}
 use Rattle.searching.proofs.Fits.{grained-split, fit-rest, fit-weight, fit-sound, node-holds, node-few}
 

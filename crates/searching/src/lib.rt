@@ -1,152 +1,17 @@
 // The bounded search over the decoded table: Algorithm 1 of document 000, whose lines are named here, in grains above the lowest end.
-ghost use mathlib.Core.Path.{_≡_};
-ghost use Prim.Native.Nat.{_+_, _*_, _<_, _≤_};
-ghost use lib.ListN.{length, getD};
+ghost use Prim.Native.Nat.{_+_};
+ghost use lib.ListN.{length};
 ghost use Rattle.table.specs.Tree.{MAX, MIN, CHANCE};
 ghost use Rattle.table.specs.Inside.{slices};
-ghost use Rattle.searching.specs.Inside.{frameAt, windowFor, preferred, after, stops, LeafAt, limit, OkEnds, OkState, ReadyChildren, Told, ReadyRoot, Searched};
+ghost use Rattle.searching.specs.Inside.{ReadyChildren, Told, ReadyRoot, Searched};
 use numbers::at8;
-use numbers::max_of;
-use numbers::min_of;
-use numbers::monus;
 use numbers::node_at;
 use numbers::wide8;
-use numbers::wide32;
-
-// The margin, and the grains in a point.
-pub struct Rule {
-    pub margin: u64,
-    pub grain: u64,
-}
-
-// A node's least and greatest value in grains.
-pub struct Ends {
-    pub bottom: u64,
-    pub top: u64,
-}
-
-// Where the search of a node stands between two children; `play` is the best child's node, 0 for none (node 0 is no child).
-struct State {
-    pub alpha: u64,
-    pub beta: u64,
-    pub low: u64,
-    pub high: u64,
-    pub play: usize,
-}
-
-// The window of a node.
-struct Window {
-    pub alpha: u64,
-    pub beta: u64,
-}
-
-// A node's bounds, its best child's node (0 for none), and how many leaves are listed.
-pub struct Found {
-    pub low: u64,
-    pub high: u64,
-    pub play: usize,
-    pub used: usize,
-}
-
-// Line 24: whether the window is within the margin.
-fn stopped(g: Rule, s: State) -> bool
-    requires { ⌜ s .alpha + g .margin < 9223372036854775808 ⌝ }
-    ensures { λ r. ⌜ r ≡ stops g s ⌝ }
-{
-    s.beta <= s.alpha + g.margin
-}
-
-// The best child: the first entered, then each that beats it.
-fn prefer(play: usize, i: usize, beats: bool) -> usize
-    ensures { λ r. ⌜ r ≡ preferred play i beats ⌝ }
-{
-    if play == 0 {
-        return i;
-    }
-    if beats { i } else { play }
-}
-
-// After the child i of an M, lines 14, 15, 22 and 23: until the last child its high is its own top.
-fn max_after(v: Ends, i: usize, s: State, low: u64, high: u64) -> State
-    ensures { λ r. ⌜ r ≡ after (frameAt v 0) MAX i 0 s low high ⌝ }
-{
-    let l = max_of(s.low, low);
-    let h = max_of(s.high, high);
-    let a = max_of(s.alpha, l);
-    let b = min_of(s.beta, v.top);
-    let p = prefer(s.play, i, s.low < low);
-    State {
-        alpha: a,
-        beta: b,
-        low: l,
-        high: h,
-        play: p,
-    }
-}
-
-// After the child i of an N, lines 17, 18, 22 and 23: until the last child its low is its own bottom.
-fn min_after(v: Ends, i: usize, s: State, low: u64, high: u64) -> State
-    ensures { λ r. ⌜ r ≡ after (frameAt v 0) MIN i 0 s low high ⌝ }
-{
-    let l = min_of(s.low, low);
-    let h = min_of(s.high, high);
-    let a = max_of(s.alpha, v.bottom);
-    let b = min_of(s.beta, h);
-    let p = prefer(s.play, i, high < s.high);
-    State {
-        alpha: a,
-        beta: b,
-        low: l,
-        high: h,
-        play: p,
-    }
-}
-
-// The window of a C's child of weight w, lines 9 and 10, rounded outward.
-fn chance_window(v: Ends, total: u64, s: State, w: u64) -> Window
-    requires { ⌜ OkEnds v × OkState s × (total ≤ 64) × (0 < w) × (w ≤ 64) ⌝ }
-    ensures { λ r. ⌜ r ≡ windowFor (frameAt v total) CHANCE w s ⌝ }
-{
-    let x = monus(s.high, s.alpha) * total + (w - 1);
-    let y = monus(s.beta, s.low) * total + (w - 1);
-    let a = max_of(v.bottom, monus(v.top, x / w));
-    let b = min_of(v.top, v.bottom + y / w);
-    Window { alpha: a, beta: b }
-}
-
-// After a C's child of weight w, lines 20 to 23.
-fn chance_after(v: Ends, total: u64, s: State, w: u64, low: u64, high: u64) -> State
-    requires { ⌜ OkEnds v × OkState s × (total ≤ 64) × (0 < w) × (w ≤ total) × (v .bottom ≤ low) × (low ≤ limit) × (high ≤ v .top) ⌝ }
-    ensures { λ r. ⌜ r ≡ after (frameAt v total) CHANCE 0 w s low high ⌝ }
-{
-    let l = s.low + w * (low - v.bottom) / total;
-    let h = monus(s.high, w * (v.top - high) / total);
-    let a = max_of(s.alpha, l);
-    let b = min_of(s.beta, h);
-    State {
-        alpha: a,
-        beta: b,
-        low: l,
-        high: h,
-        play: 0,
-    }
-}
-
-// The leaf at entry c, lines 1 and 2: it is listed, and both bounds are its height in grains.
-fn leaf_at(height: &[u32], leaves: &mut [u16], used: usize, c: usize, grain: u64) -> Found
-    requires { ⌜ (c < length (now height)) × (used < length (now leaves)) × (c < 1024) × (getD (now height) c 0 * grain < 9223372036854775808) ⌝ }
-    ensures { λ r. ⌜ LeafAt r (getD (now (height .entry)) c 0 * grain) used c (now (leaves .entry)) (now (leaves .exit)) ⌝ }
-{
-    leaves[used] = c as u16;
-    let h = wide32(height[c]) * grain;
-    let n = used + 1;
-    Found {
-        low: h,
-        high: h,
-        play: 0,
-        used: n,
-    }
-}
+use steps::Ends;
+use steps::Found;
+use steps::Rule;
+use steps::State;
+use steps::Window;
 
 // The children of an M of the ends v, entries c up to end, in the window w. (As the value of the `if`, r would be copied once more.)
 fn max_over(
@@ -188,7 +53,7 @@ fn max_over(
             used: n,
         };
         if k == 0 {
-            r = leaf_at(height, leaves, n, i, g.grain);
+            r = steps::leaf_at(height, leaves, n, i, g.grain);
         } else if k == 1 {
             r = max_over(kind, stop, weight, height, leaves, n, g, i + 1, e, v, y);
         } else if k == 2 {
@@ -196,7 +61,7 @@ fn max_over(
         } else {
             r = chance_over(kind, stop, weight, height, leaves, n, g, i + 1, e, v, y);
         }
-        t = max_after(v, i, t, r.low, r.high);
+        t = steps::max_after(v, i, t, r.low, r.high);
         n = r.used;
         if e == end {
             return Found {
@@ -206,7 +71,7 @@ fn max_over(
                 used: n,
             };
         }
-        if stopped(g, t) {
+        if steps::stopped(g, t) {
             return Found {
                 low: t.low,
                 high: v.top,
@@ -258,7 +123,7 @@ fn min_over(
             used: n,
         };
         if k == 0 {
-            r = leaf_at(height, leaves, n, i, g.grain);
+            r = steps::leaf_at(height, leaves, n, i, g.grain);
         } else if k == 1 {
             r = max_over(kind, stop, weight, height, leaves, n, g, i + 1, e, v, y);
         } else if k == 2 {
@@ -266,7 +131,7 @@ fn min_over(
         } else {
             r = chance_over(kind, stop, weight, height, leaves, n, g, i + 1, e, v, y);
         }
-        t = min_after(v, i, t, r.low, r.high);
+        t = steps::min_after(v, i, t, r.low, r.high);
         n = r.used;
         if e == end {
             return Found {
@@ -276,7 +141,7 @@ fn min_over(
                 used: n,
             };
         }
-        if stopped(g, t) {
+        if steps::stopped(g, t) {
             return Found {
                 low: v.bottom,
                 high: t.high,
@@ -326,9 +191,9 @@ fn chance_over(
             used: n,
         };
         if k == 0 {
-            r = leaf_at(height, leaves, n, i, g.grain);
+            r = steps::leaf_at(height, leaves, n, i, g.grain);
         } else {
-            let y = chance_window(v, total, t, x);
+            let y = steps::chance_window(v, total, t, x);
             if k == 1 {
                 r = max_over(kind, stop, weight, height, leaves, n, g, i + 1, e, v, y);
             } else if k == 2 {
@@ -337,7 +202,7 @@ fn chance_over(
                 r = chance_over(kind, stop, weight, height, leaves, n, g, i + 1, e, v, y);
             }
         }
-        t = chance_after(v, total, t, x, r.low, r.high);
+        t = steps::chance_after(v, total, t, x, r.low, r.high);
         n = r.used;
         if e == end {
             return Found {
@@ -347,7 +212,7 @@ fn chance_over(
                 used: n,
             };
         }
-        if stopped(g, t) {
+        if steps::stopped(g, t) {
             return Found {
                 low: t.low,
                 high: t.high,
@@ -380,7 +245,7 @@ pub fn search(
         beta: v.top,
     };
     if k == 0 {
-        return leaf_at(height, leaves, 0, 0, g.grain);
+        return steps::leaf_at(height, leaves, 0, 0, g.grain);
     }
     if k == 1 {
         return max_over(kind, stop, weight, height, leaves, 0, g, 1, n, v, w);

@@ -18,7 +18,7 @@ use Rattle.table.specs.Table.{Table, readText}
 use Rattle.table.specs.declared.Reading.the-variants.{Refused}
 use Rattle.scale.specs.Inside.{scaleFor}
 use Rattle.scale.proofs.Taken.{Taken, refused-by, taken-by, spread-at, grains-ready, grains-at}
-use Rattle.searching.specs.declared.Found.{Found}
+use Rattle.steps.specs.declared.Found.{Found}
 use Rattle.search_call.specs.declared.Bounded.the-variants.{Found as Given}
 use Rattle.search_call.specs.Call.{badMargin, Sought, sought, searchAnswer, searchList, searchCall, searchReads}
 use Rattle.search_call.specs.Inside.{ruleFor, endsFor}

@@ -14,9 +14,15 @@ use Rattle.table.specs.Tree.{MAX, MIN, CHANCE, weigh}
 use Rattle.table.specs.Inside.{slices}
 use Rattle.runs.proofs.sum_weights.Reads as sum-weights-reads
 use Rattle.search.specs.Search.{runLow, runHigh}
-use Rattle.searching.specs.declared.State.{State}
-use Rattle.searching.specs.declared.Window.{Window}
-use Rattle.searching.specs.Inside.{limit}
+use Rattle.steps.specs.declared.State.{State}
+use Rattle.steps.specs.declared.Window.{Window}
+use Rattle.steps.specs.Inside.{limit}
+use Rattle.steps.proofs.chance_after.Reads as chance-after-reads
+use Rattle.steps.proofs.chance_window.Reads as chance-window-reads
+use Rattle.steps.proofs.leaf_at.Reads as leaf-at-reads
+use Rattle.steps.proofs.max_after.Reads as max-after-reads
+use Rattle.steps.proofs.min_after.Reads as min-after-reads
+use Rattle.steps.proofs.stopped.Reads as stopped-reads
 use Rattle.searching.proofs.Rules.{NodeTold, told-same, told-leaf, told-inner, Going, going-start, going-small, chance-weight, chance-total, window-small, Child, child-of, child-asks, child-three, child-leaf, ChildTold, max-told, min-told, chance-told, max-state, min-state, chance-state, told-within, Turn, turn-same, turn-less, turn-margin, turn-last, turn-cut, turn-on}
 use Rattle.searching.proofs.chance_over.Reads as chance-over
 use Rattle.searching.proofs.chance_over.Kinds as chance-over-kinds
@@ -27,12 +33,6 @@ use Rattle.searching.proofs.+chance_over+max_over+min_over.Lts-max_over
 use Rattle.searching.proofs.min_over.Reads as min-over
 use Rattle.searching.proofs.min_over.Kinds as min-over-kinds
 use Rattle.searching.proofs.+chance_over+max_over+min_over.Lts-min_over as min-over-lts
-use Rattle.searching.proofs.chance_after.Reads as chance-after-reads
-use Rattle.searching.proofs.chance_window.Reads as chance-window-reads
-use Rattle.searching.proofs.leaf_at.Reads as leaf-at-reads
-use Rattle.searching.proofs.max_after.Reads as max-after-reads
-use Rattle.searching.proofs.min_after.Reads as min-after-reads
-use Rattle.searching.proofs.stopped.Reads as stopped-reads
 use Rattle.searching.proofs.+chance_over+max_over+min_over.{statement}
 use Rattle.searching.proofs.+chance_over+max_over+min_over.Tie.{close}
 

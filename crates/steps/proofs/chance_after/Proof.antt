@@ -1,12 +1,12 @@
--- `searching::chance_after` meets its contract. Assumes nothing.
+-- `steps::chance_after` meets its contract. Assumes nothing.
 use Prim.Native.Nat.{_-_}
 use mathlib.Core.Path.{refl}
 use native.Mathlib.Omega.{arith}
 use borrow.Author.Needs.{needs}
 use Rattle.search.specs.Search.{update}
-use Rattle.searching.proofs.Sizes.{product′, share, state-eq}
-use Rattle.searching.proofs.chance_after.Statement.{statement}
-use Rattle.searching.proofs.chance_after.Tie as tie
+use Rattle.steps.proofs.Sizes.{product′, share, state-eq}
+use Rattle.steps.proofs.chance_after.Statement.{statement}
+use Rattle.steps.proofs.chance_after.Tie as tie
 
 sub-l : tie.Need-sub-l
 sub-l c = search needs

@@ -1,8 +1,8 @@
--- `searching::stopped` meets its contract. Assumes nothing.
+-- `steps::stopped` meets its contract. Assumes nothing.
 use mathlib.Core.Path.{refl}
 use borrow.Author.Needs.{needs}
-use Rattle.searching.proofs.stopped.Statement.{statement}
-use Rattle.searching.proofs.stopped.Tie as tie
+use Rattle.steps.proofs.stopped.Statement.{statement}
+use Rattle.steps.proofs.stopped.Tie as tie
 
 add-result : tie.Need-add-result
 add-result c = search needs

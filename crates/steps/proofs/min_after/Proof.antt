@@ -1,10 +1,10 @@
--- `searching::min_after` meets its contract. Assumes nothing.
+-- `steps::min_after` meets its contract. Assumes nothing.
 use native.Mathlib.Omega.{arith}
 use borrow.Author.Needs.{needs}
 use Rattle.search.specs.Search.{beats, update}
-use Rattle.searching.proofs.Sizes.{state-eq}
-use Rattle.searching.proofs.min_after.Statement.{statement}
-use Rattle.searching.proofs.min_after.Tie as tie
+use Rattle.steps.proofs.Sizes.{state-eq}
+use Rattle.steps.proofs.min_after.Statement.{statement}
+use Rattle.steps.proofs.min_after.Tie as tie
 
 min-of-requires : tie.Need-min-of-requires
 min-of-requires c κs = search needs

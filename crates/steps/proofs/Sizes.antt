@@ -3,8 +3,8 @@ use Prim.Native.Nat.{ℕ, _+_, _*_, _/_, _≤_, _<_}
 use mathlib.Core.Path.{_≡_}
 use native.Mathlib.Nat.{mul-le-mul, mul-le-mul-right, div-le-self, div-le-of-le-mul}
 use native.Mathlib.Omega.{arith}
-use Rattle.searching.specs.declared.State.{State}
-use Rattle.searching.specs.Inside.{limit}
+use Rattle.steps.specs.declared.State.{State}
+use Rattle.steps.specs.Inside.{limit}
 
 -- grains times a weight or the total
 pub product : (a b : ℕ) → a ≤ limit → b ≤ 64 → a * b ≤ 2251799813685248

@@ -1,14 +1,14 @@
--- `searching::chance_window` meets its contract. Assumes nothing.
+-- `steps::chance_window` meets its contract. Assumes nothing.
 use Prim.Native.Nat.{ℕ, _+_, _-_, _*_, _/_, min, max}
 use mathlib.Core.Path.{_≡_, ap, _∙_}
 use native.Mathlib.Omega.{arith}
 use borrow.Author.Needs.{needs}
 use Rattle.search.specs.Search.{lower, upper}
 use Rattle.search.specs.Inside.{ceil}
-use Rattle.searching.specs.declared.Window.{Window}
-use Rattle.searching.proofs.Sizes.{product, quotient-fits}
-use Rattle.searching.proofs.chance_window.Statement.{statement}
-use Rattle.searching.proofs.chance_window.Tie as tie
+use Rattle.steps.specs.declared.Window.{Window}
+use Rattle.steps.proofs.Sizes.{product, quotient-fits}
+use Rattle.steps.proofs.chance_window.Statement.{statement}
+use Rattle.steps.proofs.chance_window.Tie as tie
 
 monus-requires : tie.Need-monus-requires
 monus-requires c κs = search needs

@@ -1,12 +1,12 @@
--- `searching::leaf_at` meets its contract. Assumes nothing.
+-- `steps::leaf_at` meets its contract. Assumes nothing.
 use Prim.Native.Nat.{ℕ, _*_}
 use mathlib.Core.Path.{_≡_, refl, ap}
 use native.Mathlib.Omega.{arith}
 use borrow.Author.Needs.{needs}
 use denote.Ref.{now}
 use lib.ListN.{getD}
-use Rattle.searching.proofs.leaf_at.Statement.{statement}
-use Rattle.searching.proofs.leaf_at.Tie as tie
+use Rattle.steps.proofs.leaf_at.Statement.{statement}
+use Rattle.steps.proofs.leaf_at.Tie as tie
 
 cast-leaves : tie.Need-cast-leaves
 cast-leaves c = search needs

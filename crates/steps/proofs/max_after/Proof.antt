@@ -1,10 +1,10 @@
--- `searching::max_after` meets its contract. Assumes nothing.
+-- `steps::max_after` meets its contract. Assumes nothing.
 use native.Mathlib.Omega.{arith}
 use borrow.Author.Needs.{needs}
 use Rattle.search.specs.Search.{beats, update}
-use Rattle.searching.proofs.Sizes.{state-eq}
-use Rattle.searching.proofs.max_after.Statement.{statement}
-use Rattle.searching.proofs.max_after.Tie as tie
+use Rattle.steps.proofs.Sizes.{state-eq}
+use Rattle.steps.proofs.max_after.Statement.{statement}
+use Rattle.steps.proofs.max_after.Tie as tie
 
 max-of-requires : tie.Need-max-of-requires
 max-of-requires c κs = search needs

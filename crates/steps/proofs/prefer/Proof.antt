@@ -1,7 +1,7 @@
--- `searching::prefer` meets its contract. Assumes nothing.
+-- `steps::prefer` meets its contract. Assumes nothing.
 use borrow.Author.Tests.{eq-eqb, ne-eqb}
-use Rattle.searching.proofs.prefer.Statement.{statement}
-use Rattle.searching.proofs.prefer.Tie as tie
+use Rattle.steps.proofs.prefer.Statement.{statement}
+use Rattle.steps.proofs.prefer.Tie as tie
 
 returns : tie.Need-returns
 returns c = simp (eq-eqb _ 0 (c .if1 .taken))

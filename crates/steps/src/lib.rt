@@ -1,0 +1,146 @@
+// One step of the bounded search: the window of a child, the state after it, and a leaf read. Lines are those of Algorithm 1 of document 000,
+// numbers are in grains above the lowest end.
+ghost use mathlib.Core.Path.{_≡_};
+ghost use Prim.Native.Nat.{_+_, _*_, _<_, _≤_};
+ghost use lib.ListN.{length, getD};
+ghost use Rattle.table.specs.Tree.{MAX, MIN, CHANCE};
+ghost use Rattle.steps.specs.Inside.{frameAt, windowFor, preferred, after, stops, LeafAt, limit, OkEnds, OkState};
+use numbers::max_of;
+use numbers::min_of;
+use numbers::monus;
+use numbers::wide32;
+
+// The margin, and the grains in a point.
+pub struct Rule {
+    pub margin: u64,
+    pub grain: u64,
+}
+
+// A node's least and greatest value in grains.
+pub struct Ends {
+    pub bottom: u64,
+    pub top: u64,
+}
+
+// Where the search of a node stands between two children; `play` is the best child's node, 0 for none (node 0 is no child).
+pub struct State {
+    pub alpha: u64,
+    pub beta: u64,
+    pub low: u64,
+    pub high: u64,
+    pub play: usize,
+}
+
+// The window of a node.
+pub struct Window {
+    pub alpha: u64,
+    pub beta: u64,
+}
+
+// A node's bounds, its best child's node (0 for none), and how many leaves are listed.
+pub struct Found {
+    pub low: u64,
+    pub high: u64,
+    pub play: usize,
+    pub used: usize,
+}
+
+// Line 24: whether the window is within the margin.
+pub fn stopped(g: Rule, s: State) -> bool
+    requires { ⌜ s .alpha + g .margin < 9223372036854775808 ⌝ }
+    ensures { λ r. ⌜ r ≡ stops g s ⌝ }
+{
+    s.beta <= s.alpha + g.margin
+}
+
+// The best child: the first entered, then each that beats it.
+fn prefer(play: usize, i: usize, beats: bool) -> usize
+    ensures { λ r. ⌜ r ≡ preferred play i beats ⌝ }
+{
+    if play == 0 {
+        return i;
+    }
+    if beats { i } else { play }
+}
+
+// After the child i of an M, lines 14, 15, 22 and 23: until the last child its high is its own top.
+pub fn max_after(v: Ends, i: usize, s: State, low: u64, high: u64) -> State
+    ensures { λ r. ⌜ r ≡ after (frameAt v 0) MAX i 0 s low high ⌝ }
+{
+    let l = max_of(s.low, low);
+    let h = max_of(s.high, high);
+    let a = max_of(s.alpha, l);
+    let b = min_of(s.beta, v.top);
+    let p = prefer(s.play, i, s.low < low);
+    State {
+        alpha: a,
+        beta: b,
+        low: l,
+        high: h,
+        play: p,
+    }
+}
+
+// After the child i of an N, lines 17, 18, 22 and 23: until the last child its low is its own bottom.
+pub fn min_after(v: Ends, i: usize, s: State, low: u64, high: u64) -> State
+    ensures { λ r. ⌜ r ≡ after (frameAt v 0) MIN i 0 s low high ⌝ }
+{
+    let l = min_of(s.low, low);
+    let h = min_of(s.high, high);
+    let a = max_of(s.alpha, v.bottom);
+    let b = min_of(s.beta, h);
+    let p = prefer(s.play, i, high < s.high);
+    State {
+        alpha: a,
+        beta: b,
+        low: l,
+        high: h,
+        play: p,
+    }
+}
+
+// The window of a C's child of weight w, lines 9 and 10, rounded outward.
+pub fn chance_window(v: Ends, total: u64, s: State, w: u64) -> Window
+    requires { ⌜ OkEnds v × OkState s × (total ≤ 64) × (0 < w) × (w ≤ 64) ⌝ }
+    ensures { λ r. ⌜ r ≡ windowFor (frameAt v total) CHANCE w s ⌝ }
+{
+    let x = monus(s.high, s.alpha) * total + (w - 1);
+    let y = monus(s.beta, s.low) * total + (w - 1);
+    let a = max_of(v.bottom, monus(v.top, x / w));
+    let b = min_of(v.top, v.bottom + y / w);
+    Window { alpha: a, beta: b }
+}
+
+// After a C's child of weight w, lines 20 to 23.
+pub fn chance_after(v: Ends, total: u64, s: State, w: u64, low: u64, high: u64) -> State
+    requires { ⌜ OkEnds v × OkState s × (total ≤ 64) × (0 < w) × (w ≤ total) × (v .bottom ≤ low) × (low ≤ limit) × (high ≤ v .top) ⌝ }
+    ensures { λ r. ⌜ r ≡ after (frameAt v total) CHANCE 0 w s low high ⌝ }
+{
+    let l = s.low + w * (low - v.bottom) / total;
+    let h = monus(s.high, w * (v.top - high) / total);
+    let a = max_of(s.alpha, l);
+    let b = min_of(s.beta, h);
+    State {
+        alpha: a,
+        beta: b,
+        low: l,
+        high: h,
+        play: 0,
+    }
+}
+
+// The leaf at entry c, lines 1 and 2: it is listed, and both bounds are its height in grains.
+pub fn leaf_at(height: &[u32], leaves: &mut [u16], used: usize, c: usize, grain: u64) -> Found
+    requires { ⌜ (c < length (now height)) × (used < length (now leaves)) × (c < 1024) × (getD (now height) c 0 * grain < 9223372036854775808) ⌝ }
+    ensures { λ r. ⌜ LeafAt r (getD (now (height .entry)) c 0 * grain) used c (now (leaves .entry)) (now (leaves .exit)) ⌝ }
+{
+    leaves[used] = c as u16;
+    let h = wide32(height[c]) * grain;
+    let n = used + 1;
+    Found {
+        low: h,
+        high: h,
+        play: 0,
+        used: n,
+    }
+}
