@@ -1,7 +1,7 @@
 -- The search of a tree turned about is the search turned about. Assumes nothing.
 use Prim.Native.Nat.{ℕ, _+_, _*_, _-_, _/_, min, max, _≤_}
 use mathlib.Core.Path.{_≡_, refl, ap, ap₂, _∙_}
-use mathlib.Core.Bool.{Bool, true, false, not, _&&_, cond}
+use mathlib.Core.Bool.{Bool, not, _&&_}
 use mathlib.Core.List.{List, []}
 use native.Mathlib.Nat.{mul-div-le, le-trans}
 use native.Mathlib.Omega.{arith}
@@ -11,7 +11,7 @@ use Rattle.table.specs.Tree.{Kind, MAX, MIN, CHANCE, Forest, end, leaf, inner, 
 use Rattle.turn.specs.Turn.{turnKind}
 use Rattle.search.specs.Search.{Frame, Play, noPlay, child, Seen, State, Rules, begin, lower, upper, beats, better, update, finish, cut, stop, point, scan, search, searchRoot}
 use Rattle.search.specs.Inside.{natural}
-use Rattle.search.proofs.Steps.{seenUnder, seenAfter}
+use Rattle.search.proofs.Steps.{cond-map, seenUnder, seenAfter}
 use Rattle.search.proofs.Heights.{Sound, Within, total}
 use Rattle.search.proofs.Contain.{contained, Holding, hold-point, hold-under}
 use Rattle.search.proofs.Safe.{drop-top, share-fits, Low, Safe, safe-window, safe-begin, safe-lower, safe-upper, safe-update}
@@ -40,10 +40,6 @@ pub same-state : {s t : State ℕ} → s .alpha ≡ t .alpha → s .beta ≡ t .
 same-state p q u v w r = λ i. record { alpha = p i; beta = q i; lo = u i; hi = v i; play = w i; read = r i }
 
 -- a function of either answer of a test
-cond-map : {A B : Type 0} (h : A → B) (x y : A) (b : Bool) → cond b (h x) (h y) ≡ h (cond b x y)
-cond-map h x y true = refl
-cond-map h x y false = refl
-
 sub-max : (S a b : ℕ) → min (S - a) (S - b) ≡ S - max a b
 sub-max S a b = omega arith
 

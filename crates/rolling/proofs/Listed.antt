@@ -15,6 +15,7 @@ use Rattle.table.proofs.Runs.{Numbered}
 use Rattle.table.proofs.Accepted.{accepted-leaves, heights-leaves, heights-proper, heights-rooted}
 use Rattle.table.proofs.Ends.{rooted-some}
 use Rattle.search.specs.Inside.{grained}
+use Rattle.search.proofs.Grains.{grained-leaves}
 use Rattle.rollout.specs.Rollout.{Kept, records, lows, firstOr, candidate, walk, roll}
 use Rattle.rollout.specs.Whole.{rolled, rolledWorth, rolledStore}
 use Rattle.rollout.specs.Inside.Heights.{natural, heightRolled}
@@ -22,7 +23,7 @@ use Rattle.rollout.specs.Inside.Raised.{mapPair, above}
 use Rattle.rollout.specs.Inside.Sound.{Sound}
 use Rattle.rollout.proofs.Turns.{Reads, some-candidate, test-true}
 use Rattle.rollout.proofs.Rolls.{Rolls, still, rolls-more, rolls-sound, rolls-some, root-reads, rootLow, rootHigh}
-use Rattle.rollout.proofs.Fresh.{grained-leaves, nodes-length}
+use Rattle.rollout.proofs.Fresh.{nodes-length}
 use Rattle.rollout.proofs.Numbers.{picks-few}
 use Rattle.rollout.proofs.Table.{start, start-sound, start-some, height-numbered, height-rolls, rolls-leaves}
 use Rattle.rollout.proofs.Demand.{shifted-read, shifted-store, shifted-worth}

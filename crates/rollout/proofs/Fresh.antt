@@ -102,12 +102,6 @@ fresh-exacts T ok G b e d c u (inner n w k under rest) p =
 
 -- ---- the leaves
 
-pub grained-leaves : (G : ℕ) (F : Forest ℕ) → leaves (grained G F) ≡ leaves F
-unfolding grained leaves
-grained-leaves G end = refl
-grained-leaves G (leaf n w v rest) = ap (λ (x : ℕ). 1 + x) (grained-leaves G rest)
-grained-leaves G (inner n w k under rest) = rw (grained-leaves G under, grained-leaves G rest)
-
 pub grained-nodes : (G : ℕ) (F : Forest ℕ) → leafNodes (grained G F) ≡ leafNodes F
 unfolding grained leafNodes
 grained-nodes G end = refl

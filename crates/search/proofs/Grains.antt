@@ -27,6 +27,12 @@ grained-weigh G end = refl
 grained-weigh G (leaf n w h rest) = ap (λ (x : ℕ). w + x) (grained-weigh G rest)
 grained-weigh G (inner n w k under rest) = ap (λ (x : ℕ). w + x) (grained-weigh G rest)
 
+pub grained-leaves : (G : ℕ) (f : Forest ℕ) → leaves (grained G f) ≡ leaves f
+unfolding grained leaves
+grained-leaves G end = refl
+grained-leaves G (leaf n w h rest) = ap (λ (a : ℕ). 1 + a) (grained-leaves G rest)
+grained-leaves G (inner n w k under rest) = ap₂ (λ (a b : ℕ). a + b) (grained-leaves G under) (grained-leaves G rest)
+
 -- grains change no leaf's place
 pub grains-leaves : (G : ℕ) (f : Forest ℤ) → leaves (inGrains G f) ≡ leaves f
 unfolding inGrains leaves

@@ -1,7 +1,13 @@
 -- The steps of `scan` as the lemmas name them. Assumes nothing.
 use Prim.Native.Nat.{ℕ}
+use mathlib.Core.Path.{_≡_, refl}
+use mathlib.Core.Bool.{Bool, true, false, cond}
 use Rattle.table.specs.Tree.{Kind, Forest}
 use Rattle.search.specs.Search.{Frame, Seen, State, Arith, Rules, enter, after, scan}
+
+pub cond-map : {A B : Type 0} (h : A → B) (x y : A) (b : Bool) → cond b (h x) (h y) ≡ h (cond b x y)
+cond-map h x y true = refl
+cond-map h x y false = refl
 
 module _ {A : Type 0} (O : Arith A) (R : Rules A) where
   -- what the search of an inner child gives

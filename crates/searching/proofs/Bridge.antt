@@ -13,7 +13,7 @@ use Rattle.table.proofs.Nodes.{restOf, numberOf, weightOf}
 use Rattle.search.specs.Search as alg
 use Rattle.search.specs.Search.{Frame, Play, noPlay, child, Seen, Arith, Rules, begin, finish, cut, point, lower, upper, beats, prefer, update, stop, scan, framed, nodeOf}
 use Rattle.search.specs.Inside.{natural, grained}
-use Rattle.search.proofs.Steps.{seenUnder, seenAfter}
+use Rattle.search.proofs.Steps.{cond-map, seenUnder, seenAfter}
 use Rattle.steps.specs.declared.Rule.{Rule}
 use Rattle.steps.specs.declared.Ends.{Ends}
 use Rattle.steps.specs.declared.State.{State}
@@ -22,10 +22,6 @@ use Rattle.steps.specs.Inside.{lift, windowFor, preferred, after}
 use Rattle.searching.specs.Inside.{rulesOf, seenIn, playAt}
 
 -- ---- the leaves read before change nothing else
-
-cond-map : {A B : Type 0} (h : A → B) (x y : A) (b : Bool) → cond b (h x) (h y) ≡ h (cond b x y)
-cond-map h x y true = refl
-cond-map h x y false = refl
 
 module _ {A : Type 0} where
   abbrev pub ahead : List ℕ → Seen A → Seen A

@@ -1,19 +1,19 @@
 -- Nodes that can be searched are what the laws of the search ask for; what the search of one gives. Assumes nothing.
 use Prim.Native.Nat.{ℕ, _+_, _*_, _≤_}
-use mathlib.Core.Path.{_≡_, refl, sym, ap, ap₂, _∙_}
+use mathlib.Core.Path.{_≡_, refl, sym, ap, _∙_}
 use mathlib.Core.Bool.{false}
 use mathlib.Core.List.{[]}
 use native.Mathlib.Nat.{le-refl}
 use native.Mathlib.Omega.{arith}
 use lib.ListN.{length}
 use Rattle.line.proofs.Signs.{true-ne-false}
-use Rattle.table.specs.Tree.{Kind, MAX, MIN, CHANCE, Forest, end, leaf, inner, isEnd, weigh, leaves}
+use Rattle.table.specs.Tree.{Kind, MAX, MIN, CHANCE, Forest, end, leaf, inner, isEnd, weigh}
 use Rattle.table.proofs.Nodes.{restOf, weightOf, ownLeaves, weigh-split}
 use Rattle.search.specs.Search.{Frame, State, begin, point, framed}
 use Rattle.search.specs.Inside.{natural, grained}
 use Rattle.search.proofs.Heights.{Sound, Within}
 use Rattle.search.proofs.Contain.{Holding, hold-point, hold-under, contained}
-use Rattle.search.proofs.Grains.{grained-weigh}
+use Rattle.search.proofs.Grains.{grained-leaves, grained-weigh}
 use Rattle.search.proofs.Few.{few-scan}
 use Rattle.steps.specs.declared.Rule.{Rule}
 use Rattle.steps.specs.declared.Ends.{Ends}
@@ -21,12 +21,6 @@ use Rattle.steps.specs.declared.Window.{Window}
 use Rattle.steps.specs.Inside.{frameAt, OkEnds}
 use Rattle.searching.specs.Inside.{rulesOf, Pays, Fit}
 use Rattle.searching.proofs.Bridge.{nodeSeen}
-
-grained-leaves : (G : ℕ) (F : Forest ℕ) → leaves (grained G F) ≡ leaves F
-unfolding grained leaves
-grained-leaves G end = refl
-grained-leaves G (leaf n w h rest) = ap (λ (a : ℕ). 1 + a) (grained-leaves G rest)
-grained-leaves G (inner n w k under rest) = ap₂ (λ (a b : ℕ). a + b) (grained-leaves G under) (grained-leaves G rest)
 
 -- the first node's weight, and those of the others
 pub grained-split : (G : ℕ) (F : Forest ℕ) → weigh (grained G F) ≡ weightOf F + weigh (grained G (restOf F))
