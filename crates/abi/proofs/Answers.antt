@@ -21,10 +21,10 @@ use Rattle.judge.specs.Call.{judgeAnswer, judgeCall}
 use Rattle.judge.proofs.Judge.{judge-refused}
 use Rattle.search_call.specs.declared.Bounds.{Bounds}
 use Rattle.search_call.proofs.Answered.{Sizes, PlayBelow}
-use Rattle.rollout_call.specs.declared.Rolled
-use Rattle.rollout_call.specs.declared.Rolled.{Rolled}
-use Rattle.rollout_call.specs.declared.Rolled
-use Rattle.rollout_call.proofs.Answered.{RollSized}
+use Rattle.rolled.specs.declared.Rolled
+use Rattle.rolled.specs.declared.Rolled.{Rolled}
+use Rattle.rolled.specs.declared.Rolled
+use Rattle.rolled.proofs.Answered.{RollSized}
 use Rattle.codes.specs.Numbers.{nodeNumber}
 use Rattle.codes.specs.Inside.{SmallSummary, SmallBounds, SmallRolled}
 

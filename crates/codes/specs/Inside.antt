@@ -7,8 +7,8 @@ use Rattle.worth.specs.declared.Exact
 use Rattle.judge.specs.declared.Opinion
 use Rattle.search_call.specs.declared.Bounds.{Bounds}
 use Rattle.search_call.specs.declared.Bounded
-use Rattle.rollout_call.specs.declared.Rolled
-use Rattle.rollout_call.specs.declared.Rolled.{Rolled}
+use Rattle.rolled.specs.declared.Rolled
+use Rattle.rolled.specs.declared.Rolled.{Rolled}
 use Rattle.codes.specs.Numbers.{nodeNumber}
 
 -- a table's counts fit a signed number

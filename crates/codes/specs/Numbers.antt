@@ -25,10 +25,10 @@ use Rattle.search_call.specs.declared.Bounded
 use Rattle.search_call.specs.declared.Bounded.{Bounded}
 use Rattle.search_call.specs.Call.{searchNumber, searchLine}
 use Rattle.search_call.specs.declared.Bounded
-use Rattle.rollout_call.specs.Call.{rollNumber, rollLine}
-use Rattle.rollout_call.specs.declared.Rolled
-use Rattle.rollout_call.specs.declared.Rolled.{Rolled}
-use Rattle.rollout_call.specs.declared.Rolled
+use Rattle.rolled.specs.Call.{rollNumber, rollLine}
+use Rattle.rolled.specs.declared.Rolled
+use Rattle.rolled.specs.declared.Rolled.{Rolled}
+use Rattle.rolled.specs.declared.Rolled
 
 -- 0, or the refusal's line and number as one: the number in the last two decimal digits, so that 309 is refusal 9 at line 3
 abbrev pub readCode : Reading → ℕ

@@ -9,7 +9,7 @@ ghost use Rattle.codes.specs.Numbers.{readCode, numbersOf, worthNumbers,
 ghost use Rattle.codes.specs.Inside.{SmallSummary, SmallBounds, SmallRolled};
 use judge::Judged;
 use line::Refusal;
-use rollout_call::Rolled;
+use rolled::Rolled;
 use search_call::Bounds;
 use table::Play;
 use table::Reading;

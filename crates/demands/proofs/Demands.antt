@@ -43,10 +43,10 @@ use Rattle.rollout.specs.Leaves.{Distinct}
 use Rattle.rollout.specs.Rollout.{Rolled}
 use Rattle.rollout.specs.Whole.{hasChance, rolled, rolledWorth}
 use Rattle.rollout.proofs.Demand.{ends-on-worth, no-leaf-twice}
-use Rattle.rollout_call.specs.declared.Rolled
-use Rattle.rollout_call.specs.declared.Rolled.the-variants.{Done}
-use Rattle.rollout_call.specs.Call.{rolls, rollAnswer, rollList, rollCall}
-use Rattle.rollout_call.specs.declared.Rolled
+use Rattle.rolled.specs.declared.Rolled
+use Rattle.rolled.specs.declared.Rolled.the-variants.{Done}
+use Rattle.rolled.specs.Call.{rolls, rollAnswer, rollList, rollCall}
+use Rattle.rolled.specs.declared.Rolled
 use Rattle.demands.specs.Demands.{childWorth, Promised, SameLines, Mirrors, Answers, Sentence1, Sentence2, GivenText, Sentence3, TurnAnswers, TurningTwice, RolloutsEnd, RollAnswers}
 use Rattle.demands.proofs.Utilities.{tree-alike, given-same, given-accepted}
 

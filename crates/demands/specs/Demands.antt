@@ -24,8 +24,8 @@ use Rattle.search_call.specs.Call.{badMargin, searchCall, searchReads}
 use Rattle.promise.specs.Play.{playWorth}
 use Rattle.rollout.specs.Leaves.{Distinct}
 use Rattle.rollout.specs.Whole.{hasChance}
-use Rattle.rollout_call.specs.declared.Rolled.the-variants.{Done}
-use Rattle.rollout_call.specs.Call.{rollCall, rollReads}
+use Rattle.rolled.specs.declared.Rolled.the-variants.{Done}
+use Rattle.rolled.specs.Call.{rollCall, rollReads}
 
 -- ---- the bounds and the play
 

@@ -18,9 +18,9 @@ use Rattle.turn_call.specs.Call.{turnCall, turnBytes}
 use Rattle.search_call.specs.declared.Bounded.{Bounded}
 use Rattle.search_call.specs.declared.Bounded.the-variants.{Found}
 use Rattle.search_call.specs.Call.{searchCall, searchReads}
-use Rattle.rollout_call.specs.declared.Rolled.{Rolled}
-use Rattle.rollout_call.specs.declared.Rolled.the-variants.{Done}
-use Rattle.rollout_call.specs.Call.{rollCall, rollReads}
+use Rattle.rolled.specs.declared.Rolled.{Rolled}
+use Rattle.rolled.specs.declared.Rolled.the-variants.{Done}
+use Rattle.rolled.specs.Call.{rollCall, rollReads}
 
 -- a call with its arguments; leaf lists have 1,024 entries, stores 1,024 records and buffers 25,625 bytes
 pub data Call : Type 0 where

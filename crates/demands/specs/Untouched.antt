@@ -18,9 +18,10 @@ use Rattle.turn_call.specs.declared.Turned
 use Rattle.search_call.specs.declared.Bounded
 use Rattle.search_call.specs.Call.{searchCall, searchReads}
 use Rattle.rollout_call.specs.declared.Record.{Record}
-use Rattle.rollout_call.specs.declared.Rolled
-use Rattle.rollout_call.specs.Call.{rollCall, rollReads, rollStore, recorded}
-use Rattle.rollout_call.specs.declared.Rolled
+use Rattle.rolled.specs.declared.Rolled
+use Rattle.rolled.specs.Call.{rollCall, rollReads, rollStore}
+use Rattle.rollout_call.specs.Store.{recorded}
+use Rattle.rolled.specs.declared.Rolled
 use Rattle.codes.specs.Numbers.{readCode, numbersOf, worthCode, worthNumbers, judgeCode, judgeNumbers, searchCode, searchNumbers, rollCode, rollNumbers, turnedCode, put}
 
 -- ---- the calls of Rattle; the exact worth and the judgement are lent nothing but the text

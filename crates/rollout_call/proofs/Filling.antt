@@ -1,20 +1,23 @@
--- The store is filled from the front, one record more at a time. Assumes nothing.
+-- The store is filled from the front, one record more at a time, and what is filled in is what the call records. Assumes nothing.
 use Prim.Native.Nat.{ℕ, zero, suc, _+_, _^_, _≤_, _<_}
 use native.Mathlib.Nat.{not-suc-le-zero, le-of-suc-le-suc}
 use native.Mathlib.Numerals.{add-one}
 use mathlib.Core.Path.{_≡_, refl, sym, ap, ap₂, subst, _∙_}
-use mathlib.Core.List.{List, [], _∷_}
+use mathlib.Core.List.{List, [], _∷_, _++_, map, map-append}
 use native.Mathlib.Omega.{arith}
 use borrow.Author.Needs.{sfits-of}
 use mir.Syntax.{w64}
 use mir.Val.{SFits, toZ, ofZ}
 use mir.ValLaws.{toZ-ofZ}
 use lib.Signed.{mag}
-use lib.ListN.{length, getD, set, length-map}
+use lib.ListN.{length, getD, set, take, drop, length-map, take-append-drop}
 use lib.IntN.{ℤ, pos, _+ℤ_}
 use Rattle.line.proofs.Signs.{mag-add}
+use Rattle.rollout.specs.Rollout.{Pair}
+use Rattle.rolled.specs.Inside.Bounds.{lowsOf, highsOf, risen}
 use Rattle.rollout_call.specs.declared.Record.{Record}
-use Rattle.rollout_call.specs.Inside.Records.{risen, recordsOf, filled}
+use Rattle.rollout_call.specs.Store.{recordOf, recorded}
+use Rattle.rollout_call.specs.Inside.{recordsOf, filled}
 
 pub filled-none : (ls hs : List ℤ) (st : List Record) → st ≡ filled 0 ls hs st
 unfolding recordsOf
@@ -77,3 +80,23 @@ module _ (b : ℤ) (v : ℕ) (h : (mag b ≤ 35184372088832) × (v ≤ 351843720
 
 pub cast-small : {v : ℕ} → v ≤ 35184372088832 → SFits w64 (pos v)
 cast-small h = sfits-of (omega arith)
+
+-- ---- the records of the call
+
+recorded-all : (rs : List (Pair ℤ)) (x y : List ℤ) → recordsOf (length rs) (lowsOf rs ++ x) (highsOf rs ++ y) ≡ map recordOf rs
+unfolding recordsOf
+recorded-all [] x y = refl
+recorded-all (r ∷ rs) x y = ap (λ (l : List Record). recordOf r ∷ l) (recorded-all rs x y)
+
+-- heights, the first n of which are the numbers L above b
+risen-front : (b : ℤ) (n : ℕ) (hs : List ℕ) (l : List ℤ) → risen b (take n hs) ≡ l → risen b hs ≡ l ++ risen b (drop n hs)
+risen-front b n hs l e =
+    ap (risen b) (sym (take-append-drop n hs)) ∙ map-append (λ (h : ℕ). b +ℤ pos h) (take n hs) (drop n hs) ∙ ap (λ (x : List ℤ). x ++ risen b (drop n hs)) e
+
+-- what `fill` writes from the lows and the highs of the nodes
+pub filled-recorded : (rs : List (Pair ℤ)) (b : ℤ) (ls hs : List ℕ) (ys : List Record) (n : ℕ) → n ≡ length rs → risen b (take n ls) ≡ lowsOf rs → risen b (take n hs) ≡ highsOf rs
+    → filled n (risen b ls) (risen b hs) ys ≡ recorded rs ys
+filled-recorded rs b ls hs ys n e el eh =
+    ap₂ (λ (x y : List ℤ). filled n x y ys) (risen-front b n ls (lowsOf rs) el) (risen-front b n hs (highsOf rs) eh)
+    ∙ ap (λ (k : ℕ). filled k (lowsOf rs ++ risen b (drop n ls)) (highsOf rs ++ risen b (drop n hs)) ys) e
+    ∙ ap (λ (l : List Record). l ++ drop (length rs) ys) (recorded-all rs (risen b (drop n ls)) (risen b (drop n hs)))

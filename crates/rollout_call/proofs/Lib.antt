@@ -1,5 +1,3 @@
 pub mod Filling
-pub mod Given
+pub mod Leave
 pub mod Lent
-pub mod Call
-pub mod Answered

@@ -1,14 +1,15 @@
-// The public call of rollouts. It takes any input, and ends with an answer or a refusal.
+// The public call of rollouts, and the lent store. It takes any input, and ends with an answer or a refusal.
 ghost use mathlib.Core.Path.{_≡_};
-ghost use Prim.Native.Nat.{_+_, _<_, _≤_};
-ghost use lib.ListN.{length, replicate};
-ghost use Rattle.rollout_call.specs.Inside.Records.{SmallHeights, risen, filled};
-ghost use Rattle.rollout_call.specs.Inside.Contracts.{Started, RollsTo};
+ghost use Prim.Native.Nat.{_≤_};
+ghost use lib.ListN.{length};
 ghost use Rattle.table.specs.Table.{readText};
 ghost use Rattle.table.specs.Slices.{laid};
-ghost use Rattle.rollout_call.specs.Call.{rollCall, rollReads, rollStore, recorded};
-use line::Refusal;
-use table::Reading;
+ghost use Rattle.rolled.specs.Call.{rollCall, rollReads, rollStore};
+ghost use Rattle.rolled.specs.Inside.Bounds.{SmallHeights, risen};
+ghost use Rattle.rollout_call.specs.Store.{recorded};
+ghost use Rattle.rollout_call.specs.Inside.{filled};
+use rolled::Outcome;
+use rolled::Rolled;
 
 // One node's bounds, in grains, laid out as in C: a caller in C lends a store of them.
 #[repr(C)]
@@ -30,91 +31,6 @@ fn fill(store: &mut [Record], low: &[u64], high: &[u64], n: usize, base: i64)
             high: base + (high[i] as i64),
         };
         i += 1;
-    }
-}
-
-// The worth in grains and how many leaves were read, or a refusal.
-pub enum Rolled {
-    Done(i64, usize),
-    Refused(Refusal),
-}
-
-// What rollouts answer, how many nodes have bounds, none where the call is refused, and the grains that these are above.
-struct Outcome {
-    pub answer: Rolled,
-    pub nodes: usize,
-    pub base: i64,
-}
-
-// The first n highs at first: the highest end.
-fn start(high: &mut [u64], n: usize, top: u64)
-    requires { ⌜ n ≤ length (now high) ⌝ }
-    ensures { λ _. ⌜ Started n top (now (high .exit)) ⌝ }
-{
-    let mut k = 0;
-    while k < n {
-        high[k] = top;
-        k += 1;
-    }
-}
-
-// The rollouts, for a store of `room` records: the bounds of the nodes, above the outcome's base, go to two lists of numbers.
-fn roll(
-    text: &[u8],
-    policy: &[u8],
-    room: usize,
-    leaves: &mut [u16],
-    low: &mut [u64],
-    high: &mut [u64],
-) -> Outcome
-    requires { ⌜ (now low ≡ replicate 1024 0) × (length (now high) ≡ 1024) ⌝ }
-    ensures { λ r. ⌜ RollsTo (readText (now (text .entry))) (now (policy .entry)) room r (now (leaves .entry)) (now (leaves .exit)) (now (low .exit)) (now (high .exit)) ⌝ }
-{
-    let mut kind = [0u8; 1024];
-    let mut stop = [0u16; 1024];
-    let mut weight = [0u8; 1024];
-    let mut height = [0u32; 1024];
-    match reading::decode(text, &mut kind, &mut stop, &mut weight, &mut height) {
-        Reading::Refused(r) => Outcome {
-            answer: Rolled::Refused(r),
-            nodes: 0,
-            base: 0,
-        },
-        Reading::Accepted(t) => {
-            if 0 < t.chances {
-                return Outcome {
-                    answer: Rolled::Refused(Refusal::HasChance),
-                    nodes: 0,
-                    base: 0,
-                };
-            }
-            if (leaves.len() < t.leaves) | (room < t.nodes) {
-                return Outcome {
-                    answer: Rolled::Refused(Refusal::NoRoom),
-                    nodes: 0,
-                    base: 0,
-                };
-            }
-            let g = scale::scale_of(t);
-            start(high, t.nodes, g.top);
-            let used = rolling::roll_out(
-                &kind,
-                &stop,
-                &height,
-                low,
-                high,
-                policy,
-                leaves,
-                t.nodes,
-                t.grain,
-            );
-            let base = scale::in_grains(t.lowest, t.grain, 0);
-            Outcome {
-                answer: Rolled::Done(scale::in_grains(t.lowest, t.grain, low[0]), used),
-                nodes: t.nodes,
-                base: base,
-            }
-        }
     }
 }
 
@@ -145,7 +61,7 @@ pub fn rollouts(text: &[u8], policy: &[u8], store: &mut [Record], leaves: &mut [
 {
     let mut low = [0u64; 1024];
     let mut high = [0u64; 1024];
-    let o = roll(text, policy, store.len(), leaves, &mut low, &mut high);
+    let o = rolled::roll(text, policy, store.len(), leaves, &mut low, &mut high);
     fill(store, &low, &high, nodes_of(o), base_of(o));
     answer_of(o)
 }

@@ -1,12 +1,13 @@
 -- What turning an accepted text gives. Assumes nothing.
 use Prim.Native.Nat.{ℕ, _≤_, _<_}
-use mathlib.Core.Path.{_≡_, refl, ap, subst, _∙_}
+use mathlib.Core.Path.{_≡_, refl, sym, ap, subst, _∙_}
 use mathlib.Core.Bool.{Bool, true, false, cond}
 use mathlib.Core.List.{List}
 use native.Mathlib.Omega.{arith}
 use borrow.Author.Tests.{lt-ltb, le-ltb}
 use lib.Dec.{ltb}
 use lib.ListN.{length}
+use lib.IntN.{ℤ}
 use Rattle.line.specs.declared.Refusal.{Refusal}
 use Rattle.line.specs.declared.Refusal.the-variants.{NoRoom}
 use Rattle.line.specs.Refusal.{Verdict, refused, fine, unless, lineOf}
@@ -21,7 +22,7 @@ use Rattle.turn.proofs.Canonical.{canonical}
 use Rattle.turn.proofs.Accepted.{turned-length}
 use Rattle.turn.proofs.Ready.{accepted-turns, accepted-turned}
 use Rattle.turn_call.specs.declared.Turned.the-variants.{Written, Refused}
-use Rattle.turn_call.specs.Call.{turnOf, turnAnswer, turnCall}
+use Rattle.turn_call.specs.Call.{turnOf, turnAnswer, turnWritten, turnCall, turnBytes}
 
 pub turn-short : (s : List ℕ) (t : Table) (room : ℕ) → readText s ≡ fine t → room < length s → turnOf (readText s) room ≡ refused NoRoom
 unfolding unless
@@ -39,18 +40,24 @@ module _ {s : List ℕ} {t : Summary} {K S W H : List ℕ} (G : Taken s t K S W 
   room-short l = of-table G (λ t K S W H. turnOf (readText s) (length d) ≡ refused NoRoom) (λ T p. turn-short s T (length d) p l)
 
   module _ (long : length s ≤ length d) where
-    pub turn-ready : ReadyText s K H (t .nodes) (t .lowest) (t .highest) d
-    turn-ready =
-        of-table G (λ t K S W H. ReadyText s K H (t .nodes) (t .lowest) (t .highest) d) (λ T p.
-        let z = zeros-enough s T p in accepted-turns s T p (canonical s T p) zeros zeros d z z long)
+    -- the two ends come as they are handed on
+    module _ {low high : ℤ} (is-low : low ≡ t .lowest) (is-high : high ≡ t .highest) where
+      pub turn-ready : ReadyText s K H (t .nodes) low high d
+      turn-ready =
+          rw (is-low, is-high)
+          (of-table G (λ t K S W H. ReadyText s K H (t .nodes) (t .lowest) (t .highest) d) (λ T p.
+          let z = zeros-enough s T p in accepted-turns s T p (canonical s T p) zeros zeros d z z long))
 
-    -- b is the buffer after `turn`: so many bytes, and these
-    pub turned-at : (b : List ℕ) → TextTurned s K H (t .nodes) (t .lowest) (t .highest) d b
-        → (text : List ℕ) × (turnOf (readText s) (length d) ≡ fine text) × (length text ≡ length s) × (b ≡ laid text d)
-    turned-at b told =
-        of-table G (λ t K S W H. TextTurned s K H (t .nodes) (t .lowest) (t .highest) d b → (text : List ℕ) × (turnOf (readText s) (length d) ≡ fine text) × (length text ≡ length s) × (b ≡ laid text d)) (λ T p told.
-        let z = zeros-enough s T p in
-        (turnedText T, turn-fine s T (length d) p long, turned-length s T p, accepted-turned s T p (canonical s T p) zeros zeros d z z long b told)) told
+      -- b is the buffer after `turn`: so many bytes, and these
+      pub turned-at : {b : List ℕ} → TextTurned s K H (t .nodes) low high d b
+          → (Written (length s) ≡ turnCall (readText s) (length d)) × (b ≡ laid (turnBytes (readText s) (length d)) d)
+      turned-at {b} told =
+          of-table G (λ t K S W H. TextTurned s K H (t .nodes) (t .lowest) (t .highest) d b → (Written (length s) ≡ turnCall (readText s) (length d)) × (b ≡ laid (turnBytes (readText s) (length d)) d)) (λ T p told.
+          let z = zeros-enough s T p in
+          let e : turnOf (readText s) (length d) ≡ fine (turnedText T) = turn-fine s T (length d) p long in (
+            ap Written (sym (turned-length s T p)) ∙ sym (ap turnAnswer e),
+            accepted-turned s T p (canonical s T p) zeros zeros d z z long b told ∙ sym (ap (λ (v : Verdict (List ℕ)). laid (turnWritten v) d) e),
+          )) (rw (is-low, is-high) at told)
 
 -- ---- a refusal
 

@@ -18,7 +18,7 @@ use ghost.Atoms.{Atoms}
 use contract.Monad.{Fun, fact, factI}
 use contract.Running.{givenOf, tables, tablesOf}
 use types.Kit.{Given, Item, ‵, raw, _⊛_, some, later, ⋆, _$_, _∵_, !, qed, by, move, keep, use1, use2, split, join, pick, fsplit, fjoin, feqL, suffices, frame, await, done}
-use types.Run.{look, init, forget, stop, hop, fld, from, load, addr, and-then, no-more, assigns, land, returns, enter, alloc1, alloc0, params1, pass1, pass0, free1, free0}
+use types.Run.{look, init, stop, hop, fld, from, load, addr, and-then, no-more, assigns, land, returns, enter, alloc1, alloc0, params1, pass1, pass0}
 use types.Part.{agg, whole, sub, look-in}
 use sound.WpLaws.{FmC, fmOf, WpFn-mono}
 use denote.RattleType.{owns}
@@ -41,12 +41,14 @@ use denote.Exit.{yes}
 use Rattle.table.specs.Table.{readText}
 use Rattle.table.specs.Slices.{laid}
 use Rattle.rollout_call.specs.declared.Record.{Record}
-use Rattle.rollout_call.specs.declared.Rolled.{Rolled}
-use Rattle.rollout_call.specs.Call.{rollCall, rollReads, rollStore, recorded}
+use Rattle.rolled.specs.declared.Rolled.{Rolled}
+use Rattle.rolled.specs.Call.{rollCall, rollReads, rollStore}
+use Rattle.rollout_call.specs.Store.{recorded}
+use Rattle.rollout_call.proofs.Leave.{cell, leave}
 use Rattle.rollout_call.proofs.Record as T
-use Rattle.rollout_call.proofs.Answered.{roll-sizes}
-use Rattle.rollout_call.proofs.Rolled as G
-use Rattle.rollout_call.proofs.Rolled.Laws as G′
+use Rattle.rolled.proofs.Answered.{roll-sizes}
+use Rattle.rolled.proofs.Rolled as G
+use Rattle.rolled.proofs.Rolled.Laws as G′
 use Rattle.rollout_call.proofs.rollouts as rolls
 use Rattle.rollout_call.proofs.rollouts.Symbol as rolls-def
 use Rattle.rollout_call.proofs.rollouts.Symbol.{name as #rollout-call·rollouts}
@@ -264,9 +266,8 @@ module _ {M : Type 1} (𝓤 : URA M) (H : Heap 𝓤) (A : Atoms 𝓤) (W : Given
         -- [the last numbers; true; true; the tokens and the code; tokens 3, 2, 1, 0; the last list; the last records; true; true; the text; the policy; the locals]
         move ! (3 ∷ []) $ split ! $ split ! $ move ! (2 ∷ []) $ peeks ! u64 (Is u64) (shows 𝓤 H A u64) n (w ∷ []) (λ isₙ.
         land ! (from ! (stop !)) (init ! 40 refl (uint-lawful 𝓤 H A W w64 .typed n _ isₙ .0)) $
-        returns ! (look ! 40 refl) $ forget ! 16 refl $ forget ! 18 refl $ forget ! 20 refl $ forget ! 22 refl $ forget ! 24 refl $ forget ! 26 refl $ forget ! 28 refl $ forget ! 30 refl $ forget ! 32 refl $ forget ! 34 refl $ forget ! 36 refl $ forget ! 38 refl $ forget ! 40 refl $
-        move ! (40 ∷ 41 ∷ []) $ free1 ! $ move ! (38 ∷ 39 ∷ []) $ free1 ! $ move ! (36 ∷ 37 ∷ []) $ free1 ! $ move ! (34 ∷ 35 ∷ []) $ free1 ! $ move ! (32 ∷ 33 ∷ []) $ free1 ! $ move ! (30 ∷ 31 ∷ []) $ free1 ! $ move ! (28 ∷ 29 ∷ []) $ free1 ! $ move ! (26 ∷ 27 ∷ []) $ free1 ! $ move ! (24 ∷ 25 ∷ []) $ free1 ! $ move ! (22 ∷ 23 ∷ []) $ free1 ! $ move ! (20 ∷ 21 ∷ []) $ free1 ! $ move ! (18 ∷ 19 ∷ []) $ free1 ! $ move ! (16 ∷ 17 ∷ []) $ free1 ! $ free0 ! $
-        keep ! (9 ∷ 8 ∷ 7 ∷ 6 ∷ 1 ∷ 14 ∷ 15 ∷ 11 ∷ 10 ∷ 3 ∷ []) $ by ! (exits n w (e .1 .1 .0) (e .1 .1 .1 .0) (f .1 .0) isₙ (en ∙ ap rollCode er) (ef ∙ ap (λ (x : Rolled). put 0 (rollNumbers x) ns) er) el es k₂ k₃ k₄))))))))))))))))))))))))))))))
+        returns ! (look ! 40 refl) $ keep ! (40 ∷ 41 ∷ 38 ∷ 39 ∷ 36 ∷ 37 ∷ 34 ∷ 35 ∷ 32 ∷ 33 ∷ 30 ∷ 31 ∷ 28 ∷ 29 ∷ 26 ∷ 27 ∷ 24 ∷ 25 ∷ 22 ∷ 23 ∷ 20 ∷ 21 ∷ 18 ∷ 19 ∷ 16 ∷ 17 ∷ 9 ∷ 8 ∷ 7 ∷ 6 ∷ 1 ∷ 14 ∷ 15 ∷ 11 ∷ 10 ∷ 3 ∷ []) $
+        leave ! (cell _ _ _ ∷ cell _ _ _ ∷ cell _ _ _ ∷ cell _ _ _ ∷ cell _ _ _ ∷ cell _ _ _ ∷ cell _ _ _ ∷ cell _ _ _ ∷ cell _ _ _ ∷ cell _ _ _ ∷ cell _ _ _ ∷ cell _ _ _ ∷ cell _ _ _ ∷ []) $ by ! (exits n w (e .1 .1 .0) (e .1 .1 .1 .0) (f .1 .0) isₙ (en ∙ ap rollCode er) (ef ∙ ap (λ (x : Rolled). put 0 (rollNumbers x) ns) er) el es k₂ k₃ k₄))))))))))))))))))))))))))))))
 
 module _ {M : Type 1} (𝓤 : URA M) (H : Heap 𝓤) (A : Atoms 𝓤) (W : Given 𝓤 H A) (at-mem : Memory → SProp 𝓤) (run : Routine → Fun 𝓤) where
   rollout-walks : (C : Calls 𝓤 H) (Λ : Loops 𝓤 H) → FmC 𝓤 H (W .laws) C → Triple 𝓤 (C #rollout-call·rollouts) (Rolls 𝓤 H A at-mem run) → Triple 𝓤 (C #codes·put-rolled) (Puts 𝓤 H A at-mem run)

@@ -5,8 +5,8 @@ use denote.Ref.{now}
 use lib.IntN.{ℤ}
 use mir.Syntax.{w64}
 use mir.Val.{toZ, ofZ}
-use Rattle.rollout_call.specs.declared.Rolled.{Rolled}
-use Rattle.rollout_call.specs.declared.Rolled.the-variants.{Done}
+use Rattle.rolled.specs.declared.Rolled.{Rolled}
+use Rattle.rolled.specs.declared.Rolled.the-variants.{Done}
 use Rattle.codes.specs.Numbers.{rollCode, rollNumbers, put}
 use Rattle.codes.specs.Inside.{SmallRolled}
 use Rattle.codes.proofs.put_rolled.Statement.{statement}

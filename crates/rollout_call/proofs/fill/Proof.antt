@@ -26,7 +26,7 @@ use ghost.Atoms.{Atoms}
 use contract.Monad.{Fun}
 use contract.Running.{givenOf, tables, tablesOf}
 use types.Kit.{Given, Item, ‵, _⊛_, ⋆, runs, anyQ, atRet, Sq, _$_, _∵_, !, qed, by, move, keep, drop, split, join, rewrite, fsplit, fjoin, feqI, suffices, frame, done}
-use types.Run.{look, init, store, store-raw, forget, stop, hop, fld, from, load, lit, unit-lit, of-opd, un, bin, and-then, no-more, assigns, assigns-last, first, blocks, stays, leaves-loop, exec, Below, again, loops, returns, enter, alloc1, alloc0, params1, pass1, pass0, free1, free0}
+use types.Run.{look, init, store, store-raw, forget, stop, hop, fld, from, load, lit, unit-lit, of-opd, un, bin, and-then, no-more, assigns, assigns-last, first, blocks, stays, leaves-loop, exec, Below, again, loops, returns, enter, alloc1, alloc0, params1, pass1, pass0}
 use types.Part.{whole, sub, look-in, agg}
 use types.Share.{arr-parts}
 use sound.WpLaws.{WpFn-mono}
@@ -51,8 +51,10 @@ use denote.Triple.Table.{entered}
 use denote.Triple.Walked.{says, needs, Stays, stay-slice, stay-none-slice, stay-none, walkOf, goes-slice, goes-none-slice, goes-none, Walks, ends-at, walked, walk-meets}
 use denote.Exit.{yes}
 use Rattle.rollout_call.specs.declared.Record.{Record}
-use Rattle.rollout_call.specs.Inside.Records.{risen, SmallHeights, filled}
+use Rattle.rolled.specs.Inside.Bounds.{risen, SmallHeights}
+use Rattle.rollout_call.specs.Inside.{filled}
 use Rattle.rollout_call.proofs.Filling.{filled-none, risen-more, length-risen, sum-small, sum-is, sum-fits, cast-small}
+use Rattle.rollout_call.proofs.Leave.{cell, bare, leave}
 use Rattle.rollout_call.proofs.Record as T
 use Rattle.rollout_call.proofs.Record.Laws as T′
 use Rattle.rollout_call.proofs.fill.Key.{name as #rollout-call·fill}
@@ -270,8 +272,8 @@ module _ {M : Type 1} (𝓤 : URA M) (H : Heap 𝓤) (A : Atoms 𝓤) (W : Given
         move ! (42 ∷ 43 ∷ 44 ∷ 45 ∷ []) $ closes-slice ! tt T.the-row ys (zs n) same b o $
         move ! (45 ∷ 46 ∷ []) $ shuts-slice ! tt u64 q₁′ ls b₁ o₁ $ move ! (48 ∷ 49 ∷ []) $ shuts-slice ! tt u64 q₂′ hs b₂ o₂ $
         -- [highs' token; lows' token; obs; the borrow; the token; the locals; lows' borrow; its res; highs' borrow; its res]
-        returns ! (look ! 45 refl) $ forget ! 31 refl $ forget ! 33 refl $ forget ! 35 refl $ forget ! 37 refl $ forget ! 39 refl $ forget ! 41 refl $ forget ! 43 refl $ forget ! 45 refl $
-        move ! (45 ∷ 46 ∷ []) $ free1 ! $ move ! (43 ∷ 44 ∷ []) $ free1 ! $ move ! (41 ∷ 42 ∷ []) $ free1 ! $ move ! (39 ∷ 40 ∷ []) $ free1 ! $ move ! (37 ∷ 38 ∷ []) $ free1 ! $ move ! (35 ∷ 36 ∷ []) $ free1 ! $ move ! (33 ∷ 34 ∷ []) $ free1 ! $ move ! (31 ∷ 32 ∷ []) $ free1 ! $ move ! (29 ∷ 30 ∷ []) $ free1 ! $ move ! (27 ∷ 28 ∷ []) $ free1 ! $ move ! (25 ∷ 26 ∷ []) $ free1 ! $ move ! (23 ∷ 24 ∷ []) $ free1 ! $ move ! (21 ∷ 22 ∷ []) $ free1 ! $ move ! (19 ∷ 20 ∷ []) $ free1 ! $ move ! (17 ∷ 18 ∷ []) $ free1 ! $ move ! (15 ∷ 16 ∷ []) $ free1 ! $ move ! (13 ∷ 14 ∷ []) $ free1 ! $ move ! (11 ∷ 12 ∷ []) $ free1 ! $ move ! (9 ∷ 10 ∷ []) $ free1 ! $ move ! (7 ∷ 8 ∷ []) $ free1 ! $ move ! (5 ∷ 6 ∷ []) $ free1 ! $ free0 ! $ by ! exits
+        returns ! (look ! 45 refl) $ move ! (45 ∷ 46 ∷ 43 ∷ 44 ∷ 41 ∷ 42 ∷ 39 ∷ 40 ∷ 37 ∷ 38 ∷ 35 ∷ 36 ∷ 33 ∷ 34 ∷ 31 ∷ 32 ∷ 29 ∷ 30 ∷ 27 ∷ 28 ∷ 25 ∷ 26 ∷ 23 ∷ 24 ∷ 21 ∷ 22 ∷ 19 ∷ 20 ∷ 17 ∷ 18 ∷ 15 ∷ 16 ∷ 13 ∷ 14 ∷ 11 ∷ 12 ∷ 9 ∷ 10 ∷ 7 ∷ 8 ∷ 5 ∷ 6 ∷ []) $
+        leave ! (cell _ _ _ ∷ cell _ _ _ ∷ cell _ _ _ ∷ cell _ _ _ ∷ cell _ _ _ ∷ cell _ _ _ ∷ cell _ _ _ ∷ cell _ _ _ ∷ bare _ _ ∷ bare _ _ ∷ bare _ _ ∷ bare _ _ ∷ bare _ _ ∷ bare _ _ ∷ bare _ _ ∷ bare _ _ ∷ bare _ _ ∷ bare _ _ ∷ bare _ _ ∷ bare _ _ ∷ bare _ _ ∷ []) $ by ! exits
 
     turns : (i : Upto) → Sq W (At i) (runs C Λ En code.Mir.turn-1 (anyQ (Turned i)))
     turns i = go (ltb (i .0) n) refl

@@ -24,7 +24,7 @@ use contract.Running.{givenOf, tables, tablesOf}
 use types.Kit.{Given, Item, ‵, raw, _⊛_, some, later, ⋆, _$_, _∵_, !, qed, by, move, keep, drop, use1, use2, use3, split, join, pick, fsplit, fjoin, feqL, suffices, frame, await, done}
 use types.Tokens.{lft-new, lft-end, lent-back}
 use types.SemTy.{Arr}
-use types.Run.{look, init, store, forget, stop, hop, fld, from, load, lit, addr, of-opd, and-then, no-more, assigns, land, returns, enter, alloc1, alloc0, params1, pass1, pass0, free1, free0}
+use types.Run.{look, init, store, stop, hop, fld, from, load, lit, addr, of-opd, and-then, no-more, assigns, land, returns, enter, alloc1, alloc0, params1, pass1, pass0}
 use types.Part.{agg, rep, whole, sub, look-in}
 use sound.WpLaws.{FmC, fmOf, WpFn-mono}
 use denote.RattleType.{owns}
@@ -51,26 +51,29 @@ use denote.Exit.{yes}
 use Rattle.table.specs.Table.{readText}
 use Rattle.table.specs.Slices.{laid}
 use Rattle.rollout_call.specs.declared.Record.{Record}
-use Rattle.rollout_call.specs.Inside.Records.{risen, SmallHeights, filled}
-use Rattle.rollout_call.specs.declared.Rolled.{Rolled}
-use Rattle.rollout_call.specs.declared.Outcome.{Outcome}
-use Rattle.rollout_call.specs.Call.{rollCall, rollReads, rollStore, recorded}
-use Rattle.rollout_call.specs.Inside.Contracts.{RollsTo}
+use Rattle.rolled.specs.Inside.Bounds.{risen, SmallHeights}
+use Rattle.rollout_call.specs.Inside.{filled}
+use Rattle.rolled.specs.declared.Rolled.{Rolled}
+use Rattle.rolled.specs.declared.Outcome.{Outcome}
+use Rattle.rolled.specs.Call.{rollCall, rollReads, rollStore}
+use Rattle.rollout_call.specs.Store.{recorded}
+use Rattle.rolled.specs.Inside.Contracts.{RollsTo}
 use Rattle.rollout_call.proofs.Record as T
 use Rattle.rollout_call.proofs.fill as fill
 use Rattle.rollout_call.proofs.fill.Symbol as fill-def
 use Rattle.rollout_call.proofs.fill.Symbol.{name as #rollout-call·fill}
 use Rattle.rollout_call.proofs.fill.Met as fill-thm
-use Rattle.rollout_call.proofs.Call.{filled-recorded}
+use Rattle.rollout_call.proofs.Filling.{filled-recorded}
+use Rattle.rollout_call.proofs.Leave.{cell, bare, leave}
 use Rattle.rollout_call.proofs.Lent.{zeros, zeros-long, zeros-typed, lent-ref, lends-out, LentArray, lends-in, unlaid, big-lit}
-use Rattle.rollout_call.proofs.Rolled as G
-use Rattle.rollout_call.proofs.Rolled.Laws as G′
-use Rattle.rollout_call.proofs.Outcome as O
-use Rattle.rollout_call.proofs.Outcome.Laws as O′
-use Rattle.rollout_call.proofs.roll as roll
-use Rattle.rollout_call.proofs.roll.Symbol as roll-def
-use Rattle.rollout_call.proofs.roll.Symbol.{name as #rollout-call·roll}
-use Rattle.rollout_call.proofs.roll.Met as roll-thm
+use Rattle.rolled.proofs.Rolled as G
+use Rattle.rolled.proofs.Rolled.Laws as G′
+use Rattle.rolled.proofs.Outcome as O
+use Rattle.rolled.proofs.Outcome.Laws as O′
+use Rattle.rolled.proofs.roll as roll
+use Rattle.rolled.proofs.roll.Symbol as roll-def
+use Rattle.rolled.proofs.roll.Symbol.{name as #rolled·roll}
+use Rattle.rolled.proofs.roll.Met as roll-thm
 use Rattle.rollout_call.proofs.nodes_of as nodes
 use Rattle.rollout_call.proofs.nodes_of.Symbol as nodes-def
 use Rattle.rollout_call.proofs.nodes_of.Symbol.{name as #rollout-call·nodes-of}
@@ -327,7 +330,7 @@ module _ {M : Type 1} (𝓤 : URA M) (H : Heap 𝓤) (A : Atoms 𝓤) (W : Given
       )
 
   module _ (C : Calls 𝓤 H) (Λ : Loops 𝓤 H) (fm : FmC 𝓤 H (W .laws) C)
-      (known-roll : Triple 𝓤 (C #rollout-call·roll) (Roll 𝓤 H A at-mem run)) (known-nodes : Triple 𝓤 (C #rollout-call·nodes-of) (Nodes 𝓤 H A at-mem run))
+      (known-roll : Triple 𝓤 (C #rolled·roll) (Roll 𝓤 H A at-mem run)) (known-nodes : Triple 𝓤 (C #rollout-call·nodes-of) (Nodes 𝓤 H A at-mem run))
       (known-bases : Triple 𝓤 (C #rollout-call·base-of) (Bases 𝓤 H A at-mem run))
       (known-fill : Triple 𝓤 (C #rollout-call·fill) (Fill 𝓤 H A at-mem run)) (known-answers : Triple 𝓤 (C #rollout-call·answer-of) (Answers 𝓤 H A at-mem run)) where
     walk : ent 𝓤 (onEntry 𝓤 H A rolls.signature (κ₀, (κ₁, (κ₂, (κ₃, tt)))) (q₀, (q₁, (q₂, (q₃, tt)))) a vals) (WpFn 𝓤 H C Λ code.function (s₀ ∷ s₁ ∷ s₂ ∷ s₃ ∷ []) Post)
@@ -414,14 +417,13 @@ module _ {M : Type 1} (𝓤 : URA M) (H : Heap 𝓤) (A : Atoms 𝓤) (W : Given
         use1 W (later (some (λ (r : Rolled). (‵ ftrue ⊛ ‵ (G.the-row .own r (v ∷ []))) ⊛ raw (ensured 𝓤 H A answers.ended (answers.clauses 𝓤 H A at-mem run) tt (g, tt) tt r)))) (id⊢ 𝓤 _) $ await ! tt $ pick ! (λ r.
         split ! $ move ! (1 ∷ []) $ use1 W (raw (fact 𝓤 (r ≡ g .answer))) (said-answers g r) $ heard ! (r ≡ g .answer) (λ er. split ! $ move ! (1 ∷ []) $ peeks ! G.the-row (Is G.the-row) (shows 𝓤 H A G.the-row) r (v ∷ []) (λ isᵣ.
         land ! (from ! (stop !)) (init ! 62 refl (EL.lawful G.the-type G′.the-laws 𝓤 H A W tt .typed r _ isᵣ .0)) $
-        returns ! (look ! 62 refl) $ forget ! 20 refl $ forget ! 22 refl $ forget ! 24 refl $ forget ! 26 refl $ forget ! 28 refl $ forget ! 30 refl $ forget ! 32 refl $ forget ! 34 refl $ forget ! 36 refl $ forget ! 38 refl $ forget ! 40 refl $ forget ! 42 refl $ forget ! 44 refl $ forget ! 46 refl $ forget ! 48 refl $ forget ! 50 refl $ forget ! 54 refl $ forget ! 56 refl $ forget ! 58 refl $ forget ! 60 refl $ forget ! 62 refl $
-        move ! (62 ∷ 63 ∷ []) $ free1 ! $ move ! (60 ∷ 61 ∷ []) $ free1 ! $ move ! (58 ∷ 59 ∷ []) $ free1 ! $ move ! (56 ∷ 57 ∷ []) $ free1 ! $ move ! (54 ∷ 55 ∷ []) $ free1 ! $ move ! (4 ∷ 53 ∷ []) $ free1 ! $ move ! (2 ∷ 51 ∷ []) $ free1 ! $ move ! (48 ∷ 49 ∷ []) $ free1 ! $ move ! (46 ∷ 47 ∷ []) $ free1 ! $ move ! (44 ∷ 45 ∷ []) $ free1 ! $ move ! (42 ∷ 43 ∷ []) $ free1 ! $ move ! (40 ∷ 41 ∷ []) $ free1 ! $ move ! (38 ∷ 39 ∷ []) $ free1 ! $ move ! (36 ∷ 37 ∷ []) $ free1 ! $ move ! (34 ∷ 35 ∷ []) $ free1 ! $ move ! (32 ∷ 33 ∷ []) $ free1 ! $ move ! (30 ∷ 31 ∷ []) $ free1 ! $ move ! (28 ∷ 29 ∷ []) $ free1 ! $ move ! (26 ∷ 27 ∷ []) $ free1 ! $ move ! (24 ∷ 25 ∷ []) $ free1 ! $ move ! (22 ∷ 23 ∷ []) $ free1 ! $ move ! (20 ∷ 21 ∷ []) $ free1 ! $ move ! (18 ∷ 19 ∷ []) $ free1 ! $ free0 ! $
-        keep ! (9 ∷ 8 ∷ 3 ∷ 7 ∷ 15 ∷ 16 ∷ 5 ∷ 11 ∷ []) $ by ! (exits r v (f .0) (e .1 .1 .1 .0) isᵣ (er ∙ told .answers) (told .lists)
+        returns ! (look ! 62 refl) $ keep ! (62 ∷ 63 ∷ 60 ∷ 61 ∷ 58 ∷ 59 ∷ 56 ∷ 57 ∷ 54 ∷ 55 ∷ 4 ∷ 53 ∷ 2 ∷ 52 ∷ 50 ∷ 51 ∷ 48 ∷ 49 ∷ 46 ∷ 47 ∷ 44 ∷ 45 ∷ 42 ∷ 43 ∷ 40 ∷ 41 ∷ 38 ∷ 39 ∷ 36 ∷ 37 ∷ 34 ∷ 35 ∷ 32 ∷ 33 ∷ 30 ∷ 31 ∷ 28 ∷ 29 ∷ 26 ∷ 27 ∷ 24 ∷ 25 ∷ 22 ∷ 23 ∷ 20 ∷ 21 ∷ 11 ∷ 10 ∷ 5 ∷ 9 ∷ 17 ∷ 18 ∷ 7 ∷ 13 ∷ []) $
+        leave ! (cell _ _ _ ∷ cell _ _ _ ∷ cell _ _ _ ∷ cell _ _ _ ∷ cell _ _ _ ∷ bare _ _ ∷ bare _ _ ∷ cell _ _ _ ∷ cell _ _ _ ∷ cell _ _ _ ∷ cell _ _ _ ∷ cell _ _ _ ∷ cell _ _ _ ∷ cell _ _ _ ∷ cell _ _ _ ∷ cell _ _ _ ∷ cell _ _ _ ∷ cell _ _ _ ∷ cell _ _ _ ∷ cell _ _ _ ∷ cell _ _ _ ∷ cell _ _ _ ∷ cell _ _ _ ∷ []) $ by ! (exits r v (f .0) (e .1 .1 .1 .0) isᵣ (er ∙ told .answers) (told .lists)
         (ef ∙ filled-recorded (rollStore (readText ts) ps (length vs) (length ys)) c (e .1 .1 .1 .1 .0) (e .1 .1 .1 .1 .1 .0) ys n (en ∙ told .nodes)
         (ap₂ (λ (k : ℤ) (i : ℕ). risen k (take i (e .1 .1 .1 .1 .0))) ec en ∙ told .lows-are) (ap₂ (λ (k : ℤ) (i : ℕ). risen k (take i (e .1 .1 .1 .1 .1 .0))) ec en ∙ told .highs-are)) k₂ k₃))))))))))))))))))))))))))))))))))))))))))))))))))))))))))
 
 module _ {M : Type 1} (𝓤 : URA M) (H : Heap 𝓤) (A : Atoms 𝓤) (W : Given 𝓤 H A) (at-mem : Memory → SProp 𝓤) (run : Routine → Fun 𝓤) where
-  rollouts-walks : (C : Calls 𝓤 H) (Λ : Loops 𝓤 H) → FmC 𝓤 H (W .laws) C → Triple 𝓤 (C #rollout-call·roll) (Roll 𝓤 H A at-mem run) → Triple 𝓤 (C #rollout-call·nodes-of) (Nodes 𝓤 H A at-mem run)
+  rollouts-walks : (C : Calls 𝓤 H) (Λ : Loops 𝓤 H) → FmC 𝓤 H (W .laws) C → Triple 𝓤 (C #rolled·roll) (Roll 𝓤 H A at-mem run) → Triple 𝓤 (C #rollout-call·nodes-of) (Nodes 𝓤 H A at-mem run)
       → Triple 𝓤 (C #rollout-call·base-of) (Bases 𝓤 H A at-mem run) → Triple 𝓤 (C #rollout-call·fill) (Fill 𝓤 H A at-mem run) → Triple 𝓤 (C #rollout-call·answer-of) (Answers 𝓤 H A at-mem run)
       → Walks 𝓤 H A rolls.ended stayed (WpFn 𝓤 H C Λ code.function) (rolls.clauses 𝓤 H A at-mem run)
   rollouts-walks C Λ fm known-roll known-nodes known-bases known-fill known-answers = walked 𝓤 H A rolls.ended stayed (rolls.clauses 𝓤 H A at-mem run) (WpFn 𝓤 H C Λ code.function)
@@ -433,7 +435,7 @@ module _ {M : Type 1} (𝓤 : URA M) (H : Heap 𝓤) (A : Atoms 𝓤) (W : Given
       (are .0 .0 .1) (are .1 .0 .0 .1) (are .1 .1 .0 .0 .1) (are .1 .1 .1 .0 .0 .1) C Λ fm known-roll known-nodes known-bases known-fill known-answers))
 
 rollouts-meets : {M : Type 1} (𝓤 : URA M) (H : Heap 𝓤) (A : Atoms 𝓤) → Given 𝓤 H A → (at-mem : Memory → SProp 𝓤) (run : Routine → Fun 𝓤) (𝓣 : Tables 𝓤 H)
-    → Triple 𝓤 (𝓣 .C #rollout-call·roll) (Roll 𝓤 H A at-mem run) → Triple 𝓤 (𝓣 .C #rollout-call·nodes-of) (Nodes 𝓤 H A at-mem run)
+    → Triple 𝓤 (𝓣 .C #rolled·roll) (Roll 𝓤 H A at-mem run) → Triple 𝓤 (𝓣 .C #rollout-call·nodes-of) (Nodes 𝓤 H A at-mem run)
     → Triple 𝓤 (𝓣 .C #rollout-call·base-of) (Bases 𝓤 H A at-mem run)
     → Triple 𝓤 (𝓣 .C #rollout-call·fill) (Fill 𝓤 H A at-mem run) → Triple 𝓤 (𝓣 .C #rollout-call·answer-of) (Answers 𝓤 H A at-mem run)
     → Meets 𝓤 H A rolls.signature (WpFn 𝓤 H (𝓣 .C) (𝓣 .Λ) code.function) (rolls.spec 𝓤 H A at-mem run)
@@ -449,7 +451,7 @@ rollouts-spec 𝓤 H 𝓜 𝓖 𝓡 =
     entered 𝓤 H (tripleOf 𝓤 H (𝓖 .A) rolls.signature (rolls.spec 𝓤 H (𝓖 .A) (𝓜 .mem) (𝓡 .run)))
     (tables 𝓤 H 𝓜 𝓡 code.env .C) (tables 𝓤 H 𝓜 𝓡 code.env .Λ) #rollout-call·rollouts code.function (code.unfolded 𝓤 H 𝓜 𝓡)
     (rollouts-meets 𝓤 H (𝓖 .A) (givenOf 𝓤 H 𝓜 𝓖) (𝓜 .mem) (𝓡 .run) (tablesOf 𝓤 H 𝓜 (tables 𝓤 H 𝓜 𝓡 code.env))
-    (cited 𝓤 H (Roll 𝓤 H (𝓖 .A) (𝓜 .mem) (𝓡 .run)) 𝓜 𝓡 code.env #rollout-call·roll roll-def.routine code.calls-rollout-call·roll (roll-thm.met 𝓤 H 𝓜 𝓖 𝓡))
+    (cited 𝓤 H (Roll 𝓤 H (𝓖 .A) (𝓜 .mem) (𝓡 .run)) 𝓜 𝓡 code.env #rolled·roll roll-def.routine code.calls-rolled·roll (roll-thm.met 𝓤 H 𝓜 𝓖 𝓡))
     (cited 𝓤 H (Nodes 𝓤 H (𝓖 .A) (𝓜 .mem) (𝓡 .run)) 𝓜 𝓡 code.env #rollout-call·nodes-of nodes-def.routine code.calls-rollout-call·nodes-of (nodes-thm.met 𝓤 H 𝓜 𝓖 𝓡))
     (cited 𝓤 H (Bases 𝓤 H (𝓖 .A) (𝓜 .mem) (𝓡 .run)) 𝓜 𝓡 code.env #rollout-call·base-of bases-def.routine code.calls-rollout-call·base-of (bases-thm.met 𝓤 H 𝓜 𝓖 𝓡))
     (cited 𝓤 H (Fill 𝓤 H (𝓖 .A) (𝓜 .mem) (𝓡 .run)) 𝓜 𝓡 code.env #rollout-call·fill fill-def.routine code.calls-rollout-call·fill (fill-thm.met 𝓤 H 𝓜 𝓖 𝓡))

@@ -1,6 +1,6 @@
 -- `turn_call::turn_table` meets its contract. Assumes nothing.
 use Prim.Native.Nat.{ℕ}
-use mathlib.Core.Path.{_≡_, sym, ap, _∙_}
+use mathlib.Core.Path.{_≡_, sym, ap}
 use mathlib.Core.List.{List}
 use borrow.Author.Needs.{needs}
 use denote.Ref.{now}
@@ -13,7 +13,6 @@ use Rattle.table.specs.Slices.{laid}
 use Rattle.table.specs.Table.{Table, readText}
 use Rattle.table.specs.declared.Reading.the-variants.{Refused}
 use Rattle.scale.proofs.Taken.{Taken, refused-by, taken-by, lowest-back, highest-back}
-use Rattle.turn_call.specs.declared.Turned.the-variants.{Written}
 use Rattle.turn_call.specs.Call.{turnOf, turnAnswer, turnWritten}
 use Rattle.turn_call.proofs.Call.{room-short, turn-ready, turned-at}
 use Rattle.turn_call.proofs.turn_table.Statement.{statement}
@@ -59,7 +58,7 @@ turn-requires : tie.Need-turn-requires
 turn-requires c κs =
     let E = c .before .before .before .before .before in
     let G = taken (E .before) in
-    rw (lowest-back G, highest-back G) (turn-ready G (buffer-of (read-of (E .before))) (E .if1 .left))
+    turn-ready G (buffer-of (read-of (E .before))) (E .if1 .left) (lowest-back G) (highest-back G)
 
 returns-2 : tie.Need-returns-2
 returns-2 c =
@@ -72,11 +71,8 @@ returns-3 : tie.Need-returns-3
 returns-3 c =
     let W = c .before .before in
     let E = W .before .before .before .before .before .before in
-    let K = E .before in
-    let R = read-of K in
-    let G = taken K in
-    let (text, e, n, b) = turned-at G (buffer-of R) (E .if1 .left) (W .turn .last .1 .1 .1 .1 .1 .1 .0) (rw (lowest-back G, highest-back G) at (W .turn .ensures)) in
-    (ap Written (sym n) ∙ sym (ap turnAnswer e), b ∙ sym (ap (λ (v : Verdict (List ℕ)). laid (turnWritten v) (buffer-of R)) e))
+    let G = taken (E .before) in
+    turned-at G (buffer-of (read-of (E .before))) (E .if1 .left) (lowest-back G) (highest-back G) (W .turn .ensures)
 
 pub turn-table-spec : {M : Type 1} → statement M
 turn-table-spec =

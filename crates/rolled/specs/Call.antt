@@ -1,9 +1,9 @@
 -- What the call `rollouts` answers. Document 01, 'Rollouts' and 'Refused tables and calls'.
 use Prim.Native.Nat.{ℕ}
 use mathlib.Core.Bool.{_||_}
-use mathlib.Core.List.{List, [], _∷_, _++_, map}
+use mathlib.Core.List.{List, [], _∷_}
 use lib.Dec.{ltb}
-use lib.ListN.{length, drop}
+use lib.ListN.{length}
 use lib.IntN.{ℤ}
 use Rattle.line.specs.declared.Refusal.the-variants.{NoRoom, HasChance}
 use Rattle.line.specs.Refusal.{Verdict, refused, fine, unless, next, numberOf, lineOf}
@@ -11,9 +11,8 @@ use Rattle.table.specs.Tree.{leaves}
 use Rattle.table.specs.Table.{Table, tree}
 use Rattle.rollout.specs.Rollout.{Pair}
 use Rattle.rollout.specs.Whole.{hasChance, rolled, rolledWorth, rolledStore}
-use Rattle.rollout_call.specs.declared.Record.{Record}
-use Rattle.rollout_call.specs.declared.Rolled.{Rolled}
-use Rattle.rollout_call.specs.declared.Rolled.the-variants.{Done, Refused}
+use Rattle.rolled.specs.declared.Rolled.{Rolled}
+use Rattle.rolled.specs.declared.Rolled.the-variants.{Done, Refused}
 
 -- The table, where it is rolled out with a leaf list of `list` entries and a store of `room` records: after the table's refusals 13,
 -- "rollouts on a table with a C", then 11, "leaf list shorter than the table's leaves, store shorter than its nodes".
@@ -48,13 +47,6 @@ rollReads v p list room = rollList p (rolls v list room)
 
 abbrev pub rollStore : Verdict Table → (p : List ℕ) (list room : ℕ) → List (Pair ℤ)
 rollStore v p list room = rollRecords p (rolls v list room)
-
--- a store with these bounds in its first records
-abbrev pub recordOf : Pair ℤ → Record
-recordOf r = record { low = r .low; high = r .high }
-
-abbrev pub recorded : List (Pair ℤ) → List Record → List Record
-recorded rs st = map recordOf rs ++ drop (length rs) st
 
 -- document 01's number and line of every answer, 0 where there is no refusal
 abbrev pub rollNumber : Rolled → ℕ

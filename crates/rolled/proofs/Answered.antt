@@ -14,9 +14,9 @@ use Rattle.table.proofs.Accepted.{accepted-size, accepted-leaves, accepted-leaf
 use Rattle.table.proofs.Places.{refused-line}
 use Rattle.rollout.specs.Whole.{hasChance}
 use Rattle.rollout.proofs.Demand.{few-leaves}
-use Rattle.rollout_call.specs.declared.Rolled.{Rolled}
-use Rattle.rollout_call.specs.declared.Rolled.the-variants.{Done, Refused}
-use Rattle.rollout_call.specs.Call.{rolls, rollAnswer, rollCall}
+use Rattle.rolled.specs.declared.Rolled.{Rolled}
+use Rattle.rolled.specs.declared.Rolled.the-variants.{Done, Refused}
+use Rattle.rolled.specs.Call.{rolls, rollAnswer, rollCall}
 
 -- at most 1024 leaves are read, and the line of a refusal is at most 1024
 abbrev pub RollSized : Rolled → Type 0

@@ -1,4 +1,4 @@
--- `rollout_call::roll` meets its contract. Assumes nothing.
+-- `rolled::roll` meets its contract. Assumes nothing.
 use Prim.Native.Nat.{ℕ, _≤_}
 use mathlib.Core.Path.{_≡_, refl, sym, ap, subst, _∙_}
 use mathlib.Core.List.{List}
@@ -22,12 +22,12 @@ use Rattle.scale.specs.declared.Scale.{Scale}
 use Rattle.scale.specs.Inside.{scaleFor}
 use Rattle.scale.proofs.Sums.{read-back, grains-back, base-small, plus-none}
 use Rattle.scale.proofs.Taken.{Taken, refused-by, taken-by, spread}
-use Rattle.rollout_call.specs.Inside.Records.{risen}
-use Rattle.rollout_call.specs.declared.Rolled.the-variants.{Done}
-use Rattle.rollout_call.specs.Call.{rolls}
-use Rattle.rollout_call.proofs.Call.{has-chance, too-short, nodes-few, refuses, roll-ready, Facts, roll-facts}
-use Rattle.rollout_call.proofs.roll.Statement.{statement}
-use Rattle.rollout_call.proofs.roll.Tie as tie
+use Rattle.rolled.specs.Inside.Bounds.{risen}
+use Rattle.rolled.specs.declared.Rolled.the-variants.{Done}
+use Rattle.rolled.specs.Call.{rolls}
+use Rattle.rolled.proofs.Call.{has-chance, too-short, nodes-few, refuses, roll-ready, Facts, roll-facts}
+use Rattle.rolled.proofs.roll.Statement.{statement}
+use Rattle.rolled.proofs.roll.Tie as tie
 
 abbrev start-of : tie.After-decode → tie.Start
 start-of R = R .before .before .before .before .before .before .before .before .before .before

@@ -2,11 +2,11 @@
 use Prim.Native.Nat.{ℕ, _+_, _*_, _≤_, _<_}
 use mathlib.Core.Path.{_≡_, refl, sym, ap, ap₂, subst, _∙_}
 use mathlib.Core.Bool.{Bool, true, false, not, _||_}
-use mathlib.Core.List.{List, [], _∷_, _++_, map, map-append}
+use mathlib.Core.List.{List, [], _∷_}
 use native.Mathlib.Omega.{arith}
 use borrow.Author.Tests.{eq-eqb, ne-eqb, ltb-true, ltb-false}
 use lib.Dec.{eqb, ltb}
-use lib.ListN.{length, getD, set, take, drop, replicate, length-replicate, getD-replicate, take-append-drop}
+use lib.ListN.{length, getD, set, take, replicate, length-replicate, getD-replicate}
 use lib.Seq.{getD-set-same, getD-set-other}
 use lib.IntN.{ℤ, pos, _+ℤ_, _*ℤ_}
 use Rattle.line.specs.declared.Refusal.{Refusal}
@@ -21,15 +21,13 @@ use Rattle.table.specs.Accepted.{span}
 use Rattle.table.proofs.Accepted.{answer-accepted, accepted-size, accepted-leaves}
 use Rattle.table.proofs.Ends.{span-grains}
 use Rattle.scale.specs.Inside.{scaleFor}
-use Rattle.rollout.specs.Rollout.{Pair}
 use Rattle.rolling.specs.Inside.Lists.{AtEnds}
 use Rattle.rolling.specs.Inside.Contracts.{stored, ReadyRoll, WellRolled}
-use Rattle.rollout_call.specs.declared.Record.{Record}
-use Rattle.rollout_call.specs.Inside.Records.{lowsOf, highsOf, risen, recordsOf, filled}
-use Rattle.rollout_call.specs.Inside.Contracts.{Started, RollsTo}
-use Rattle.rollout_call.specs.declared.Rolled.the-variants.{Done, Refused}
-use Rattle.rollout_call.specs.Call.{rolls, rollAnswer, rollList, rollRecords, rollCall, rollReads, rollStore, recordOf, recorded}
-use Rattle.rollout_call.proofs.Given.{Given, accepted-roll-ready, accepted-rolled}
+use Rattle.rolled.specs.Inside.Bounds.{lowsOf, highsOf, risen}
+use Rattle.rolled.specs.Inside.Contracts.{Started, RollsTo}
+use Rattle.rolled.specs.declared.Rolled.the-variants.{Done, Refused}
+use Rattle.rolled.specs.Call.{rolls, rollAnswer, rollList, rollRecords, rollCall, rollReads, rollStore}
+use Rattle.rolled.proofs.Given.{Given, accepted-roll-ready, accepted-rolled}
 
 -- ---- the call's own refusals
 
@@ -187,23 +185,3 @@ started-more high n top h u i o = go (ltb i n) refl
     go : (t : Bool) → ltb i n ≡ t → getD (set high n top) i 0 ≡ top
     go true e = let l : i < n = ltb-true i n e in getD-set-other high n i top 0 (λ q. omega (arith, q, l)) ∙ u i l
     go false e = let q : i ≡ n = omega (arith, ltb-false i n e, o) in rw q (getD-set-same high n top 0 h)
-
--- ---- the records
-
-recorded-all : (rs : List (Pair ℤ)) (x y : List ℤ) → recordsOf (length rs) (lowsOf rs ++ x) (highsOf rs ++ y) ≡ map recordOf rs
-unfolding recordsOf
-recorded-all [] x y = refl
-recorded-all (r ∷ rs) x y = ap (λ (l : List Record). recordOf r ∷ l) (recorded-all rs x y)
-
--- heights, the first n of which are the numbers L above b
-risen-front : (b : ℤ) (n : ℕ) (hs : List ℕ) (l : List ℤ) → risen b (take n hs) ≡ l → risen b hs ≡ l ++ risen b (drop n hs)
-risen-front b n hs l e =
-    ap (risen b) (sym (take-append-drop n hs)) ∙ map-append (λ (h : ℕ). b +ℤ pos h) (take n hs) (drop n hs) ∙ ap (λ (x : List ℤ). x ++ risen b (drop n hs)) e
-
--- what `fill` writes from the lows and the highs of the nodes
-pub filled-recorded : (rs : List (Pair ℤ)) (b : ℤ) (ls hs : List ℕ) (ys : List Record) (n : ℕ) → n ≡ length rs → risen b (take n ls) ≡ lowsOf rs → risen b (take n hs) ≡ highsOf rs
-    → filled n (risen b ls) (risen b hs) ys ≡ recorded rs ys
-filled-recorded rs b ls hs ys n e el eh =
-    ap₂ (λ (x y : List ℤ). filled n x y ys) (risen-front b n ls (lowsOf rs) el) (risen-front b n hs (highsOf rs) eh)
-    ∙ ap (λ (k : ℕ). filled k (lowsOf rs ++ risen b (drop n ls)) (highsOf rs ++ risen b (drop n hs)) ys) e
-    ∙ ap (λ (l : List Record). l ++ drop (length rs) ys) (recorded-all rs (risen b (drop n ls)) (risen b (drop n hs)))

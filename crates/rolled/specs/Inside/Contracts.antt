@@ -6,9 +6,9 @@ use lib.ListN.{length, getD, take}
 use Rattle.line.specs.Refusal.{Verdict}
 use Rattle.table.specs.Table.{Table}
 use Rattle.table.specs.Slices.{laid}
-use Rattle.rollout_call.specs.declared.Outcome.{Outcome}
-use Rattle.rollout_call.specs.Call.{rollCall, rollReads, rollStore}
-use Rattle.rollout_call.specs.Inside.Records.{lowsOf, highsOf, risen, SmallHeights}
+use Rattle.rolled.specs.declared.Outcome.{Outcome}
+use Rattle.rolled.specs.Call.{rollCall, rollReads, rollStore}
+use Rattle.rolled.specs.Inside.Bounds.{lowsOf, highsOf, risen, SmallHeights}
 
 -- the first n highs are the highest end
 abbrev pub Started : (n top : ℕ) → List ℕ → Type 0

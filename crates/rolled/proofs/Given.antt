@@ -19,7 +19,7 @@ use Rattle.rollout.specs.Inside.Raised.{mapPair, above}
 use Rattle.rolling.specs.Inside.Lists.{Store, lowAt, highAt, pairs, RolledS, rollS, AtEnds}
 use Rattle.rolling.specs.Inside.Contracts.{stored, ReadyRoll, WellRolled}
 use Rattle.rolling.proofs.Listed.{Listed, listed, listed-small}
-use Rattle.rollout_call.specs.Inside.Records.{lowsOf, highsOf}
+use Rattle.rolled.specs.Inside.Bounds.{lowsOf, highsOf}
 
 module _ (g : ℕ → ℤ) where
   pairs-lows : (a b : List ℕ) → length a ≡ length b → lowsOf (map (mapPair g) (pairs a b)) ≡ map g a

@@ -1,13 +1,13 @@
--- `rollout_call::start` meets its contract. Assumes nothing.
+-- `rolled::start` meets its contract. Assumes nothing.
 use Prim.Native.Nat.{_-_, _≤_}
 use mathlib.Core.Path.{_≡_, refl, _∙_}
 use native.Mathlib.Omega.{arith}
 use borrow.Author.Needs.{needs}
 use lib.ListN.{length, length-set}
-use Rattle.rollout_call.specs.Inside.Contracts.{Started}
-use Rattle.rollout_call.proofs.Call.{started-more}
-use Rattle.rollout_call.proofs.start.Statement.{statement}
-use Rattle.rollout_call.proofs.start.Tie as tie
+use Rattle.rolled.specs.Inside.Contracts.{Started}
+use Rattle.rolled.proofs.Call.{started-more}
+use Rattle.rolled.proofs.start.Statement.{statement}
+use Rattle.rolled.proofs.start.Tie as tie
 
 abbrev Inv-loop : tie.InvT-loop
 Inv-loop high₀ n top k₀ high k = (k ≤ n) × (length high ≡ length high₀) × Started k top high
