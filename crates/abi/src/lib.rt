@@ -11,12 +11,7 @@ ghost use Rattle.rolled.specs.Call.{rollCall, rollReads, rollStore};
 ghost use Rattle.rollout_call.specs.Store.{recorded};
 ghost use Rattle.turn_call.specs.Call.{turnCall, turnBytes};
 ghost use Rattle.codes.specs.Numbers.{readCode, numbersOf, worthCode, worthNumbers, judgeCode, judgeNumbers, searchCode, searchNumbers, rollCode, rollNumbers, turnedCode, put};
-use judge::Opinion;
 use rollout_call::Record;
-use search_call::Bounded;
-use table::Reading;
-use turn_call::Turned;
-use worth::Exact;
 
 // An accepted table: its numbers of nodes, T, the lowest and the highest end, K, G and its number of leaves go to `numbers`, and its
 // nodes to the four slices, as `reading::read` has them. A refused one: nothing is written.
@@ -36,13 +31,7 @@ pub extern "C" fn margin_read(
     ensures weights { λ _. ⌜ now (weight .exit) ≡ fitted (decoded weightsOf (readText (now (text .entry)))) (now (weight .entry)) ⌝ }
     ensures heights { λ _. ⌜ now (height .exit) ≡ fitted (decoded heightsOf (readText (now (text .entry)))) (now (height .entry)) ⌝ }
 {
-    match reading::read(text, kind, stop, weight, height) {
-        Reading::Refused(r) => codes::refusal_code(r),
-        Reading::Accepted(t) => {
-            codes::put_table(t, numbers);
-            0
-        }
-    }
+    codes::put_reading(reading::read(text, kind, stop, weight, height), numbers)
 }
 
 // The exact worth in grains and G go to `numbers`. Where the table is refused, nothing is written.
@@ -51,13 +40,7 @@ pub extern "C" fn margin_worth(text: &[u8], numbers: &mut [i64]) -> u64
     ensures code { λ r. ⌜ r ≡ worthCode (exactCall (readText (now (text .entry)))) ⌝ }
     ensures numbers { λ _. ⌜ now (numbers .exit) ≡ put 0 (worthNumbers (exactCall (readText (now (text .entry))))) (now (numbers .entry)) ⌝ }
 {
-    match worth::exact_worth(text) {
-        Exact::Refused(r) => codes::refusal_code(r),
-        Exact::Grains(z, g) => {
-            codes::put_worth(z, g, numbers);
-            0
-        }
-    }
+    codes::put_exact(worth::exact_worth(text), numbers)
 }
 
 // Root child `number`, counted from 1, judged: 1, the loss in grains and the number of level children go to `numbers`, or 0 alone
@@ -67,13 +50,7 @@ pub extern "C" fn margin_judge(text: &[u8], number: i64, numbers: &mut [u64]) ->
     ensures code { λ r. ⌜ r ≡ judgeCode (judgeCall (readText (now (text .entry))) number) ⌝ }
     ensures numbers { λ _. ⌜ now (numbers .exit) ≡ put 0 (judgeNumbers (judgeCall (readText (now (text .entry))) number)) (now (numbers .entry)) ⌝ }
 {
-    match judge::judge_play(text, number) {
-        Opinion::Refused(r) => codes::refusal_code(r),
-        Opinion::Given(j) => {
-            codes::put_judged(j, numbers);
-            0
-        }
-    }
+    codes::put_opinion(judge::judge_play(text, number), numbers)
 }
 
 // The search at a margin in grains: low, high, the play's node number (0 for none), the number of leaves read and G go to `numbers`,
@@ -89,13 +66,7 @@ pub extern "C" fn margin_search(
     ensures numbers { λ _. ⌜ now (numbers .exit) ≡ put 0 (searchNumbers (searchCall (readText (now (text .entry))) margin (length (now (leaves .entry))))) (now (numbers .entry)) ⌝ }
     ensures lists { λ _. ⌜ now (leaves .exit) ≡ laid (searchReads (readText (now (text .entry))) margin (length (now (leaves .entry)))) (now (leaves .entry)) ⌝ }
 {
-    match search_call::search_table(text, margin, leaves) {
-        Bounded::Refused(r) => codes::refusal_code(r),
-        Bounded::Found(b) => {
-            codes::put_bounds(b, numbers);
-            0
-        }
-    }
+    codes::put_bounded(search_call::search_table(text, margin, leaves), numbers)
 }
 
 // The turned table's text, as long as the text, goes to the start of `buffer`. Where the call is refused, nothing is written.
@@ -104,10 +75,7 @@ pub extern "C" fn margin_turn(text: &[u8], buffer: &mut [u8]) -> u64
     ensures code { λ r. ⌜ r ≡ turnedCode (turnCall (readText (now (text .entry))) (length (now (buffer .entry)))) ⌝ }
     ensures writes { λ _. ⌜ now (buffer .exit) ≡ laid (turnBytes (readText (now (text .entry))) (length (now (buffer .entry)))) (now (buffer .entry)) ⌝ }
 {
-    match turn_call::turn_table(text, buffer) {
-        Turned::Refused(r) => codes::refusal_code(r),
-        Turned::Written(_) => 0,
-    }
+    codes::turned_code(turn_call::turn_table(text, buffer))
 }
 
 // Rollouts under a policy list: the worth in grains and the number of leaves read go to `numbers`, the leaves read to `leaves`, in reading

@@ -2,13 +2,19 @@
 use Prim.Native.Nat.{_<_, _≤_, _^_}
 use Rattle.line.specs.Refusal.{lineOf}
 use Rattle.table.specs.declared.Summary.{Summary}
-use Rattle.table.specs.declared.Reading.the-variants.{Refused}
+use Rattle.table.specs.declared.Reading
+use Rattle.table.specs.declared.Reading.{Reading}
 use Rattle.worth.specs.declared.Exact
+use Rattle.worth.specs.declared.Exact.{Exact}
 use Rattle.judge.specs.declared.Opinion
+use Rattle.judge.specs.declared.Opinion.{Opinion}
 use Rattle.search_call.specs.declared.Bounds.{Bounds}
 use Rattle.search_call.specs.declared.Bounded
+use Rattle.search_call.specs.declared.Bounded.{Bounded}
 use Rattle.rolled.specs.declared.Rolled
 use Rattle.rolled.specs.declared.Rolled.{Rolled}
+use Rattle.turn_call.specs.declared.Turned
+use Rattle.turn_call.specs.declared.Turned.{Turned}
 use Rattle.codes.specs.Numbers.{nodeNumber}
 
 -- a table's counts fit a signed number
@@ -25,7 +31,27 @@ pub record SmallBounds (b : Bounds) : Type 0 where
   pub leaves : b .leaves < 2 ^ 63
   pub grain : b .grain < 2 ^ 63
 
--- the count of rollouts fits a signed number, and its line is that of a refused table, or 0
+-- what a call answers: its counts fit a signed number, and the line of a refusal is that of a refused table, or 0
+abbrev pub SmallReading : Reading → Type 0
+SmallReading (Reading.the-variants.Accepted t) = SmallSummary t
+SmallReading (Reading.the-variants.Refused r) = lineOf r ≤ 1024
+
+abbrev pub SmallExact : Exact → Type 0
+SmallExact (Exact.the-variants.Grains z g) = g < 2 ^ 63
+SmallExact (Exact.the-variants.Refused r) = lineOf r ≤ 1024
+
+abbrev pub SmallOpinion : Opinion → Type 0
+SmallOpinion (Opinion.the-variants.Given j) = Unit {0}
+SmallOpinion (Opinion.the-variants.Refused r) = lineOf r ≤ 1024
+
+abbrev pub SmallBounded : Bounded → Type 0
+SmallBounded (Bounded.the-variants.Found b) = SmallBounds b
+SmallBounded (Bounded.the-variants.Refused r) = lineOf r ≤ 1024
+
 abbrev pub SmallRolled : Rolled → Type 0
 SmallRolled (Rolled.the-variants.Done worth leaves) = leaves < 2 ^ 63
 SmallRolled (Rolled.the-variants.Refused r) = lineOf r ≤ 1024
+
+abbrev pub SmallTurned : Turned → Type 0
+SmallTurned (Turned.the-variants.Written n) = Unit {0}
+SmallTurned (Turned.the-variants.Refused r) = lineOf r ≤ 1024

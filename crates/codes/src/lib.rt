@@ -5,15 +5,18 @@ ghost use Prim.Native.Nat.{_<_, _≤_, _^_};
 ghost use lib.ListN.{set};
 ghost use lib.IntN.{pos};
 ghost use Rattle.line.specs.Refusal.{lineOf};
-ghost use Rattle.codes.specs.Numbers.{readCode, numbersOf, worthNumbers, judgedNumbers, nodeNumber, boundsNumbers, rollCode, rollNumbers, put};
-ghost use Rattle.codes.specs.Inside.{SmallSummary, SmallBounds, SmallRolled};
+ghost use Rattle.codes.specs.Numbers.{readCode, numbersOf, worthCode, worthNumbers, judgeCode, judgedNumbers, judgeNumbers, nodeNumber, boundsNumbers, searchCode, searchNumbers, rollCode, rollNumbers, turnedCode, put};
+ghost use Rattle.codes.specs.Inside.{SmallSummary, SmallBounds, SmallReading, SmallExact, SmallOpinion, SmallBounded, SmallRolled, SmallTurned};
 use judge::Judged;
+use judge::Opinion;
 use line::Refusal;
 use rolled::Rolled;
+use search_call::Bounded;
 use search_call::Bounds;
 use table::Play;
 use table::Reading;
 use table::Summary;
+use turn_call::Turned;
 use worth::Exact;
 
 fn put_at(numbers: &mut [i64], i: usize, z: i64)
@@ -31,7 +34,7 @@ fn signed(n: u64) -> i64
     n as i64
 }
 
-pub fn put_table(t: Summary, numbers: &mut [i64])
+fn put_table(t: Summary, numbers: &mut [i64])
     requires { ⌜ SmallSummary t ⌝ }
     ensures { λ _. ⌜ now (numbers .exit) ≡ put 0 (numbersOf (Reading.Accepted t)) (now (numbers .entry)) ⌝ }
 {
@@ -44,7 +47,7 @@ pub fn put_table(t: Summary, numbers: &mut [i64])
     put_at(numbers, 6, signed(t.leaves as u64));
 }
 
-pub fn refusal_code(r: Refusal) -> u64
+fn refusal_code(r: Refusal) -> u64
     requires { ⌜ lineOf r ≤ 1024 ⌝ }
     ensures { λ n. ⌜ n ≡ readCode (Reading.Refused r) ⌝ }
 {
@@ -52,7 +55,7 @@ pub fn refusal_code(r: Refusal) -> u64
 }
 
 // A worth in grains, and a count: G, or the number of leaves that rollouts read.
-pub fn put_worth(z: i64, g: u64, numbers: &mut [i64])
+fn put_worth(z: i64, g: u64, numbers: &mut [i64])
     requires { ⌜ g < 2 ^ 63 ⌝ }
     ensures { λ _. ⌜ now (numbers .exit) ≡ put 0 (worthNumbers (Exact.Grains z g)) (now (numbers .entry)) ⌝ }
 {
@@ -76,7 +79,7 @@ fn put_loss(loss: u64, level: u64, numbers: &mut [u64])
     put_natural(numbers, 2, level);
 }
 
-pub fn put_judged(j: Judged, numbers: &mut [u64])
+fn put_judged(j: Judged, numbers: &mut [u64])
     ensures { λ _. ⌜ now (numbers .exit) ≡ put 0 (judgedNumbers j) (now (numbers .entry)) ⌝ }
 {
     match j {
@@ -95,7 +98,7 @@ fn node_number(p: Play) -> usize
     }
 }
 
-pub fn put_bounds(b: Bounds, numbers: &mut [i64])
+fn put_bounds(b: Bounds, numbers: &mut [i64])
     requires { ⌜ SmallBounds b ⌝ }
     ensures { λ _. ⌜ now (numbers .exit) ≡ put 0 (boundsNumbers b) (now (numbers .entry)) ⌝ }
 {
@@ -107,7 +110,64 @@ pub fn put_bounds(b: Bounds, numbers: &mut [i64])
     put_at(numbers, 4, signed(b.grain));
 }
 
-// What rollouts answer, as a code and numbers.
+// What a call answers, as a code and numbers; where it is refused, no number is written.
+
+pub fn put_reading(r: Reading, numbers: &mut [i64]) -> u64
+    requires { ⌜ SmallReading r ⌝ }
+    ensures code { λ n. ⌜ n ≡ readCode r ⌝ }
+    ensures numbers { λ _. ⌜ now (numbers .exit) ≡ put 0 (numbersOf r) (now (numbers .entry)) ⌝ }
+{
+    match r {
+        Reading::Refused(r) => refusal_code(r),
+        Reading::Accepted(t) => {
+            put_table(t, numbers);
+            0
+        }
+    }
+}
+
+pub fn put_exact(e: Exact, numbers: &mut [i64]) -> u64
+    requires { ⌜ SmallExact e ⌝ }
+    ensures code { λ n. ⌜ n ≡ worthCode e ⌝ }
+    ensures numbers { λ _. ⌜ now (numbers .exit) ≡ put 0 (worthNumbers e) (now (numbers .entry)) ⌝ }
+{
+    match e {
+        Exact::Refused(r) => refusal_code(r),
+        Exact::Grains(z, g) => {
+            put_worth(z, g, numbers);
+            0
+        }
+    }
+}
+
+pub fn put_opinion(o: Opinion, numbers: &mut [u64]) -> u64
+    requires { ⌜ SmallOpinion o ⌝ }
+    ensures code { λ n. ⌜ n ≡ judgeCode o ⌝ }
+    ensures numbers { λ _. ⌜ now (numbers .exit) ≡ put 0 (judgeNumbers o) (now (numbers .entry)) ⌝ }
+{
+    match o {
+        Opinion::Refused(r) => refusal_code(r),
+        Opinion::Given(j) => {
+            put_judged(j, numbers);
+            0
+        }
+    }
+}
+
+pub fn put_bounded(b: Bounded, numbers: &mut [i64]) -> u64
+    requires { ⌜ SmallBounded b ⌝ }
+    ensures code { λ n. ⌜ n ≡ searchCode b ⌝ }
+    ensures numbers { λ _. ⌜ now (numbers .exit) ≡ put 0 (searchNumbers b) (now (numbers .entry)) ⌝ }
+{
+    match b {
+        Bounded::Refused(r) => refusal_code(r),
+        Bounded::Found(b) => {
+            put_bounds(b, numbers);
+            0
+        }
+    }
+}
+
 pub fn put_rolled(r: Rolled, numbers: &mut [i64]) -> u64
     requires { ⌜ SmallRolled r ⌝ }
     ensures code { λ n. ⌜ n ≡ rollCode r ⌝ }
@@ -119,5 +179,16 @@ pub fn put_rolled(r: Rolled, numbers: &mut [i64]) -> u64
             put_worth(worth, leaves as u64, numbers);
             0
         }
+    }
+}
+
+// Turning has no numbers.
+pub fn turned_code(t: Turned) -> u64
+    requires { ⌜ SmallTurned t ⌝ }
+    ensures { λ n. ⌜ n ≡ turnedCode t ⌝ }
+{
+    match t {
+        Turned::Refused(r) => refusal_code(r),
+        Turned::Written(_) => 0,
     }
 }

@@ -46,7 +46,6 @@ use Rattle.rolled.specs.Call.{rollCall, rollReads, rollStore}
 use Rattle.rollout_call.specs.Store.{recorded}
 use Rattle.rollout_call.proofs.Leave.{cell, leave}
 use Rattle.rollout_call.proofs.Record as T
-use Rattle.rolled.proofs.Answered.{roll-sizes}
 use Rattle.rolled.proofs.Rolled as G
 use Rattle.rolled.proofs.Rolled.Laws as G′
 use Rattle.rollout_call.proofs.rollouts as rolls
@@ -219,7 +218,7 @@ module _ {M : Type 1} (𝓤 : URA M) (H : Heap 𝓤) (A : Atoms 𝓤) (W : Given
 
   -- what it asks follows from what `rollouts` told
   small-answer : (r : Rolled) → r ≡ answer → SmallRolled r
-  small-answer r e = subst SmallRolled (sym e) (rolled-small answer (roll-sizes ts ps (length vs) (length ys)))
+  small-answer r e = subst SmallRolled (sym e) (rolled-small ts ps (length vs) (length ys))
 
   module _ (C : Calls 𝓤 H) (Λ : Loops 𝓤 H) (fm : FmC 𝓤 H (W .laws) C)
       (known-rolls : Triple 𝓤 (C #rollout-call·rollouts) (Rolls 𝓤 H A at-mem run)) (known-puts : Triple 𝓤 (C #codes·put-rolled) (Puts 𝓤 H A at-mem run)) where
