@@ -8,7 +8,7 @@ ghost use Rattle.worth.specs.Call.{exactCall};
 ghost use Rattle.judge.specs.Call.{judgeCall};
 ghost use Rattle.search_call.specs.Call.{searchCall, searchReads};
 ghost use Rattle.rolled.specs.Call.{rollCall, rollReads, rollStore};
-ghost use Rattle.rollout_call.specs.Store.{recorded};
+ghost use Rattle.rollout_call.specs.Records.{recorded};
 ghost use Rattle.turn_call.specs.Call.{turnCall, turnBytes};
 ghost use Rattle.codes.specs.Numbers.{readCode, numbersOf, worthCode, worthNumbers, judgeCode, judgeNumbers, searchCode, searchNumbers, rollCode, rollNumbers, turnedCode, put};
 use rollout_call::Record;

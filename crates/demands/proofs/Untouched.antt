@@ -21,7 +21,7 @@ use Rattle.turn_call.specs.Call.{turnOf, turnAnswer, turnWritten}
 use Rattle.search_call.specs.Call.{Sought, sought, searchAnswer, searchList}
 use Rattle.rollout_call.specs.declared.Record.{Record}
 use Rattle.rolled.specs.Call.{rolls, rollAnswer, rollList, rollRecords}
-use Rattle.rollout_call.specs.Store.{recorded}
+use Rattle.rollout_call.specs.Records.{recorded}
 use Rattle.codes.specs.Numbers.{readCode, numbersOf, worthCode, worthNumbers, judgeCode, judgeNumbers, searchCode, searchNumbers, rollCode, rollNumbers, turnedCode, put}
 use Rattle.demands.specs.Untouched.{Refuses, CodesRefuse, SlicesKept, ReadUntouched, SearchUntouched, TurnUntouched, RollUntouched, CReadUntouched, CWorthUntouched, CJudgeUntouched, CSearchUntouched, CTurnUntouched, CRollUntouched}
 

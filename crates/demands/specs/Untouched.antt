@@ -20,7 +20,7 @@ use Rattle.search_call.specs.Call.{searchCall, searchReads}
 use Rattle.rollout_call.specs.declared.Record.{Record}
 use Rattle.rolled.specs.declared.Rolled
 use Rattle.rolled.specs.Call.{rollCall, rollReads, rollStore}
-use Rattle.rollout_call.specs.Store.{recorded}
+use Rattle.rollout_call.specs.Records.{recorded}
 use Rattle.rolled.specs.declared.Rolled
 use Rattle.codes.specs.Numbers.{readCode, numbersOf, worthCode, worthNumbers, judgeCode, judgeNumbers, searchCode, searchNumbers, rollCode, rollNumbers, turnedCode, put}
 

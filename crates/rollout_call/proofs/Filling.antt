@@ -16,7 +16,7 @@ use Rattle.line.proofs.Signs.{mag-add}
 use Rattle.rollout.specs.Rollout.{Pair}
 use Rattle.rolled.specs.Inside.Bounds.{lowsOf, highsOf, risen}
 use Rattle.rollout_call.specs.declared.Record.{Record}
-use Rattle.rollout_call.specs.Store.{recordOf, recorded}
+use Rattle.rollout_call.specs.Records.{recordOf, recorded}
 use Rattle.rollout_call.specs.Inside.{recordsOf, filled}
 
 pub filled-none : (ls hs : List ℤ) (st : List Record) → st ≡ filled 0 ls hs st

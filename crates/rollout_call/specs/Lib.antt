@@ -1,2 +1,2 @@
-pub mod Store
+pub mod Records
 pub mod Inside

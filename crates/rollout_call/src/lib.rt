@@ -6,7 +6,7 @@ ghost use Rattle.table.specs.Table.{readText};
 ghost use Rattle.table.specs.Slices.{laid};
 ghost use Rattle.rolled.specs.Call.{rollCall, rollReads, rollStore};
 ghost use Rattle.rolled.specs.Inside.Bounds.{SmallHeights, risen};
-ghost use Rattle.rollout_call.specs.Store.{recorded};
+ghost use Rattle.rollout_call.specs.Records.{recorded};
 ghost use Rattle.rollout_call.specs.Inside.{filled};
 use rolled::Outcome;
 use rolled::Rolled;

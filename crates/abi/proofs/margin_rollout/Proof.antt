@@ -43,7 +43,7 @@ use Rattle.table.specs.Slices.{laid}
 use Rattle.rollout_call.specs.declared.Record.{Record}
 use Rattle.rolled.specs.declared.Rolled.{Rolled}
 use Rattle.rolled.specs.Call.{rollCall, rollReads, rollStore}
-use Rattle.rollout_call.specs.Store.{recorded}
+use Rattle.rollout_call.specs.Records.{recorded}
 use Rattle.rollout_call.proofs.Leave.{cell, leave}
 use Rattle.rollout_call.proofs.Record as T
 use Rattle.rolled.proofs.Rolled as G

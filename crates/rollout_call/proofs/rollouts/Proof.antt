@@ -56,7 +56,7 @@ use Rattle.rollout_call.specs.Inside.{filled}
 use Rattle.rolled.specs.declared.Rolled.{Rolled}
 use Rattle.rolled.specs.declared.Outcome.{Outcome}
 use Rattle.rolled.specs.Call.{rollCall, rollReads, rollStore}
-use Rattle.rollout_call.specs.Store.{recorded}
+use Rattle.rollout_call.specs.Records.{recorded}
 use Rattle.rolled.specs.Inside.Contracts.{RollsTo}
 use Rattle.rollout_call.proofs.Record as T
 use Rattle.rollout_call.proofs.fill as fill
