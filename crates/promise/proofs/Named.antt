@@ -17,18 +17,13 @@ use Rattle.table.specs.Accepted.{Filled}
 use Rattle.table.specs.Root.{Side, AtM, AtN, Root, undecided, decided, sideOf, rootOf, children}
 use Rattle.search.specs.Search.{Frame, Play, noPlay, child, Seen, State, Arith, Rules, begin, finish, cut, point, beats, better, prefer, update, stop, scan, search, searchRoot, nodeOf}
 use Rattle.search.specs.Whole.{inGrains}
-use Rattle.search.proofs.Steps.{seenUnder, seenAfter}
+use Rattle.search.proofs.Steps.{both, seenUnder, seenAfter}
 use Rattle.promise.specs.Entered.{Entered, asEntered, entered, enteredRoot, worse, FirstBest}
 
 -- what is asked of `less`: where a is below c, b is above a or below c
 pub record Strict {A : Type 0} (less : A → A → Bool) : Type 0 where
   pub asym : (a b : A) → less a b ≡ true → less b a ≡ false
   pub past : (a b c : A) → less a c ≡ true → less a b ≡ false → less b c ≡ true
-
--- a property of either pair of answers of one test
-both : {A B : Type 0} {x y : A} {u v : B} (P : A → B → Type 0) (b : Bool) → P x u → P y v → P (cond b x y) (cond b u v)
-both P true h k = h
-both P false h k = k
 
 -- the play of a root whose children entered are xs: "either a root child or none", "at C and L there is none"
 abbrev pub Chosen : {A : Type 0} → Arith A → Root → List (Entered A) → Play A → Type 0

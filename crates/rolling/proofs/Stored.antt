@@ -12,17 +12,13 @@ use Rattle.line.proofs.Signs.{true-ne-false}
 use Rattle.table.specs.Tree.{Kind, Forest, end, leaf, inner, isEnd}
 use Rattle.table.proofs.Runs.{size, Numbered}
 use Rattle.search.specs.Inside.{grained}
+use Rattle.search.proofs.Steps.{both}
 use Rattle.rollout.specs.Rollout.{Kept, tip, knot, Pair, Walk, Rolled, pick, spend, fresh, lows, highs, records, firstOr, over, candidate, candidates, walk, roll}
 use Rattle.rollout.specs.Inside.Heights.{natural}
 use Rattle.rolling.specs.Inside.Lists.{Store, lowAt, highAt, putBoth, Room, At, Frame, pairs, lowsS, highsS, candidatesS, WalkS, RolledS, keep, walkS, rollS}
 
 put-both-other : (st : Store) (n l h i : ℕ) → i ≢ n → At st (putBoth st n l h) i
 put-both-other st n l h i e = (getD-set-other (st .low) n i l 0 e, getD-set-other (st .high) n i h 0 e)
-
--- either way of a test
-both : {A B : Type 0} {x y : A} {u v : B} (P : A → B → Type 0) (b : Bool) → P x u → P y v → P (cond b x y) (cond b u v)
-both P true f g = f
-both P false f g = g
 
 pub frame-still : (a n : ℕ) (st : Store) → Frame a n st st
 frame-still a n st = record { low = refl; high = refl; before = λ i b. (refl, refl); behind = λ i b. (refl, refl) }

@@ -2,7 +2,7 @@
 use Prim.Native.Nat.{ℕ, suc, _+_, _≤_}
 use mathlib.Core.Path.{_≡_, refl, sym, ap, ap₂, _∙_}
 use mathlib.Core.Bool.{Bool}
-use mathlib.Core.List.{List, [], _∷_, _++_, map}
+use mathlib.Core.List.{List, [], _∷_, _++_, map, map-append}
 use borrow.Author.Tests.{le-leb}
 use lib.IntN.{ℤ, pos, _+ℤ_, _*ℤ_}
 use Rattle.numbers.proofs.Above.{leaf-shift}
@@ -20,7 +20,6 @@ use Rattle.rollout.specs.Inside.Raised.{mapPair}
 use Rattle.rollout.specs.Inside.Sound.{Sound}
 use Rattle.rollout.specs.Rollout.{Kept, none, tip, knot, Pair, fresh, records, over}
 use Rattle.rollout.specs.Store.{treeWorths, Holds}
-use Rattle.rollout.proofs.Raise.{map-append}
 use Rattle.rollout.proofs.Shift.{le-above}
 use Rattle.rollout.proofs.Folds.{Beside, done, also, over-le}
 use Rattle.rollout.proofs.Turns.{Turns, at-tip, at-knot, past-tip, past-knot, some-lows}

@@ -2,20 +2,13 @@
 use Prim.Native.Nat.{ℕ, zero, suc, pred}
 use mathlib.Core.Path.{_≡_, refl, sym, ap, ap₂, _∙_}
 use mathlib.Core.Bool.{Bool, true, false, _&&_, cond}
-use mathlib.Core.List.{List, [], _∷_, _++_, map}
+use mathlib.Core.List.{List, [], _∷_, _++_, map, map-append}
 use lib.Dec.{eqb}
 use Rattle.table.specs.Tree.{Kind, MAX, MIN, CHANCE, Forest, end, leaf, inner, leaves}
 use Rattle.table.proofs.Heights.{mapForest, map-leaves}
+use Rattle.search.proofs.Steps.{cond-map}
 use Rattle.rollout.specs.Inside.Raised.{mapKept, mapPair, mapWalk, mapRolled}
 use Rattle.rollout.specs.Rollout.{Order, Kept, none, tip, knot, Pair, Walk, Rolled, pick, spend, fresh, lows, highs, records, firstOr, pastTip, pastKnot, joined, over, candidate, candidates, walk, roll, rollouts}
-
-cond-map : {A B : Type 0} (f : A → B) (b : Bool) (x y : A) → cond b (f x) (f y) ≡ f (cond b x y)
-cond-map f true x y = refl
-cond-map f false x y = refl
-
-pub map-append : {A B : Type 0} (f : A → B) (l m : List A) → map f (l ++ m) ≡ map f l ++ map f m
-map-append f [] m = refl
-map-append {B} f (x ∷ l) m = ap (λ (r : List B). f x ∷ r) (map-append f l m)
 
 -- the greater, the lesser and the test are kept
 pub record Keeps {A B : Type 0} (O : Order A) (P : Order B) (g : A → B) : Type 0 where
@@ -83,7 +76,7 @@ module _ {A B : Type 0} (g : A → B) where
         let t : Bool = candidate O α β l h in
         let r : Walk A = walk O α β (cond t (pred j) j) p rest in
         rw (test-map α β l h, walk-map α β (cond t (pred j) j) p rest)
-        (cond-map (mapWalk g) (t && eqb j 0) (record { kept = tip n v v v rest; read = n ∷ []; policy = p }) (pastTip n v l h r))
+        (cond-map (mapWalk g) (record { kept = tip n v v v rest; read = n ∷ []; policy = p }) (pastTip n v l h r) (t && eqb j 0))
     walk-map α β j p (knot n k l h under rest) =
         let t : Bool = candidate O α β l h in
         let a : A = O .high-of α l in
@@ -102,9 +95,9 @@ module _ {A B : Type 0} (g : A → B) where
           over-map k l (lows (u .kept)),
           over-map k h (highs (u .kept)),
         )
-        (cond-map (mapWalk g) (t && eqb j 0)
+        (cond-map (mapWalk g)
         (record { kept = knot n k (over O k l (lows (u .kept))) (over O k h (highs (u .kept))) (u .kept) rest; read = u .read; policy = u .policy })
-        (pastKnot n k l h under r))
+        (pastKnot n k l h under r) (t && eqb j 0))
 
     pub roll-map : (bottom top : A) (n : ℕ) (p : List ℕ) (f : Kept A)
         → roll P (g bottom) (g top) n p (mapKept g f) ≡ mapRolled g (roll O bottom top n p f)
@@ -116,7 +109,7 @@ module _ {A B : Type 0} (g : A → B) where
         let r : Walk A = walk O low high 0 p f in
         let d : Rolled A = roll O bottom top n (r .policy) (r .kept) in
         rw (lows-map f, highs-map f, first-map bottom (lows f), first-map top (highs f), keeps .test low high, walk-map low high 0 p f, roll-map bottom top n (r .policy) (r .kept))
-        (cond-map (mapRolled g) (O .below low high) (record { kept = d .kept; read = r .read ++ d .read }) (record { kept = f; read = [] }))
+        (cond-map (mapRolled g) (record { kept = d .kept; read = r .read ++ d .read }) (record { kept = f; read = [] }) (O .below low high))
 
     pub rollouts-map : (bottom top : A) (p : List ℕ) (f : Forest A)
         → rollouts P (g bottom) (g top) p (mapForest g f) ≡ mapRolled g (rollouts O bottom top p f)

@@ -9,6 +9,11 @@ pub cond-map : {A B : Type 0} (h : A → B) (x y : A) (b : Bool) → cond b (h x
 cond-map h x y true = refl
 cond-map h x y false = refl
 
+-- a property of either pair of answers of one test
+pub both : {A B : Type 0} {x y : A} {u v : B} (P : A → B → Type 0) (b : Bool) → P x u → P y v → P (cond b x y) (cond b u v)
+both P true h k = h
+both P false h k = k
+
 module _ {A : Type 0} (O : Arith A) (R : Rules A) where
   -- what the search of an inner child gives
   abbrev pub seenUnder : Frame A → Kind → (n w : ℕ) → Kind → Forest A → State A → Seen A
