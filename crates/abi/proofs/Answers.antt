@@ -1,10 +1,9 @@
 -- What a call answers of any text is small enough for its code and numbers. Assumes nothing.
-use Prim.Native.Nat.{ℕ, _≤_, _<_}
-use mathlib.Core.Path.{_≡_, refl, ap, subst, _∙_}
+use Prim.Native.Nat.{ℕ, _<_}
+use mathlib.Core.Path.{_≡_, refl, ap}
 use mathlib.Core.List.{List}
 use native.Mathlib.Omega.{arith}
 use lib.IntN.{ℤ}
-use Rattle.line.specs.declared.Refusal.{Refusal}
 use Rattle.line.specs.Refusal.{Verdict, refused, fine, lineOf}
 use Rattle.table.specs.Table.{Table, readText, answer}
 use Rattle.table.specs.declared.Play.{Play}

@@ -11,8 +11,6 @@ use Rattle.table.specs.declared.Play.the-variants.{Child, NoPlay}
 use Rattle.worth.specs.Call.{exactNumber, exactLine}
 use Rattle.worth.specs.declared.Exact
 use Rattle.worth.specs.declared.Exact.{Exact}
-use Rattle.worth.specs.declared.Exact
-use Rattle.worth.specs.declared.Exact
 use Rattle.judge.specs.declared.Judged.{Judged}
 use Rattle.judge.specs.declared.Judged.the-variants.{NoDecision, Loss}
 use Rattle.judge.specs.declared.Opinion
@@ -24,11 +22,9 @@ use Rattle.search_call.specs.declared.Bounds.{Bounds}
 use Rattle.search_call.specs.declared.Bounded
 use Rattle.search_call.specs.declared.Bounded.{Bounded}
 use Rattle.search_call.specs.Call.{searchNumber, searchLine}
-use Rattle.search_call.specs.declared.Bounded
 use Rattle.rolled.specs.Call.{rollNumber, rollLine}
 use Rattle.rolled.specs.declared.Rolled
 use Rattle.rolled.specs.declared.Rolled.{Rolled}
-use Rattle.rolled.specs.declared.Rolled
 
 -- 0, or the refusal's line and number as one: the number in the last two decimal digits, so that 309 is refusal 9 at line 3
 abbrev pub readCode : Reading → ℕ

@@ -46,7 +46,6 @@ use Rattle.rollout.proofs.Demand.{ends-on-worth, no-leaf-twice}
 use Rattle.rolled.specs.declared.Rolled
 use Rattle.rolled.specs.declared.Rolled.the-variants.{Done}
 use Rattle.rolled.specs.Call.{rolls, rollAnswer, rollList, rollCall}
-use Rattle.rolled.specs.declared.Rolled
 use Rattle.demands.specs.Demands.{childWorth, Promised, SameLines, Mirrors, Answers, Sentence1, Sentence2, GivenText, Sentence3, TurnAnswers, TurningTwice, RolloutsEnd, RollAnswers}
 use Rattle.demands.proofs.Utilities.{tree-alike, given-same, given-accepted}
 

@@ -14,14 +14,12 @@ use Rattle.worth.specs.Call.{exactCall}
 use Rattle.judge.specs.Call.{judgeCall}
 use Rattle.turn_call.specs.declared.Turned
 use Rattle.turn_call.specs.Call.{turnCall, turnBytes}
-use Rattle.turn_call.specs.declared.Turned
 use Rattle.search_call.specs.declared.Bounded
 use Rattle.search_call.specs.Call.{searchCall, searchReads}
 use Rattle.rollout_call.specs.declared.Record.{Record}
 use Rattle.rolled.specs.declared.Rolled
 use Rattle.rolled.specs.Call.{rollCall, rollReads, rollStore}
 use Rattle.rollout_call.specs.Records.{recorded}
-use Rattle.rolled.specs.declared.Rolled
 use Rattle.codes.specs.Numbers.{readCode, numbersOf, worthCode, worthNumbers, judgeCode, judgeNumbers, searchCode, searchNumbers, rollCode, rollNumbers, turnedCode, put}
 
 -- ---- the calls of Rattle; the exact worth and the judgement are lent nothing but the text

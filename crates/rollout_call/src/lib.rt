@@ -1,4 +1,4 @@
-// The public call of rollouts, and the lent store. It takes any input, and ends with an answer or a refusal.
+// The lent store, and the public call of rollouts, which takes any input and ends with an answer or a refusal.
 ghost use mathlib.Core.Path.{_≡_};
 ghost use Prim.Native.Nat.{_≤_};
 ghost use lib.ListN.{length};

@@ -1,5 +1,5 @@
 -- `codes::turned_code` meets its contract. Assumes nothing.
-use mathlib.Core.Path.{_≡_, sym, ap, subst, _∙_}
+use mathlib.Core.Path.{sym, ap, subst, _∙_}
 use borrow.Author.Needs.{needs}
 use Rattle.codes.specs.Numbers.{turnedCode}
 use Rattle.codes.specs.Inside.{SmallTurned}
