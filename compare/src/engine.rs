@@ -1,75 +1,13 @@
-//! Calls the proved engine through its C interface.
-//!
-//! The only `unsafe` of this crate is here, in `read_into`, `worth`, `judge`,
-//! `search`, `turn` and `rollout`.
+//! The proved engine on lent memory of any lengths, for tests and the benchmark:
+//! the raw calls of the package `margin-engine`, which calls the C interface.
+
+pub use margin_engine::raw::{
+    exact_worth as worth, read as read_into, rollout, search, turn, Record,
+};
 
 use crate::second::MOST_NODES;
 
-mod abi {
-    extern "C" {
-        pub fn margin_read(
-            text: *const u8,
-            text_len: usize,
-            numbers: *mut i64,
-            numbers_len: usize,
-            kind: *mut u8,
-            kind_len: usize,
-            stop: *mut u16,
-            stop_len: usize,
-            weight: *mut u8,
-            weight_len: usize,
-            height: *mut u32,
-            height_len: usize,
-        ) -> u64;
-
-        pub fn margin_worth(
-            text: *const u8,
-            text_len: usize,
-            numbers: *mut i64,
-            numbers_len: usize,
-        ) -> u64;
-
-        pub fn margin_judge(
-            text: *const u8,
-            text_len: usize,
-            number: i64,
-            numbers: *mut u64,
-            numbers_len: usize,
-        ) -> u64;
-
-        pub fn margin_search(
-            text: *const u8,
-            text_len: usize,
-            margin: i64,
-            leaves: *mut u16,
-            leaves_len: usize,
-            numbers: *mut i64,
-            numbers_len: usize,
-        ) -> u64;
-
-        pub fn margin_turn(
-            text: *const u8,
-            text_len: usize,
-            buffer: *mut u8,
-            buffer_len: usize,
-        ) -> u64;
-
-        pub fn margin_rollout(
-            text: *const u8,
-            text_len: usize,
-            policy: *const u8,
-            policy_len: usize,
-            store: *mut super::Record,
-            store_len: usize,
-            leaves: *mut u16,
-            leaves_len: usize,
-            numbers: *mut i64,
-            numbers_len: usize,
-        ) -> u64;
-    }
-}
-
-/// The arrays lent to `margin_read`.
+/// The arrays lent to the reading of a table.
 ///
 /// For an accepted table `numbers` holds the count of nodes, T, the lowest
 /// end, the highest end, K, G and the count of leaves, and the other arrays
@@ -116,147 +54,16 @@ pub fn call(text: &[u8], lent: &mut Lent) -> u64 {
     )
 }
 
-/// The call with slices of any lengths.
-#[allow(unsafe_code)]
-pub fn read_into(
-    text: &[u8],
-    numbers: &mut [i64],
-    kind: &mut [u8],
-    stop: &mut [u16],
-    weight: &mut [u8],
-    height: &mut [u32],
-) -> u64 {
-    // Sound: each pointer stands with the length of what it points to, and the
-    // five slices are apart from each other and lent for the length of the call.
-    unsafe {
-        abi::margin_read(
-            text.as_ptr(),
-            text.len(),
-            numbers.as_mut_ptr(),
-            numbers.len(),
-            kind.as_mut_ptr(),
-            kind.len(),
-            stop.as_mut_ptr(),
-            stop.len(),
-            weight.as_mut_ptr(),
-            weight.len(),
-            height.as_mut_ptr(),
-            height.len(),
-        )
-    }
-}
-
-/// The exact worth of the table in `text`. Returns what `read` returns; for an
-/// accepted table the worth in grains and G stand first in `numbers`, as far as
-/// there is room. All else in it is left as it was, and everything where the
-/// table is refused.
-#[allow(unsafe_code)]
-pub fn worth(text: &[u8], numbers: &mut [i64]) -> u64 {
-    // Sound: each pointer stands with the length of what it points to, and the
-    // two slices are apart from each other and lent for the length of the call.
-    unsafe {
-        abi::margin_worth(
-            text.as_ptr(),
-            text.len(),
-            numbers.as_mut_ptr(),
-            numbers.len(),
-        )
-    }
-}
-
-/// Judges the play of the root child with this number, counted from 1. Returns
-/// 0 or the refusal as `read` does, where refusal 14 has line 0. At an M or N
-/// root 1, the loss in grains and the count of level children stand first in
-/// `numbers`, as far as there is room; at a C or L root a 0 does. All else in it
-/// is left as it was, and everything where the call is refused. The engine's
-/// numbers have no sign; none is so large that it would be read as negative.
-#[allow(unsafe_code)]
+/// Judges a play. The engine's numbers have no sign here; none is so large that
+/// it would be read as negative, so they are compared like those of other calls.
 pub fn judge(text: &[u8], number: i64, numbers: &mut [i64]) -> u64 {
-    // Sound: each pointer stands with the length of what it points to, and the
-    // two slices are apart from each other and lent for the length of the call;
-    // a u64 has the size and alignment of an i64.
-    unsafe {
-        abi::margin_judge(
-            text.as_ptr(),
-            text.len(),
-            number,
-            numbers.as_mut_ptr().cast::<u64>(),
-            numbers.len(),
-        )
+    let mut lent: Vec<u64> = numbers
+        .iter()
+        .map(|number| number.cast_unsigned())
+        .collect();
+    let code = margin_engine::raw::judge(text, number, &mut lent);
+    for (number, lent) in numbers.iter_mut().zip(lent) {
+        *number = lent.cast_signed();
     }
-}
-
-/// Searches the table in `text` to within this margin, in grains. Returns 0 or
-/// the refusal as `read` does, where refusals 12 and 11 have line 0. The low,
-/// the high, the node number of the root child to play (0 for none), the number
-/// of leaves read and G stand first in `numbers`, as far as there is room, and
-/// the node numbers of the leaves read stand first in `leaves`, in reading
-/// sequence. All else in both is left as it was, and everything where the call
-/// is refused.
-#[allow(unsafe_code)]
-pub fn search(text: &[u8], margin: i64, leaves: &mut [u16], numbers: &mut [i64]) -> u64 {
-    // Sound: each pointer stands with the length of what it points to, and the
-    // three slices are apart from each other and lent for the length of the call.
-    unsafe {
-        abi::margin_search(
-            text.as_ptr(),
-            text.len(),
-            margin,
-            leaves.as_mut_ptr(),
-            leaves.len(),
-            numbers.as_mut_ptr(),
-            numbers.len(),
-        )
-    }
-}
-
-/// Turns the table in `text`. Returns 0 or the refusal as `read` does, where
-/// refusal 11 has line 0. The turned text stands first in `buffer`; all else in
-/// it is left as it was, and everything where the call is refused.
-#[allow(unsafe_code)]
-pub fn turn(text: &[u8], buffer: &mut [u8]) -> u64 {
-    // Sound: each pointer stands with the length of what it points to, and the
-    // two slices are apart from each other and lent for the length of the call.
-    unsafe { abi::margin_turn(text.as_ptr(), text.len(), buffer.as_mut_ptr(), buffer.len()) }
-}
-
-/// What the rollouts know of a node, in grains.
-#[repr(C)]
-#[derive(Clone, Copy, Debug, PartialEq, Eq)]
-pub struct Record {
-    pub low: i64,
-    pub high: i64,
-}
-
-/// Rolls out the table in `text`, which has no C, by this policy. Returns 0 or
-/// the refusal as `read` does, where refusals 13 and 11 have line 0. The worth
-/// and the number of leaves read stand first in `numbers`, as far as there is
-/// room, the node numbers of the leaves read first in `leaves`, in reading
-/// sequence, and the record of each node first in `store`. All else in the three
-/// is left as it was, and everything where the call is refused.
-#[allow(unsafe_code)]
-pub fn rollout(
-    text: &[u8],
-    policy: &[u8],
-    store: &mut [Record],
-    leaves: &mut [u16],
-    numbers: &mut [i64],
-) -> u64 {
-    // Sound: each pointer stands with the length of what it points to, and the
-    // five slices are apart from each other and lent for the length of the call;
-    // a record is two numbers, as on the other side.
-    unsafe {
-        abi::margin_rollout(
-            text.as_ptr(),
-            text.len(),
-            policy.as_ptr(),
-            policy.len(),
-            store.as_mut_ptr(),
-            store.len(),
-            leaves.as_mut_ptr(),
-            leaves.len(),
-            numbers.as_mut_ptr(),
-            numbers.len(),
-        )
-    }
+    code
 }

@@ -10,6 +10,7 @@ use compare::engine::{self, Lent, Record};
 use compare::random::{seed, Random};
 use compare::second::{self, Bounds, Judgement, LINE, MOST_NODES};
 use compare::texts::bench::{bushy, bushy_plain, deep, flat, Shape};
+use margin_engine::raw;
 
 /// Node lines of the tables.
 const SIZES: [usize; 3] = [64, 256, 1_024];
@@ -119,7 +120,7 @@ fn judging(sorts: &[Sort]) {
         sorts,
         |sort, text| {
             let numbers = black_box(&mut numbers);
-            black_box(engine::judge(black_box(text), sort.played, numbers));
+            black_box(raw::judge(black_box(text), sort.played, numbers));
         },
         |sort, text| {
             let _ = black_box(second_judgement(black_box(text), sort.played));

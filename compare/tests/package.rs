@@ -1,0 +1,241 @@
+//! Holds the Rust package's typed calls to the second engine: every field of each
+//! answer, and the refusals. The engine behind them has tests of its own; what
+//! could go wrong here is the handing over.
+//!
+//! The environment variable SEED sets the seed of the random texts, CASES their
+//! number.
+
+use std::fmt::Debug;
+
+use compare::hold::seen::{Seen, ROOTS};
+use compare::hold::tally::{Tally, OF_TABLES};
+use compare::hold::{code, root_children, span};
+use compare::random::{number_from_environment, Random};
+use compare::second::{self, Bounds, Refusal, Table};
+use compare::texts;
+use compare::texts::examples::escaped;
+use compare::texts::knobs::Knobs;
+use margin_engine as package;
+
+/// What both say of one question: an answer, or the refusal's number and line.
+type Said<T> = Result<T, (u8, usize)>;
+
+fn second<T>(answer: Result<T, Refusal>) -> Said<T> {
+    answer.map_err(|refusal| (refusal.number, refusal.line))
+}
+
+fn typed<T>(answer: Result<T, package::Refusal>) -> Said<T> {
+    answer.map_err(|refusal| (refusal.number, refusal.line))
+}
+
+// ---------------------------------------------------------------------------
+// The second engine's answers in the package's words
+// ---------------------------------------------------------------------------
+
+/// A table as plain text, line by line, so that the two sorts can be compared.
+fn lines(head: impl Debug, nodes: impl Iterator<Item: Debug>) -> Vec<String> {
+    let nodes = nodes.map(|node| format!("{node:?}"));
+    std::iter::once(format!("{head:?}")).chain(nodes).collect()
+}
+
+fn second_lines(table: &Table) -> Vec<String> {
+    let ends = (table.lowest, table.highest);
+    let grain = (table.total, table.chances, table.grains);
+    let nodes = table.nodes.iter();
+    lines(
+        (ends, grain, table.leaves),
+        nodes.map(|n| (n.kind, n.parent, n.weight, n.utility, n.stop)),
+    )
+}
+
+fn package_lines(table: &package::Table) -> Vec<String> {
+    let ends = (table.lowest, table.highest);
+    let grain = (table.total, table.chances, table.per_point);
+    let nodes = table.nodes.iter();
+    lines(
+        (ends, grain, table.leaves),
+        nodes.map(|n| (n.kind, n.parent, n.weight, n.utility, n.stop)),
+    )
+}
+
+fn judged(judgement: second::Judgement) -> package::Judgement {
+    match judgement {
+        second::Judgement::NoDecision => package::Judgement::NoDecision,
+        second::Judgement::Loss { grains, level } => package::Judgement::Loss {
+            grains: u64::try_from(grains).expect("no play gains"),
+            level,
+        },
+    }
+}
+
+/// Low, high, play, leaves and G of a search.
+type Found = (i64, i64, package::Play, Vec<usize>, i64);
+
+fn found(table: &Table, margin: i64) -> Result<Found, Refusal> {
+    let mut leaves = vec![0; table.leaves];
+    let found = second::search(table, margin, &mut leaves)?;
+    let play = match found.play {
+        None => package::Play::None,
+        Some(node) => {
+            let up_to_it = &table.nodes[..=node];
+            let children = up_to_it.iter().filter(|node| node.parent == Some(0));
+            let number = children.count();
+            package::Play::Child { number, node }
+        }
+    };
+    let read = leaves[..found.read].iter();
+    let read = read.map(|&leaf| usize::from(leaf)).collect();
+    Ok((found.low, found.high, play, read, table.grains))
+}
+
+/// The worth, the leaves and the bounds of each node by rollouts.
+type Rolled = (i64, Vec<usize>, Vec<(i64, i64)>);
+
+fn rolled(table: &Table, policy: &[u8]) -> Result<Rolled, Refusal> {
+    let mut leaves = vec![0; table.leaves];
+    let mut store = vec![Bounds { low: 0, high: 0 }; table.nodes.len()];
+    let rolled = second::rollout(table, policy, &mut store, &mut leaves)?;
+    let read = leaves[..rolled.read].iter();
+    let bounds = store.iter().map(|bounds| (bounds.low, bounds.high));
+    Ok((
+        rolled.worth,
+        read.map(|&leaf| usize::from(leaf)).collect(),
+        bounds.collect(),
+    ))
+}
+
+fn turned(text: &[u8]) -> Result<Vec<u8>, Refusal> {
+    let mut buffer = vec![0; text.len()];
+    second::turn(text, &mut buffer).map(|()| buffer)
+}
+
+// ---------------------------------------------------------------------------
+// The comparison
+// ---------------------------------------------------------------------------
+
+/// Asks both about a text, with this play number, margin and policy. Returns what
+/// each call was answered, as the proved engine would return it.
+fn hold(text: &[u8], number: i64, margin: i64, policy: &[u8], place: &str) -> [u64; 6] {
+    let table = second::read(text);
+    let with = |call: &str| format!("{place}, {call}\n{}", escaped(text));
+
+    let read = package::read(text).map(|table| package_lines(&table));
+    let lines = table.as_ref().map(second_lines).map_err(|refusal| *refusal);
+    assert_eq!(typed(read), second(lines), "{}", with("read"));
+
+    let worth = package::exact_worth(text).map(|worth| (worth.grains, worth.per_point));
+    let expected = table
+        .as_ref()
+        .map(|table| (second::worth(table), table.grains));
+    let expected = expected.map_err(|refusal| *refusal);
+    assert_eq!(typed(worth), second(expected), "{}", with("exact_worth"));
+
+    let ask = |question: &dyn Fn(&Table) -> Result<(), Refusal>| match &table {
+        Ok(table) => code(&question(table)),
+        Err(refusal) => code::<()>(&Err(*refusal)),
+    };
+
+    let expected = table
+        .clone()
+        .and_then(|table| second::judge(&table, number));
+    let said = typed(package::judge(text, number));
+    let call = format!("judge {number}");
+    assert_eq!(said, second(expected.map(judged)), "{}", with(&call));
+
+    let expected = table.clone().and_then(|table| found(&table, margin));
+    let said = package::search(text, margin).map(|found| {
+        (
+            found.low,
+            found.high,
+            found.play,
+            found.leaves,
+            found.per_point,
+        )
+    });
+    let call = format!("search {margin}");
+    assert_eq!(typed(said), second(expected), "{}", with(&call));
+
+    let said = package::turn(text).map(|turned| turned.text);
+    assert_eq!(typed(said), second(turned(text)), "{}", with("turn"));
+
+    let expected = table.clone().and_then(|table| rolled(&table, policy));
+    let said = package::rollout(text, policy).map(|rolled| {
+        let bounds = rolled
+            .records
+            .iter()
+            .map(|record| (record.low, record.high));
+        (rolled.worth, rolled.leaves, bounds.collect::<Vec<_>>())
+    });
+    let call = format!("rollout {policy:?}");
+    assert_eq!(typed(said), second(expected), "{}", with(&call));
+
+    [
+        code(&table),
+        code(&table),
+        ask(&|table| second::judge(table, number).map(|_| ())),
+        ask(&|table| found(table, margin).map(|_| ())),
+        code(&turned(text)),
+        ask(&|table| rolled(table, policy).map(|_| ())),
+    ]
+}
+
+#[test]
+fn typed_calls() {
+    let mut tally = Tally::new("the package's typed calls");
+    let mut seen = Seen::default();
+    let cases = number_from_environment("CASES", 20_000);
+    for case in 0..cases {
+        let mut random = Random::of_case(tally.seed, case);
+        let text = match case % 4 {
+            0 => texts::make(Knobs::plain, &mut random),
+            1 => texts::make(Knobs::dice, &mut random),
+            _ => texts::case(&mut random).text,
+        };
+        let table = second::read(&text).ok();
+        let children = table.as_ref().map_or(0, root_children) as i64;
+        let span = table.as_ref().map_or(0, span);
+        let number = random.between(0, children + 1);
+        let margin = random.pick(&[-1, 0, 1, span / 10, span / 2, span]);
+        let policy: Vec<u8> = (0..random.below(40)).map(|_| random.bits() as u8).collect();
+        let codes = hold(&text, number, margin, &policy, &tally.place());
+        tally.add(&codes);
+        if let Some(table) = &table {
+            seen.count_root(&ROOTS, table);
+            seen.count_table(table);
+            seen.count_chances(table);
+        }
+    }
+    tally.report();
+    seen.demand(20);
+    for number in OF_TABLES.into_iter().chain([12, 13, 14]) {
+        let count = tally.counts[number];
+        assert!(count >= 100, "refusal {number} came only {count} times");
+    }
+}
+
+/// Every refusal has words of its own, one line each, and says where it is.
+#[test]
+fn words_of_refusals() {
+    let mut seen = vec![];
+    let mut random = Random::new(1);
+    while seen.len() < 10 {
+        let text = texts::case(&mut random).text;
+        let Err(refusal) = package::read(&text) else {
+            continue;
+        };
+        if seen.contains(&refusal.number) {
+            continue;
+        }
+        seen.push(refusal.number);
+        let shown = refusal.to_string();
+        let start = match refusal.number {
+            1 => "refused 1: ".to_string(),
+            number => format!("refused {number} at line {}: ", refusal.line),
+        };
+        assert!(shown.starts_with(&start), "{shown}");
+        assert!(shown.ends_with(refusal.reason()), "{shown}");
+        for words in [refusal.reason(), refusal.mend()] {
+            assert!(words.len() > 10 && !words.contains('\n'), "{words}");
+        }
+    }
+}

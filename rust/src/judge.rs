@@ -1,0 +1,43 @@
+//! The judgement of a play.
+
+use crate::raw;
+use crate::refusal::{Refusal, answered};
+
+/// What there is to say of the play made at the root.
+#[derive(Clone, Copy, Debug, PartialEq, Eq)]
+#[non_exhaustive]
+pub enum Judgement {
+    /// The root is a choice of MAX or MIN.
+    Loss {
+        /// What the play loses against the best, in grains.
+        grains: u64,
+        /// How many plays are level with the best.
+        level: usize,
+    },
+    /// Nobody chooses at a C or L root.
+    NoDecision,
+}
+
+/// Judges the play of the root child with this number, counted from 1 in the order
+/// of the lines. Refuses 1 to 10, and 14 where an M or N root has no such child.
+///
+/// ```
+/// use margin_engine::{Judgement, judge};
+///
+/// let text = std::fs::read("../examples/b.txt")?;
+/// // The roll is worth 3.5 points, and the sure play 5.
+/// assert_eq!(judge(&text, 2)?, Judgement::Loss { grains: 6, level: 1 });
+/// assert_eq!(judge(&text, 3).unwrap_err().number, 14);
+/// # Ok::<(), Box<dyn std::error::Error>>(())
+/// ```
+pub fn judge(text: &[u8], number: i64) -> Result<Judgement, Refusal> {
+    let mut numbers = [0; 3];
+    answered(raw::judge(text, number, &mut numbers))?;
+    Ok(match numbers {
+        [0, ..] => Judgement::NoDecision,
+        [_, grains, level] => Judgement::Loss {
+            grains,
+            level: level as usize,
+        },
+    })
+}

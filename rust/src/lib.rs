@@ -1,0 +1,61 @@
+//! Judges positions of dice games, with an engine that is proved correct.
+//!
+//! A position is a table: the text of a tree whose nodes are plays of MAX (M) and
+//! of MIN (N), chance (C) and leaves (L). Each call takes a table's bytes, whatever
+//! they are, and gives an answer or a [`Refusal`] with a number. The engine is
+//! proved in Rattle, down to the bytes; this package hands over its answers with
+//! names and types, and is tested against a second engine.
+//!
+//! In table B, MAX chooses between a sure 5 and a roll that leads to 2, three times
+//! in four, or to 8:
+//!
+//! ```
+//! use margin_engine::{Play, exact_worth, search};
+//!
+//! let text = std::fs::read("../examples/b.txt")?;
+//! let worth = exact_worth(&text)?;
+//! assert_eq!((worth.grains, worth.per_point), (20, 4)); // 5 points
+//!
+//! // To within 3 points it is enough to look at the first leaf.
+//! let found = search(&text, 3 * worth.per_point)?;
+//! assert_eq!((found.low, found.high), (20, 32));
+//! assert_eq!(found.play, Play::Child { number: 1, node: 1 });
+//! assert_eq!(found.leaves, [1]);
+//! # Ok::<(), Box<dyn std::error::Error>>(())
+//! ```
+//!
+//! Worths, bounds, losses and margins are whole numbers of grains, of which
+//! `per_point` make one point; [`points`] writes them in points. The README says how
+//! to write a table and which ends and margin to choose.
+
+mod judge;
+mod points;
+pub mod raw;
+mod refusal;
+mod rollout;
+mod search;
+mod table;
+mod turn;
+mod worth;
+
+pub use judge::{Judgement, judge};
+pub use points::points;
+pub use raw::Record;
+pub use refusal::Refusal;
+pub use rollout::{Rolled, rollout};
+pub use search::{Found, Play, search};
+pub use table::{Kind, Node, Table, read};
+pub use turn::{Turned, turn};
+pub use worth::{Worth, exact_worth};
+
+/// The most nodes that a table has.
+pub const MOST_NODES: usize = 1_024;
+
+/// Bytes of a line: 24 columns and a newline.
+pub const LINE: usize = 25;
+
+/// The most bytes that a table has: a header and a line for each node.
+pub const MOST_BYTES: usize = LINE * (1 + MOST_NODES);
+
+/// The greatest margin, in grains.
+pub const GREATEST_MARGIN: i64 = 40_000_000_000_000;

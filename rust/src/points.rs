@@ -1,0 +1,28 @@
+//! Grains in points, for people.
+
+/// Writes so many grains in points to three places, rounded to the nearest
+/// thousandth, halves away from zero: a turned table has the same digits. What
+/// rounds to zero has no minus.
+///
+/// ```
+/// use margin_engine::points;
+///
+/// assert_eq!(points(20, 4), "5.000");
+/// assert_eq!(points(-2, 3), "-0.667");
+/// assert_eq!(points(-1, 10_000), "0.000");
+/// ```
+///
+/// # Panics
+///
+/// Where there are no grains in a point (`per_point` is 0), which no answer says.
+pub fn points(grains: i64, per_point: i64) -> String {
+    let (grains, per_point) = (i128::from(grains), i128::from(per_point));
+    let doubled = 2 * 1_000 * grains.abs() + per_point;
+    let thousandths = doubled / (2 * per_point);
+    let sign = if grains < 0 && thousandths > 0 {
+        "-"
+    } else {
+        ""
+    };
+    format!("{sign}{}.{:03}", thousandths / 1_000, thousandths % 1_000)
+}

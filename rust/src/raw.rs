@@ -1,0 +1,195 @@
+//! The C calls as they are, on memory that the caller lends.
+//!
+//! For callers that want no allocation and for tests. Each call takes slices
+//! of any lengths and returns 0, or 100 times the refusal's line plus its
+//! number; a refused call writes nothing. What is written, and where, stands in
+//! `include/margin_engine.h`. Entries past an answer keep what they held.
+//!
+//! The only `unsafe` of this package is here. All six blocks are sound for the
+//! same reason: each pointer stands with the length of what it points to, it
+//! comes from a slice and so is not null, and no slice that a call may write
+//! overlaps another, as the borrows show.
+
+#![allow(unsafe_code)]
+
+/// What rollouts know of a node, in grains.
+#[repr(C)]
+#[derive(Clone, Copy, Debug, Default, PartialEq, Eq)]
+pub struct Record {
+    /// The worth is at least this.
+    pub low: i64,
+    /// The worth is at most this.
+    pub high: i64,
+}
+
+mod abi {
+    use super::Record;
+
+    unsafe extern "C" {
+        pub fn margin_read(
+            text: *const u8,
+            text_len: usize,
+            numbers: *mut i64,
+            numbers_len: usize,
+            kind: *mut u8,
+            kind_len: usize,
+            stop: *mut u16,
+            stop_len: usize,
+            weight: *mut u8,
+            weight_len: usize,
+            height: *mut u32,
+            height_len: usize,
+        ) -> u64;
+
+        pub fn margin_worth(
+            text: *const u8,
+            text_len: usize,
+            numbers: *mut i64,
+            numbers_len: usize,
+        ) -> u64;
+
+        pub fn margin_judge(
+            text: *const u8,
+            text_len: usize,
+            number: i64,
+            numbers: *mut u64,
+            numbers_len: usize,
+        ) -> u64;
+
+        pub fn margin_search(
+            text: *const u8,
+            text_len: usize,
+            margin: i64,
+            leaves: *mut u16,
+            leaves_len: usize,
+            numbers: *mut i64,
+            numbers_len: usize,
+        ) -> u64;
+
+        pub fn margin_turn(
+            text: *const u8,
+            text_len: usize,
+            buffer: *mut u8,
+            buffer_len: usize,
+        ) -> u64;
+
+        pub fn margin_rollout(
+            text: *const u8,
+            text_len: usize,
+            policy: *const u8,
+            policy_len: usize,
+            store: *mut Record,
+            store_len: usize,
+            leaves: *mut u16,
+            leaves_len: usize,
+            numbers: *mut i64,
+            numbers_len: usize,
+        ) -> u64;
+    }
+}
+
+/// Reads a table. `numbers`: the number of nodes, T, the lowest end, the highest
+/// end, K, G, the number of leaves. The others have an entry for each node:
+/// `kind` 0 for L, 1 for M, 2 for N, 3 for C; `stop` one past the last node under
+/// it; `weight`, 0 where there is none; `height`, a leaf's utility minus the
+/// lowest end, 0 at other nodes.
+pub fn read(
+    text: &[u8],
+    numbers: &mut [i64],
+    kind: &mut [u8],
+    stop: &mut [u16],
+    weight: &mut [u8],
+    height: &mut [u32],
+) -> u64 {
+    unsafe {
+        abi::margin_read(
+            text.as_ptr(),
+            text.len(),
+            numbers.as_mut_ptr(),
+            numbers.len(),
+            kind.as_mut_ptr(),
+            kind.len(),
+            stop.as_mut_ptr(),
+            stop.len(),
+            weight.as_mut_ptr(),
+            weight.len(),
+            height.as_mut_ptr(),
+            height.len(),
+        )
+    }
+}
+
+/// The exact worth. `numbers`: the worth in grains, G.
+pub fn exact_worth(text: &[u8], numbers: &mut [i64]) -> u64 {
+    unsafe {
+        abi::margin_worth(
+            text.as_ptr(),
+            text.len(),
+            numbers.as_mut_ptr(),
+            numbers.len(),
+        )
+    }
+}
+
+/// Judges the play of the root child with this number, from 1. `numbers`: at an M
+/// or N root 1, the loss in grains, the number of level children; at a C or L root
+/// a 0 alone.
+pub fn judge(text: &[u8], number: i64, numbers: &mut [u64]) -> u64 {
+    unsafe {
+        abi::margin_judge(
+            text.as_ptr(),
+            text.len(),
+            number,
+            numbers.as_mut_ptr(),
+            numbers.len(),
+        )
+    }
+}
+
+/// Searches to this margin, in grains. `numbers`: low, high, the node number of
+/// the play (0 for none), the number of leaves read, G. `leaves`: the node numbers
+/// of the leaves read, in reading sequence.
+pub fn search(text: &[u8], margin: i64, leaves: &mut [u16], numbers: &mut [i64]) -> u64 {
+    unsafe {
+        abi::margin_search(
+            text.as_ptr(),
+            text.len(),
+            margin,
+            leaves.as_mut_ptr(),
+            leaves.len(),
+            numbers.as_mut_ptr(),
+            numbers.len(),
+        )
+    }
+}
+
+/// Turns the table: its text goes to the start of `buffer`.
+pub fn turn(text: &[u8], buffer: &mut [u8]) -> u64 {
+    unsafe { abi::margin_turn(text.as_ptr(), text.len(), buffer.as_mut_ptr(), buffer.len()) }
+}
+
+/// Rolls out a table without C by this policy. `numbers`: the worth, the number
+/// of leaves read. `leaves`: the node numbers of the leaves read, in reading
+/// sequence. `store`: the record of each node.
+pub fn rollout(
+    text: &[u8],
+    policy: &[u8],
+    store: &mut [Record],
+    leaves: &mut [u16],
+    numbers: &mut [i64],
+) -> u64 {
+    unsafe {
+        abi::margin_rollout(
+            text.as_ptr(),
+            text.len(),
+            policy.as_ptr(),
+            policy.len(),
+            store.as_mut_ptr(),
+            store.len(),
+            leaves.as_mut_ptr(),
+            leaves.len(),
+            numbers.as_mut_ptr(),
+            numbers.len(),
+        )
+    }
+}

@@ -1,0 +1,130 @@
+//! What is given in place of an answer.
+
+use std::error::Error;
+use std::fmt;
+
+/// A refused call: why, and where. It changed nothing.
+///
+/// ```
+/// let refusal = margin_engine::exact_worth(b"no table").unwrap_err();
+/// assert_eq!((refusal.number, refusal.line), (1, 0));
+/// assert_eq!(refusal.to_string(), format!("refused 1: {}", refusal.reason()));
+/// ```
+#[derive(Clone, Copy, Debug, PartialEq, Eq)]
+#[non_exhaustive]
+pub struct Refusal {
+    /// Which refusal, from 1 to 14. `docs/REFUSALS.md` says all of each.
+    pub number: u8,
+    /// The line at fault: the header is line 0, and node i is line i + 1. It is 0
+    /// for a refusal that no line is to blame for: 1 and 11 to 14.
+    pub line: usize,
+}
+
+impl Refusal {
+    /// Why the call was refused, in one line.
+    pub fn reason(&self) -> &'static str {
+        self.words().0
+    }
+
+    /// How to mend it, in one line.
+    pub fn mend(&self) -> &'static str {
+        self.words().1
+    }
+
+    /// Whether a line of the table is at fault, and not the length of the whole or
+    /// what was asked.
+    pub fn has_line(&self) -> bool {
+        (2..=10).contains(&self.number)
+    }
+
+    fn words(&self) -> (&'static str, &'static str) {
+        match self.number {
+            1 => (
+                "the text is not a header and 1 to 1,024 node lines of 24 columns and a newline each",
+                "write 24 columns and one newline for each line, blanks at its end too",
+            ),
+            2 => (
+                "the line is ill-written",
+                "right-justify each number in its columns, with nothing but blanks before it",
+            ),
+            3 => (
+                "a number is out of range",
+                "correct the number; T is 1 to 64, an end at most 1,000,000 from 0, a weight 1 to T, a utility between the ends",
+            ),
+            4 => match self.line {
+                0 => (
+                    "the header's count is not the number of node lines",
+                    "write the number of node lines in columns 1-4",
+                ),
+                _ => (
+                    "the node's number is not its place",
+                    "number the nodes from 0 in the order of their lines",
+                ),
+            },
+            5 => (
+                "there is no such kind",
+                "write M, N, C or L in column 6, as a capital letter",
+            ),
+            6 => (
+                "the parent is wrong",
+                "name the node directly before or one above that, none for node 0; a node's children follow it, each with all that is under it",
+            ),
+            7 => (
+                "a weight or a utility is missing, or stands where there is none",
+                "give each child of a C a weight and each leaf a utility, and nothing to others",
+            ),
+            8 => (
+                "the node is no leaf and has no child",
+                "give it a child, or make it a leaf",
+            ),
+            9 => (
+                "the weights under this C do not sum to T",
+                "correct the weights of its children",
+            ),
+            10 => (
+                "the path from the root is too long, or has too many C",
+                "end the path with a leaf after 64 nodes or 4 C at most",
+            ),
+            11 => (
+                "what was lent is too short",
+                "lend as many entries as the table has nodes, and a buffer as long as its text",
+            ),
+            12 => (
+                "the margin is not 0 to 40,000,000,000,000 grains",
+                "give a margin in this range",
+            ),
+            13 => (
+                "rollouts take no table with a C",
+                "search it, or take its exact worth",
+            ),
+            14 => (
+                "the root has no child of that number",
+                "count the root's children from 1, in the order of their lines",
+            ),
+            _ => ("the engine gave no known number", "report this"),
+        }
+    }
+}
+
+impl fmt::Display for Refusal {
+    fn fmt(&self, f: &mut fmt::Formatter) -> fmt::Result {
+        write!(f, "refused {}", self.number)?;
+        if self.has_line() {
+            write!(f, " at line {}", self.line)?;
+        }
+        write!(f, ": {}", self.reason())
+    }
+}
+
+impl Error for Refusal {}
+
+/// What a C call returned: an answer, or 100 times the line plus the number.
+pub(crate) fn answered(code: u64) -> Result<(), Refusal> {
+    match code {
+        0 => Ok(()),
+        _ => Err(Refusal {
+            number: (code % 100) as u8,
+            line: (code / 100) as usize,
+        }),
+    }
+}

@@ -1,0 +1,89 @@
+//! The search to a margin.
+
+use crate::MOST_NODES;
+use crate::raw;
+use crate::refusal::{Refusal, answered};
+
+/// What a search found.
+#[derive(Clone, Debug, PartialEq, Eq)]
+#[non_exhaustive]
+pub struct Found {
+    /// The exact worth is at least this, in grains.
+    pub low: i64,
+    /// The exact worth is at most this, in grains; at most the margin above `low`.
+    pub high: i64,
+    /// A play whose worth is within the margin of the best.
+    pub play: Play,
+    /// The node numbers of the leaves read, in reading sequence. Whatever the other
+    /// leaves are, the answer is the same.
+    pub leaves: Vec<usize>,
+    /// G, the grains in one point.
+    pub per_point: i64,
+}
+
+/// What to play at the root.
+#[derive(Clone, Copy, Debug, PartialEq, Eq)]
+pub enum Play {
+    /// A child of an M or N root.
+    Child {
+        /// Its number among the root's children, from 1, as [`judge`](crate::judge)
+        /// takes it.
+        number: usize,
+        /// Its node number.
+        node: usize,
+    },
+    /// Nobody chooses at a C or L root.
+    None,
+}
+
+/// Searches a table to this margin, in grains. Refuses 1 to 10, and 12 for a margin
+/// that is not 0 to [`GREATEST_MARGIN`](crate::GREATEST_MARGIN).
+///
+/// ```
+/// use margin_engine::{Play, search};
+///
+/// let text = std::fs::read("../examples/a.txt")?;
+/// let found = search(&text, 3)?;
+/// assert_eq!((found.low, found.high), (0, 3));
+/// assert_eq!(found.play, Play::Child { number: 1, node: 1 });
+/// assert_eq!(found.leaves, [2, 5]); // of four
+///
+/// assert_eq!(search(&text, 0)?.leaves, [2, 3, 5]);
+/// assert_eq!(search(&text, -1).unwrap_err().number, 12);
+/// # Ok::<(), Box<dyn std::error::Error>>(())
+/// ```
+pub fn search(text: &[u8], margin: i64) -> Result<Found, Refusal> {
+    let mut numbers = [0; 5];
+    let mut leaves = [0; MOST_NODES];
+    answered(raw::search(text, margin, &mut leaves, &mut numbers))?;
+    let [low, high, play, read, per_point] = numbers;
+    Ok(Found {
+        low,
+        high,
+        play: match play {
+            0 => Play::None,
+            node => child(text, node as usize),
+        },
+        leaves: nodes(&leaves, read),
+        per_point,
+    })
+}
+
+/// The root child with this node number. The engine tells only this, so the table is
+/// read once more for where each child's run of lines stops.
+fn child(text: &[u8], node: usize) -> Play {
+    let mut stops = [0; MOST_NODES];
+    raw::read(text, &mut [], &mut [], &mut stops, &mut [], &mut []);
+    let children = std::iter::successors(Some(1), |child| Some(usize::from(stops[*child])));
+    let before = children.take_while(|child| *child < node).count();
+    Play::Child {
+        number: 1 + before,
+        node,
+    }
+}
+
+/// The first so many of a list of node numbers.
+pub(crate) fn nodes(list: &[u16], count: i64) -> Vec<usize> {
+    let listed = list.iter().take(count as usize);
+    listed.map(|&node| usize::from(node)).collect()
+}

@@ -1,0 +1,142 @@
+//! Reading a table.
+
+use std::fmt;
+
+use crate::refusal::{Refusal, answered};
+use crate::{MOST_NODES, raw};
+
+/// An accepted table.
+#[derive(Clone, Debug, PartialEq, Eq)]
+#[non_exhaustive]
+pub struct Table {
+    /// T, which the weights under each C sum to.
+    pub total: i64,
+    /// The lowest end, in points.
+    pub lowest: i64,
+    /// The highest end, in points.
+    pub highest: i64,
+    /// K, the most C on a path.
+    pub chances: i64,
+    /// G, the grains in one point: T to the power K.
+    pub per_point: i64,
+    /// The number of leaves.
+    pub leaves: usize,
+    /// The nodes by number, the root first.
+    pub nodes: Vec<Node>,
+}
+
+/// A node of a table.
+#[derive(Clone, Copy, Debug, PartialEq, Eq)]
+#[non_exhaustive]
+pub struct Node {
+    /// Who moves here.
+    pub kind: Kind,
+    /// The node above; none for the root.
+    pub parent: Option<usize>,
+    /// The weight, under a C.
+    pub weight: Option<i64>,
+    /// The utility in points, at a leaf.
+    pub utility: Option<i64>,
+    /// One past the last node under this one.
+    pub stop: usize,
+}
+
+/// Who moves at a node.
+#[derive(Clone, Copy, Debug, PartialEq, Eq)]
+pub enum Kind {
+    /// MAX, who wants a high worth: M.
+    Max,
+    /// MIN, who wants a low worth: N.
+    Min,
+    /// The dice: C.
+    Chance,
+    /// Nobody, it is a leaf: L.
+    Leaf,
+}
+
+impl fmt::Display for Kind {
+    /// The letter that stands for it in a table.
+    fn fmt(&self, f: &mut fmt::Formatter) -> fmt::Result {
+        f.write_str(match self {
+            Kind::Max => "M",
+            Kind::Min => "N",
+            Kind::Chance => "C",
+            Kind::Leaf => "L",
+        })
+    }
+}
+
+impl Table {
+    /// The node numbers of a node's children, in the order of their lines.
+    pub fn children(&self, node: usize) -> impl Iterator<Item = usize> + '_ {
+        let stop = self.nodes[node].stop;
+        let below = move |child: usize| (child < stop).then_some(child);
+        std::iter::successors(below(node + 1), move |&child| below(self.nodes[child].stop))
+    }
+}
+
+/// Reads a table. Refuses 1 to 10.
+///
+/// ```
+/// use margin_engine::{Kind, read};
+///
+/// let text = std::fs::read("../examples/b.txt")?;
+/// let table = read(&text)?;
+/// assert_eq!((table.nodes.len(), table.leaves), (5, 3));
+/// assert_eq!((table.lowest, table.highest), (0, 8));
+/// assert_eq!((table.total, table.per_point), (4, 4));
+/// assert_eq!(table.children(0).collect::<Vec<_>>(), [1, 2]);
+///
+/// let roll = table.nodes[3];
+/// assert_eq!((roll.kind, roll.parent), (Kind::Leaf, Some(2)));
+/// assert_eq!((roll.weight, roll.utility), (Some(3), Some(2)));
+/// # Ok::<(), Box<dyn std::error::Error>>(())
+/// ```
+pub fn read(text: &[u8]) -> Result<Table, Refusal> {
+    let mut numbers = [0; 7];
+    let mut kinds = [0; MOST_NODES];
+    let mut stops = [0; MOST_NODES];
+    let mut weights = [0; MOST_NODES];
+    let mut heights = [0; MOST_NODES];
+    answered(raw::read(
+        text,
+        &mut numbers,
+        &mut kinds,
+        &mut stops,
+        &mut weights,
+        &mut heights,
+    ))?;
+
+    let [count, total, lowest, highest, chances, per_point, leaves] = numbers;
+    let mut nodes: Vec<Node> = Vec::with_capacity(count as usize);
+    for i in 0..count as usize {
+        let kind = match kinds[i] {
+            0 => Kind::Leaf,
+            1 => Kind::Max,
+            2 => Kind::Min,
+            _ => Kind::Chance,
+        };
+        // Depth first, the parent is the node before, or the nearest above that
+        // whose run of lines is not over.
+        let mut parent = i.checked_sub(1);
+        while let Some(above) = parent.filter(|&above| nodes[above].stop <= i) {
+            parent = nodes[above].parent;
+        }
+        nodes.push(Node {
+            kind,
+            parent,
+            weight: (weights[i] > 0).then_some(i64::from(weights[i])),
+            utility: (kind == Kind::Leaf).then_some(lowest + i64::from(heights[i])),
+            stop: usize::from(stops[i]),
+        });
+    }
+    Ok(Table {
+        total,
+        lowest,
+        highest,
+        chances,
+        per_point,
+        leaves: leaves as usize,
+        nodes,
+    })
+}
