@@ -1,0 +1,190 @@
+//! The command line.
+
+use std::collections::VecDeque;
+use std::ffi::{OsStr, OsString};
+use std::fmt;
+
+use crate::input::Source;
+use crate::margin::{Margin, whole_number};
+use crate::verbs::{Question, VERBS, Verb};
+
+/// What the user wants.
+pub enum Asked {
+    /// The help page of a verb, or the list of all.
+    Help(Option<&'static Verb>),
+    Question(Task),
+}
+
+/// A question about a table, and how to answer it.
+pub struct Task {
+    pub question: Box<dyn Question>,
+    pub source: Source,
+    pub tsv: bool,
+}
+
+/// A command line that asks nothing, and the verb that it names, if it does.
+pub struct Wrong {
+    why: String,
+    verb: Option<&'static Verb>,
+}
+
+impl fmt::Display for Wrong {
+    fn fmt(&self, f: &mut fmt::Formatter) -> fmt::Result {
+        writeln!(f, "desk: {}", self.why)?;
+        match self.verb {
+            Some(verb) => {
+                writeln!(f, "usage: {}", verb.usage())?;
+                writeln!(f, "`desk help {}` explains it", verb.name)
+            }
+            None => {
+                let verbs: Vec<String> = VERBS.iter().map(|verb| verb.call()).collect();
+                writeln!(f, "usage: desk VERB [options] [FILE]")?;
+                writeln!(f, "verbs: {}", verbs.join(", "))?;
+                writeln!(f, "`desk help` explains them")
+            }
+        }
+    }
+}
+
+/// Reads the words after the program's name.
+pub fn parse(mut words: impl Iterator<Item = OsString>) -> Result<Asked, Wrong> {
+    let wrong = |why| Wrong { why, verb: None };
+    let first = words.next();
+    let first = first.ok_or_else(|| wrong("a verb is missing".to_string()))?;
+    if ["help", "--help", "-h"].iter().any(|help| first == *help) {
+        let verb = words.next().map(|word| find(&word)).transpose();
+        return verb.map(Asked::Help).map_err(wrong);
+    }
+    let verb = find(&first).map_err(wrong)?;
+    let wrong = |why| Wrong {
+        why,
+        verb: Some(verb),
+    };
+    let words = Words::sort(words).map_err(wrong)?;
+    if words.help {
+        return Ok(Asked::Help(Some(verb)));
+    }
+    words.task(verb).map(Asked::Question).map_err(wrong)
+}
+
+fn find(word: &OsStr) -> Result<&'static Verb, String> {
+    let mut verbs = VERBS.iter().copied();
+    let verb = verbs.find(|verb| word == verb.name);
+    verb.ok_or_else(|| format!("there is no verb {}", quoted(word)))
+}
+
+/// The words after a verb, which takes those that it knows.
+#[derive(Default)]
+pub struct Words {
+    /// Those that are no options, in sequence.
+    plain: VecDeque<OsString>,
+    margin: Option<OsString>,
+    tsv: bool,
+    help: bool,
+}
+
+impl Words {
+    fn sort(mut words: impl Iterator<Item = OsString>) -> Result<Words, String> {
+        let mut sorted = Words::default();
+        while let Some(word) = words.next() {
+            match word.to_str() {
+                Some("--") => {
+                    sorted.plain.extend(words);
+                    break;
+                }
+                Some("--tsv") => sorted.tsv = true,
+                Some("--help" | "-h") => sorted.help = true,
+                Some("--margin") => {
+                    let margin = words.next().ok_or("--margin needs a margin after it")?;
+                    sorted.margin = Some(margin);
+                }
+                Some(option) if is_option(option) => match option.strip_prefix("--margin=") {
+                    Some(margin) => sorted.margin = Some(margin.into()),
+                    None => return Err(format!("there is no option {}", quoted(&word))),
+                },
+                _ => sorted.plain.push_back(word),
+            }
+        }
+        Ok(sorted)
+    }
+
+    /// The task that these words give with this verb. What is left of them is the
+    /// table's file.
+    fn task(mut self, verb: &Verb) -> Result<Task, String> {
+        let question = (verb.ask)(&mut self)?;
+        if self.margin.is_some() {
+            return Err(format!("{} takes no --margin", verb.name));
+        }
+        let source = match self.plain.pop_front() {
+            Some(file) if file != "-" => Source::File(file),
+            _ => Source::StandardInput,
+        };
+        if let Some(word) = self.plain.pop_front() {
+            return Err(format!("{} is one word too many", quoted(&word)));
+        }
+        Ok(Task {
+            question,
+            source,
+            tsv: self.tsv,
+        })
+    }
+
+    /// The next word as a whole number, which its verb calls by this name.
+    pub fn number(&mut self, name: &str) -> Result<i64, String> {
+        let word = self.next(name)?;
+        let number = word.to_str().and_then(whole_number);
+        number.ok_or_else(|| format!("{} is no whole number", quoted(&word)))
+    }
+
+    /// The next word as a margin.
+    pub fn margin(&mut self) -> Result<Margin, String> {
+        let word = self.next("MARGIN")?;
+        margin(&word)
+    }
+
+    /// The margin of the option `--margin`, if it is there.
+    pub fn margin_option(&mut self) -> Result<Option<Margin>, String> {
+        self.margin.take().map(|word| margin(&word)).transpose()
+    }
+
+    /// The next word as a list of bytes, if it is made of digits and commas. Any
+    /// other word is a file's name.
+    pub fn policy(&mut self) -> Result<Vec<u8>, String> {
+        let listed = |c: char| c.is_ascii_digit() || c == ',';
+        let is_list = |word: &str| !word.is_empty() && word.chars().all(listed);
+        let first = self.plain.front().and_then(|word| word.to_str());
+        let Some(list) = first.filter(|word| is_list(word)) else {
+            return Ok(Vec::new());
+        };
+        let bytes: Option<Vec<u8>> = list.split(',').map(|byte| byte.parse().ok()).collect();
+        let policy = bytes.ok_or_else(|| {
+            format!("'{list}' is no policy: write numbers from 0 to 255, as 2,0,1")
+        })?;
+        self.plain.pop_front();
+        Ok(policy)
+    }
+
+    fn next(&mut self, name: &str) -> Result<OsString, String> {
+        let word = self.plain.pop_front();
+        word.ok_or_else(|| format!("{name} is missing"))
+    }
+}
+
+/// Whether a word has the look of an option: a minus, and no number after it.
+fn is_option(word: &str) -> bool {
+    let after = word.strip_prefix('-').unwrap_or_default();
+    after.starts_with(|c: char| !c.is_ascii_digit() && c != '.')
+}
+
+fn margin(word: &OsStr) -> Result<Margin, String> {
+    let margin = word.to_str().and_then(Margin::parse);
+    margin.ok_or_else(|| {
+        let word = quoted(word);
+        format!("{word} is no margin: write points, as 0.05, or whole grains, as 12g")
+    })
+}
+
+/// A word as it can be shown, whatever bytes it has.
+fn quoted(word: &OsStr) -> String {
+    format!("'{}'", word.to_string_lossy().escape_debug())
+}

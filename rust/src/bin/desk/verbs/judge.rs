@@ -1,0 +1,80 @@
+//! `judge NUMBER`: what a play loses.
+
+use margin_engine::{Judgement, Refusal, Table, judge, read};
+
+use super::{Answer, Played, Question, Verb};
+use crate::output::{Amount, Page, Sheet};
+
+pub const VERB: Verb = Verb {
+    name: "judge",
+    arguments: "NUMBER",
+    options: "[--tsv]",
+    does: "tells what a play loses",
+    more: "\
+NUMBER counts the root's children from 1, in the order of their lines. Told are
+the play's loss against the best one, and how many plays are level with the best.
+",
+    ask: |words| {
+        let number = words.number("NUMBER")?;
+        Ok(Box::new(Asked { number }))
+    },
+};
+
+struct Asked {
+    number: i64,
+}
+
+impl Question for Asked {
+    fn answer(&self, text: &[u8]) -> Result<Box<dyn Answer>, Refusal> {
+        let judgement = judge(text, self.number)?;
+        let table = read(text)?;
+        let plays: Vec<usize> = table.children(0).collect();
+        Ok(Box::new(Judged {
+            judgement,
+            played: match judgement {
+                // The engine refuses a number that no child has.
+                Judgement::Loss { .. } => Played::Child {
+                    number: self.number as usize,
+                    node: plays[self.number as usize - 1],
+                },
+                _ => Played::Nobody(table.nodes[0].kind),
+            },
+            plays: plays.len(),
+            per_point: table.per_point,
+        }))
+    }
+
+    fn given(&self, table: &Table) -> String {
+        let children = table.children(0).count();
+        format!("{} was given, and there are {children}", self.number)
+    }
+}
+
+struct Judged {
+    judgement: Judgement,
+    played: Played,
+    /// How many there are.
+    plays: usize,
+    per_point: i64,
+}
+
+impl Answer for Judged {
+    fn people(&self, page: &mut Page) {
+        self.played.people(page);
+        if let Judgement::Loss { grains, level } = self.judgement {
+            page.amount("loss", Amount::of(grains as i64, self.per_point));
+            page.named("level", format_args!("{level} of {} plays", self.plays));
+        }
+        page.grain(self.per_point);
+    }
+
+    fn tsv(&self, sheet: &mut Sheet) {
+        self.played.tsv(sheet);
+        if let Judgement::Loss { grains, level } = self.judgement {
+            sheet.amount("loss", Amount::of(grains as i64, self.per_point));
+            sheet.row("level", &[&level]);
+            sheet.row("plays", &[&self.plays]);
+        }
+        sheet.row("grain", &[&self.per_point]);
+    }
+}

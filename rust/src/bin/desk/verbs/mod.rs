@@ -1,0 +1,107 @@
+//! The verbs, one module each. A new verb is a module and its line in `VERBS`.
+
+mod judge;
+mod rollout;
+mod search;
+mod show;
+mod turn;
+mod worth;
+
+use margin_engine::{Kind, Play, Refusal, Table};
+
+use crate::args::Words;
+use crate::output::{Page, Sheet};
+
+/// All verbs, in the sequence in which help lists them.
+pub const VERBS: [&Verb; 6] = [
+    &show::VERB,
+    &worth::VERB,
+    &judge::VERB,
+    &search::VERB,
+    &turn::VERB,
+    &rollout::VERB,
+];
+
+/// A verb: how it is called, what help says of it, and the question that it asks.
+pub struct Verb {
+    pub name: &'static str,
+    /// What stands after it.
+    pub arguments: &'static str,
+    pub options: &'static str,
+    /// What it does; the verb stands before this.
+    pub does: &'static str,
+    /// What else is good to know.
+    pub more: &'static str,
+    pub ask: fn(&mut Words) -> Result<Box<dyn Question>, String>,
+}
+
+impl Verb {
+    /// The verb and what stands after it.
+    pub fn call(&self) -> String {
+        let call = format!("{} {}", self.name, self.arguments);
+        call.trim_end().to_string()
+    }
+
+    /// The whole line to type.
+    pub fn usage(&self) -> String {
+        format!("desk {} {} [FILE]", self.call(), self.options)
+    }
+}
+
+/// A question about a table.
+pub trait Question {
+    /// Asks the engine.
+    fn answer(&self, text: &[u8]) -> Result<Box<dyn Answer>, Refusal>;
+
+    /// What to say of a refusal that is not for the table but for what was asked
+    /// about it: the words that were given.
+    fn given(&self, _: &Table) -> String {
+        String::new()
+    }
+}
+
+/// An answer in its two forms.
+pub trait Answer {
+    fn people(&self, page: &mut Page);
+    fn tsv(&self, sheet: &mut Sheet);
+}
+
+/// The child of the root that a verb speaks of, by number and node.
+#[derive(Clone, Copy)]
+enum Played {
+    Child {
+        number: usize,
+        node: usize,
+    },
+    /// Nobody chooses at a root of this kind.
+    Nobody(Kind),
+}
+
+impl Played {
+    fn of(play: Play, table: &Table) -> Played {
+        match play {
+            Play::Child { number, node } => Played::Child { number, node },
+            Play::None => Played::Nobody(table.nodes[0].kind),
+        }
+    }
+
+    fn people(&self, page: &mut Page) {
+        match self {
+            Played::Child { number, node } => {
+                page.named("play", format_args!("{number}, node {node}"));
+            }
+            Played::Nobody(kind) => {
+                let root = if *kind == Kind::Leaf { "an L" } else { "a C" };
+                page.named("play", format_args!("none: nobody chooses at {root} root"));
+            }
+        }
+    }
+
+    fn tsv(&self, sheet: &mut Sheet) {
+        let (number, node) = match self {
+            Played::Child { number, node } => (*number, *node),
+            Played::Nobody(_) => (0, 0),
+        };
+        sheet.row("play", &[&number, &node]);
+    }
+}

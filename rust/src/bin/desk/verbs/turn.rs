@@ -1,0 +1,43 @@
+//! `turn`: the table from the other side.
+
+use margin_engine::{Refusal, Turned, read, turn};
+
+use super::{Answer, Question, Verb};
+use crate::output::{Page, Sheet};
+
+pub const VERB: Verb = Verb {
+    name: "turn",
+    arguments: "",
+    options: "[--tsv]",
+    does: "prints the table from the other side",
+    more: "\
+M and N change places, utilities get the other sign, and the two ends are negated
+and exchanged.
+",
+    ask: |_| Ok(Box::new(Asked)),
+};
+
+struct Asked;
+
+impl Question for Asked {
+    fn answer(&self, text: &[u8]) -> Result<Box<dyn Answer>, Refusal> {
+        Ok(Box::new(turn(text)?))
+    }
+}
+
+impl Answer for Turned {
+    fn people(&self, page: &mut Page) {
+        page.raw(&self.text);
+    }
+
+    fn tsv(&self, sheet: &mut Sheet) {
+        let table = read(&self.text).expect("the turned table is a table");
+        sheet.row("nodes", &[&table.nodes.len()]);
+        sheet.row("total", &[&table.total]);
+        sheet.row("lowest", &[&table.lowest]);
+        sheet.row("highest", &[&table.highest]);
+        for (number, node) in table.nodes.iter().enumerate() {
+            sheet.node(number, node, &[]);
+        }
+    }
+}
