@@ -1,5 +1,6 @@
 /*
- * The margin engine's calls, for programs in C. Link target/staticlib/libabi.a, which `rt staticlib abi` makes (x86-64 Linux).
+ * The margin engine's calls, for programs in C (x86-64 Linux). `./install PREFIX` puts this header and the library libmargin_engine.a under
+ * PREFIX, and `pkg-config --cflags --libs margin_engine` says how to compile and link with them.
  *
  * Every call takes any bytes and any numbers, ends, and returns
  *
