@@ -40,7 +40,7 @@ impl Refusal {
     fn words(&self) -> (&'static str, &'static str) {
         match self.number {
             1 => (
-                "the text is not a header and 1 to 1,024 node lines of 24 columns and a newline each",
+                "the text is not a header and 1 to 1,024 node lines, 25 bytes each",
                 "write 24 columns and one newline for each line, blanks at its end too",
             ),
             2 => (
