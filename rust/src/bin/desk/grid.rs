@@ -37,7 +37,7 @@ struct Widths {
     all: usize,
 }
 
-/// Prints the rows under these headings.
+/// Prints the rows, of which there is at least one, under these headings.
 pub fn lay(page: &mut Page, headings: &[&str], rows: &[Row]) {
     let parts: Vec<Vec<Part>> = rows.iter().map(parts).collect();
     let mut columns = vec![Widths::default(); headings.len()];

@@ -63,9 +63,9 @@ fn formed(answer: &dyn Answer, tsv: bool) -> Vec<u8> {
     if tsv {
         let mut sheet = Sheet::default();
         answer.tsv(&mut sheet);
-        return sheet.text().as_bytes().to_vec();
+        return sheet.into_text().into_bytes();
     }
     let mut page = Page::new(output::coloured());
     answer.people(&mut page);
-    page.bytes().to_vec()
+    page.into_bytes()
 }

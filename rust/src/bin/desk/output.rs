@@ -50,8 +50,8 @@ impl Page {
         }
     }
 
-    pub fn bytes(&self) -> &[u8] {
-        &self.bytes
+    pub fn into_bytes(self) -> Vec<u8> {
+        self.bytes
     }
 
     /// A line with a name before it.
@@ -133,8 +133,8 @@ pub struct Sheet {
 }
 
 impl Sheet {
-    pub fn text(&self) -> &str {
-        &self.text
+    pub fn into_text(self) -> String {
+        self.text
     }
 
     /// A line: its name, then its fields.

@@ -80,6 +80,6 @@ impl Refused {
         }
         sheet.row("reason", &[&self.reason()]);
         sheet.row("mend", &[&self.refusal.mend()]);
-        sheet.text().to_string()
+        sheet.into_text()
     }
 }

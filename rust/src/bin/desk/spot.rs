@@ -45,43 +45,31 @@ pub struct Spot {
 /// The fault of a text that is refused so.
 pub fn of(text: &[u8], refusal: &Refusal) -> Spot {
     let lines = text.as_chunks::<LINE>().0;
-    let node = refusal.line.wrapping_sub(1);
-    let fault = match (refusal.number, refusal.line) {
+    let header = lines.first();
+    let faults = match (refusal.number, header) {
         (1, _) => return length(text),
         (13, _) => return first_chance(lines),
-        (2, 0) => ill_written(&lines[0], &[COUNT, TOTAL, LOWEST, HIGHEST], &[]),
-        (2, line) => ill_written(&lines[line], &[NUMBER], &[PARENT, WEIGHT, UTILITY]),
-        (3, 0) => header_range(&lines[0]),
-        (3, line) => node_range(&lines[0], &lines[line]),
-        (4, 0) => {
-            let (count, nodes) = (shown(&lines[0], COUNT), lines.len() - 1);
-            (vec![COUNT], format!("it is {count}, and there are {nodes}"))
+        (2..=4, Some(header)) if refusal.line == 0 => header_faults(header, refusal.number, lines),
+        (2..=10, Some(header)) => {
+            let nodes = Nodes {
+                header,
+                lines: &lines[1..],
+            };
+            nodes.faults(refusal.line - 1, refusal.number)
         }
-        (4, line) => {
-            let number = shown(&lines[line], NUMBER);
-            (vec![NUMBER], format!("it is {number} and should be {node}"))
-        }
-        (5, line) => (vec![KIND], format!("it is `{}`", shown(&lines[line], KIND))),
-        (6, _) => (vec![PARENT], Nodes(&lines[1..]).parent_fault(node)),
-        (7, _) => Nodes(&lines[1..]).missing(node),
-        (8, _) => (vec![KIND], String::new()),
-        (9, _) => {
-            let (sum, total) = (Nodes(&lines[1..]).sum(node), shown(&lines[0], TOTAL));
-            (vec![KIND], format!("they sum to {sum}, and T is {total}"))
-        }
-        (10, _) => Nodes(&lines[1..]).path_fault(node),
         _ => return Spot::default(),
     };
-    let (columns, detail) = fault;
+    let said = faults.iter().map(|(_, fault)| fault.as_str());
+    let said = said.filter(|fault| !fault.is_empty());
     Spot {
         line: Some(lines[refusal.line][..LINE - 1].to_vec()),
-        columns,
-        detail,
+        detail: said.collect::<Vec<_>>().join(", "),
+        columns: faults.iter().map(|(field, _)| *field).collect(),
     }
 }
 
-/// The columns at fault and what is wrong with them.
-type Fault = (Vec<Field>, String);
+/// The columns at fault, and what is wrong with each.
+type Faults = Vec<(Field, String)>;
 
 /// A text whose length is not that of a table.
 fn length(text: &[u8]) -> Spot {
@@ -148,42 +136,40 @@ fn first_chance(lines: &[[u8; LINE]]) -> Spot {
     }
 }
 
-/// The fields of a line that are ill-written: some must hold a number, some may.
-/// A node line, which has some that may, has a kind and a gap before it too.
-fn ill_written(line: &[u8; LINE], must: &[Field], may: &[Field]) -> Fault {
-    let of_node = !may.is_empty();
-    let mut faults: Vec<(Field, &str)> = Vec::new();
-    for &field in must.iter().chain(may) {
-        match number_fault(columns(line, field)) {
-            Some("is blank") if may.contains(&field) => {}
-            Some(fault) => faults.push((field, fault)),
-            None => {}
+/// The faults of a header that is refused with this number.
+fn header_faults(header: &[u8; LINE], number: u8, lines: &[[u8; LINE]]) -> Faults {
+    match number {
+        2 => {
+            let mut faults = ill_written(header, &[COUNT, TOTAL, LOWEST, HIGHEST], &[]);
+            faults.extend(newline_fault(header));
+            faults
+        }
+        3 => header_range(header),
+        _ => {
+            let (count, nodes) = (shown(header, COUNT), lines.len() - 1);
+            vec![(COUNT, format!("it is {count}, and there are {nodes}"))]
         }
     }
-    if of_node && line[4] != b' ' {
-        faults.push((GAP, "is not blank"));
-    }
-    if of_node && line[5] == b' ' {
-        faults.push((KIND, "is blank"));
-    }
-    if line[24] != b'\n' {
-        faults.push((NEWLINE, "is missing in column 25"));
-    }
-    faults.sort_by_key(|(field, _)| field.first);
-    let said = faults
-        .iter()
-        .map(|(field, fault)| format!("{} {fault}", field.name));
-    let detail = said.collect::<Vec<_>>().join(", ");
-    (faults.iter().map(|(field, _)| *field).collect(), detail)
 }
 
-/// What is wrong with a field as a number, if something is.
+/// The fields that are ill-written, of those that must hold a number and those that
+/// may.
+fn ill_written(line: &[u8; LINE], must: &[Field], may: &[Field]) -> Faults {
+    let mut faults = Vec::new();
+    for &field in must.iter().chain(may) {
+        let fault = match blank(line, field) {
+            true => must.contains(&field).then_some("is blank"),
+            false => number_fault(columns(line, field)),
+        };
+        faults.extend(fault.map(|fault| (field, format!("{} {fault}", field.name))));
+    }
+    faults
+}
+
+/// What is wrong with a field that is not blank as a number, if something is.
 fn number_fault(columns: &[u8]) -> Option<&'static str> {
     let start = columns.iter().position(|byte| *byte != b' ');
-    let Some(start) = start else {
-        return Some("is blank");
-    };
-    let written = &columns[start..];
+    let written = &columns[start.unwrap_or(columns.len())..];
     let digits = written.strip_prefix(b"-").unwrap_or(written);
     match digits {
         [.., b' '] => Some("is not right-justified"),
@@ -191,73 +177,94 @@ fn number_fault(columns: &[u8]) -> Option<&'static str> {
         [b' ', ..] => Some("has a blank after its minus"),
         [b'0'] if written.len() > 1 => Some("is -0"),
         [b'0', _, ..] => Some("has a leading zero"),
-        [] => Some("is no number"),
-        _ if digits.iter().all(u8::is_ascii_digit) => None,
+        [_, ..] if digits.iter().all(u8::is_ascii_digit) => None,
         _ => Some("is no number"),
     }
 }
 
+fn newline_fault(line: &[u8; LINE]) -> Option<(Field, String)> {
+    let fault = || (NEWLINE, "the newline is missing in column 25".to_string());
+    (line[LINE - 1] != b'\n').then(fault)
+}
+
 /// The numbers of a header that are out of range.
-fn header_range(line: &[u8; LINE]) -> Fault {
-    let [total, lowest, highest] = [TOTAL, LOWEST, HIGHEST].map(|field| value(line, field));
-    let mut faults: Vec<(Field, &str)> = Vec::new();
+fn header_range(header: &[u8; LINE]) -> Faults {
+    let [total, lowest, highest] = [TOTAL, LOWEST, HIGHEST].map(|field| value(header, field));
+    let mut faults = Vec::new();
     if !(1..=64).contains(&total) {
-        faults.push((TOTAL, "is not 1 to 64"));
+        faults.push((TOTAL, "T is not 1 to 64".to_string()));
     }
     for (end, value) in [(LOWEST, lowest), (HIGHEST, highest)] {
         if value.abs() > 1_000_000 {
-            faults.push((end, "is more than 1,000,000 from 0"));
+            faults.push((end, format!("{} is more than 1,000,000 from 0", end.name)));
         }
     }
     if faults.is_empty() {
-        let detail = "the lowest end is above the highest".to_string();
-        return (vec![LOWEST, HIGHEST], detail);
+        let fault = "the lowest end is above the highest".to_string();
+        faults = vec![(LOWEST, fault), (HIGHEST, String::new())];
     }
-    let said = faults
-        .iter()
-        .map(|(field, fault)| format!("{} {fault}", field.name));
-    let detail = said.collect::<Vec<_>>().join(", ");
-    (faults.iter().map(|(field, _)| *field).collect(), detail)
+    faults
 }
 
-/// The weight or the utility of a node line that is out of range.
-fn node_range(header: &[u8; LINE], line: &[u8; LINE]) -> Fault {
-    let [total, lowest, highest] = [TOTAL, LOWEST, HIGHEST].map(|field| value(header, field));
-    let mut faults = Vec::new();
-    let mut details = Vec::new();
-    if !blank(line, WEIGHT) && !(1..=total).contains(&value(line, WEIGHT)) {
-        faults.push(WEIGHT);
-        details.push(format!("the weight is not 1 to {total}"));
-    }
-    if !blank(line, UTILITY) && !(lowest..=highest).contains(&value(line, UTILITY)) {
-        faults.push(UTILITY);
-        details.push(format!(
-            "the utility is outside the ends {lowest} and {highest}"
-        ));
-    }
-    (faults, details.join(", "))
+/// The node lines of a text with this header. All before the one at fault are right.
+struct Nodes<'a> {
+    header: &'a [u8; LINE],
+    lines: &'a [[u8; LINE]],
 }
-
-/// The node lines of a text. All before the one at fault are right.
-struct Nodes<'a>(&'a [[u8; LINE]]);
 
 impl Nodes<'_> {
-    fn parent(&self, node: usize) -> Option<usize> {
-        let line = &self.0[node];
-        (!blank(line, PARENT)).then(|| value(line, PARENT) as usize)
+    /// The faults of a node's line that is refused with this number.
+    fn faults(&self, node: usize, number: u8) -> Faults {
+        let line = &self.lines[node];
+        match number {
+            2 => self.ill_written(line),
+            3 => self.range(line),
+            4 => {
+                let number = shown(line, NUMBER);
+                vec![(NUMBER, format!("it is {number} and should be {node}"))]
+            }
+            5 => vec![(KIND, format!("it is `{}`", shown(line, KIND)))],
+            6 => vec![(PARENT, self.parent_fault(node))],
+            7 => self.missing(node),
+            8 => vec![(KIND, String::new())],
+            9 => {
+                let (sum, total) = (self.sum(node), shown(self.header, TOTAL));
+                vec![(KIND, format!("they sum to {sum}, and T is {total}"))]
+            }
+            _ => self.path_faults(node),
+        }
     }
 
-    fn kind(&self, node: usize) -> u8 {
-        self.0[node][5]
+    fn ill_written(&self, line: &[u8; LINE]) -> Faults {
+        let mut faults = ill_written(line, &[NUMBER], &[PARENT, WEIGHT, UTILITY]);
+        if line[4] != b' ' {
+            faults.push((GAP, "column 5 is not blank".to_string()));
+        }
+        if line[5] == b' ' {
+            faults.push((KIND, "the kind is blank".to_string()));
+        }
+        faults.extend(newline_fault(line));
+        faults.sort_by_key(|(field, _)| field.first);
+        faults
     }
 
-    /// A node and those above it.
-    fn path(&self, node: usize) -> impl Iterator<Item = usize> + '_ {
-        std::iter::successors(Some(node), |node| self.parent(*node))
+    /// The weight or the utility that is out of range.
+    fn range(&self, line: &[u8; LINE]) -> Faults {
+        let ends = [TOTAL, LOWEST, HIGHEST].map(|field| value(self.header, field));
+        let [total, lowest, highest] = ends;
+        let mut faults = Vec::new();
+        if !blank(line, WEIGHT) && !(1..=total).contains(&value(line, WEIGHT)) {
+            faults.push((WEIGHT, format!("the weight is not 1 to {total}")));
+        }
+        if !blank(line, UTILITY) && !(lowest..=highest).contains(&value(line, UTILITY)) {
+            let fault = format!("the utility is outside the ends {lowest} and {highest}");
+            faults.push((UTILITY, fault));
+        }
+        faults
     }
 
     fn parent_fault(&self, node: usize) -> String {
-        let line = &self.0[node];
+        let line = &self.lines[node];
         if node == 0 {
             return "node 0 has none".to_string();
         }
@@ -273,51 +280,59 @@ impl Nodes<'_> {
         }
     }
 
-    fn missing(&self, node: usize) -> Fault {
-        let line = &self.0[node];
-        let under_chance = self
-            .parent(node)
-            .is_some_and(|above| self.kind(above) == b'C');
+    /// The weight or the utility that is missing or one too many.
+    fn missing(&self, node: usize) -> Faults {
+        let line = &self.lines[node];
+        let parent = self.parent(node);
+        let under_chance = parent.is_some_and(|above| self.kind(above) == b'C');
         let leaf = self.kind(node) == b'L';
         let mut faults = Vec::new();
-        let mut details = Vec::new();
         if blank(line, WEIGHT) == under_chance {
-            faults.push(WEIGHT);
-            details.push(match under_chance {
+            let fault = match under_chance {
                 true => "a child of a C needs a weight",
                 false => "only the children of a C have a weight",
-            });
+            };
+            faults.push((WEIGHT, fault.to_string()));
         }
         if blank(line, UTILITY) == leaf {
-            faults.push(UTILITY);
-            details.push(match leaf {
+            let fault = match leaf {
                 true => "a leaf needs a utility",
                 false => "only a leaf has a utility",
-            });
+            };
+            faults.push((UTILITY, fault.to_string()));
         }
-        (faults, details.join(", "))
+        faults
     }
 
     /// The sum of the weights under a node.
     fn sum(&self, node: usize) -> i64 {
-        let children = (node + 1..self.0.len()).filter(|child| self.parent(*child) == Some(node));
-        children.map(|child| value(&self.0[child], WEIGHT)).sum()
+        let later = node + 1..self.lines.len();
+        let children = later.filter(|child| self.parent(*child) == Some(node));
+        children
+            .map(|child| value(&self.lines[child], WEIGHT))
+            .sum()
     }
 
-    fn path_fault(&self, node: usize) -> Fault {
+    fn path_faults(&self, node: usize) -> Faults {
+        let path = || std::iter::successors(Some(node), |node| self.parent(*node));
+        let chances = path().filter(|node| self.kind(*node) == b'C').count();
         let mut faults = Vec::new();
-        let mut details = Vec::new();
-        if self.kind(node) == b'C'
-            && self.path(node).filter(|on| self.kind(*on) == b'C').count() > 4
-        {
-            faults.push(KIND);
-            details.push("it is the fifth C on its path");
+        if chances > 4 {
+            faults.push((KIND, "it is the fifth C on its path".to_string()));
         }
-        if self.path(node).count() > 64 {
-            faults.push(PARENT);
-            details.push("it is the 65th node on its path");
+        if path().count() > 64 {
+            faults.push((PARENT, "it is the 65th node on its path".to_string()));
         }
-        (faults, details.join(", "))
+        faults
+    }
+
+    fn parent(&self, node: usize) -> Option<usize> {
+        let line = &self.lines[node];
+        (!blank(line, PARENT)).then(|| value(line, PARENT) as usize)
+    }
+
+    fn kind(&self, node: usize) -> u8 {
+        self.lines[node][5]
     }
 }
 
