@@ -1,8 +1,10 @@
-//! Holds the README's figures to what both engines answer about the examples.
+//! Holds the README's figures and examples to what both engines answer.
 
+use compare::hold::desk::{block, root, run};
 use compare::hold::numbers::ROOM;
 use compare::hold::searching::{hold_to, Expected};
 use compare::hold::tally::Tally;
+use compare::second::desk::{self, Form};
 use compare::second::{self, Table};
 
 /// Margins in points, at the ends that the examples have and at narrow ones.
@@ -37,15 +39,58 @@ fn leaves_read(tally: &mut Tally, text: &[u8], points: [i64; 3]) -> String {
     counts.join(", ")
 }
 
+fn readme() -> String {
+    std::fs::read_to_string(root().join("README.md")).expect("README.md")
+}
+
+fn example(file: &str) -> Vec<u8> {
+    std::fs::read(root().join(file)).expect("an example")
+}
+
+/// The first answers in the README are what the second engine and the programs
+/// print. (The margin program is held to the second engine in tests of its own.)
+#[test]
+fn first_answers() {
+    let table = second::read(&example("examples/b.txt")).expect("accepted");
+    let shown = desk::show(&table, Some(12), Form::People).expect("an answer");
+    let command = "show --margin 3 examples/b.txt";
+    assert_eq!(block("README.md", &format!("    ./desk {command}")), shown);
+    let words: Vec<&str> = command.split(' ').collect();
+    run(&words, &[]).answers(&shown);
+
+    let searched = second::output(&example("examples/b-12.txt"));
+    let printed = block("README.md", "    ./margin examples/b-12.txt");
+    assert_eq!(printed, searched);
+}
+
+/// The sentence on the leaves read of all rolls at two margins.
+#[test]
+fn all_rolls() {
+    let input = example("examples/rolls-720.txt");
+    let (margin, text) = input.split_at(15);
+    assert_eq!(margin, b"           720\n");
+    let table = second::read(text).expect("accepted");
+    assert_eq!((table.total, table.grains), (36, 36));
+    let mut tally = Tally::new("searching the README's rolls");
+    let read = leaves_read(&mut tally, text, [0, 20, 1_000]);
+    let read: Vec<&str> = read.split(", ").collect();
+    let sentence = format!(
+        "at margin 0 {} of its {} leaves are read, at 36000 grains {}.",
+        read[0], table.leaves, read[2]
+    );
+    let readme = readme();
+    let words: Vec<&str> = readme.split_whitespace().collect();
+    assert!(words.join(" ").contains(&sentence), "{sentence}");
+}
+
 /// The README's rows of leaves read are what the engines read of the examples.
 #[test]
 fn readme_rows() {
-    let root = std::path::Path::new(env!("CARGO_MANIFEST_DIR")).join("..");
-    let readme = std::fs::read_to_string(root.join("README.md")).expect("README.md");
+    let readme = readme();
     let mut tally = Tally::new("searching the README's examples");
     for name in ["opening", "race", "bear-off", "replies"] {
         let file = format!("examples/{name}.txt");
-        let text = std::fs::read(root.join(&file)).expect("an example");
+        let text = example(&file);
         let table = second::read(&text).expect("accepted");
         let wide = leaves_read(&mut tally, &text, README_MARGINS[0]);
         let narrow = leaves_read(&mut tally, &narrowed(&text, &table), README_MARGINS[1]);

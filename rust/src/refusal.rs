@@ -45,7 +45,7 @@ impl Refusal {
             ),
             2 => (
                 "the line is ill-written",
-                "right-justify each number in its columns, with nothing but blanks before it",
+                "right-justify each number, with blanks alone before it; column 5 is blank, 6 the kind, 25 the newline",
             ),
             3 => (
                 "a number is out of range",

@@ -3,6 +3,7 @@
 //! It shares nothing with the proved engine, so that a misreading of the
 //! document would have to be made twice to go unseen. One module a subject.
 
+pub mod desk;
 mod judge;
 mod program;
 mod read;

@@ -111,10 +111,10 @@ impl Words {
     /// The task that these words give with this verb. What is left of them is the
     /// table's file.
     fn task(mut self, verb: &Verb) -> Result<Task, String> {
-        let question = (verb.ask)(&mut self)?;
-        if self.margin.is_some() {
-            return Err(format!("{} takes no --margin", verb.name));
+        if self.margin.is_some() && !verb.options.contains("--margin") {
+            return Err(format!("{} takes no --margin", verb.call()));
         }
+        let question = (verb.ask)(&mut self)?;
         let source = match self.plain.pop_front() {
             Some(file) if file != "-" => Source::File(file),
             _ => Source::StandardInput,

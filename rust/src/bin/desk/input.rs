@@ -9,6 +9,10 @@ use margin_engine::MOST_BYTES;
 
 use crate::output::complain;
 
+/// So much of a text is read: a few columns more than the longest table has, so that
+/// one that is too long is seen to be, and where. Longer ones have no end that matters.
+pub const LOOKED_AT: usize = MOST_BYTES + 64;
+
 /// A file, or standard input.
 pub enum Source {
     File(OsString),
@@ -16,8 +20,7 @@ pub enum Source {
 }
 
 impl Source {
-    /// The table's text. Of a text that is too long it is enough to see that, so
-    /// one byte more than the longest table is read at most.
+    /// The table's text, or the beginning of one that is too long.
     pub fn read(&self) -> Result<Vec<u8>, String> {
         let read = match self {
             Source::File(name) => File::open(name).and_then(some),
@@ -39,8 +42,8 @@ impl Source {
 }
 
 fn some(from: impl Read) -> io::Result<Vec<u8>> {
-    let mut text = Vec::with_capacity(MOST_BYTES + 1);
-    from.take(MOST_BYTES as u64 + 1).read_to_end(&mut text)?;
+    let mut text = Vec::with_capacity(LOOKED_AT);
+    from.take(LOOKED_AT as u64).read_to_end(&mut text)?;
     Ok(text)
 }
 

@@ -1,7 +1,9 @@
 //! Where in a refused table the fault shows. The refusal's number and line are the
 //! engine's; this reads the line again to point at its columns, for the eye.
 
-use margin_engine::{LINE, MOST_BYTES, MOST_NODES, Refusal};
+use margin_engine::{LINE, Refusal};
+
+use crate::input::LOOKED_AT;
 
 /// A stretch of columns, counted from 1, and what stands there.
 #[derive(Clone, Copy, Debug, PartialEq, Eq)]
@@ -62,7 +64,7 @@ pub fn of(text: &[u8], refusal: &Refusal) -> Spot {
     let said = faults.iter().map(|(_, fault)| fault.as_str());
     let said = said.filter(|fault| !fault.is_empty());
     Spot {
-        line: Some(lines[refusal.line][..LINE - 1].to_vec()),
+        line: Some(without_newline(&lines[refusal.line]).to_vec()),
         detail: said.collect::<Vec<_>>().join(", "),
         columns: faults.iter().map(|(field, _)| *field).collect(),
     }
@@ -73,54 +75,53 @@ type Faults = Vec<(Field, String)>;
 
 /// A text whose length is not that of a table.
 fn length(text: &[u8]) -> Spot {
-    if text.is_empty() {
-        return Spot {
-            detail: "it is empty".to_string(),
-            ..Spot::default()
+    let Some((number, line)) = odd_line(text) else {
+        let detail = match text.len() {
+            0 => "it is empty",
+            ..=LINE => "it has no node line",
+            _ => "it has more than 1,024 node lines",
         };
-    }
-    let cut = text.len() > MOST_BYTES;
-    let mut lines = text.split_inclusive(|byte| *byte == b'\n').enumerate();
-    let odd = lines.find(|(_, line)| match line.split_last() {
-        Some((b'\n', columns)) => columns.len() != LINE - 1,
-        // Of a text that was read only in part, the last line may go on.
-        _ => !cut || line.len() > LINE - 1,
-    });
-    let Some((number, line)) = odd else {
         return Spot {
-            detail: match cut {
-                true => format!("it has more than {MOST_NODES} node lines"),
-                false => "it has no node line".to_string(),
-            },
+            detail: detail.to_string(),
             ..Spot::default()
         };
     };
-
-    let ended = line.ends_with(b"\n");
-    let columns = line.strip_suffix(b"\n").unwrap_or(line);
+    let columns = without_newline(line);
     let shown = &columns[..columns.len().min(SHOWN)];
     let marked = match shown.len() {
         24 => NEWLINE,
         short @ 0..24 => field(short + 1, 24, ""),
         long => field(25, long, ""),
     };
-    let detail = match columns {
-        [.., b'\r'] if columns.len() == LINE => {
-            format!("line {number} has a carriage return before its newline")
+    let ended = columns.len() < line.len();
+    let fault = match (columns, ended) {
+        ([.., b'\r'], true) if columns.len() == LINE => {
+            "has a carriage return before its newline".to_string()
         }
-        _ if number == 0 && ended && columns.len() == 14 => {
-            "line 0 has 14 columns, like a margin line; desk takes the margin after the verb"
-                .to_string()
+        (_, true) if number == 0 && columns.len() == 14 => {
+            "has 14 columns, like a margin line; desk takes the margin after the verb".to_string()
         }
-        _ if columns.len() == LINE - 1 => format!("line {number} has no newline"),
-        _ if cut && !ended => format!("line {number} is much longer than 24 columns"),
-        _ => format!("line {number} has {} columns", columns.len()),
+        (_, false) if columns.len() == LINE - 1 => "has no newline".to_string(),
+        (_, false) if text.len() == LOOKED_AT => "is much longer than 24 columns".to_string(),
+        ([], _) => "is empty".to_string(),
+        _ => format!("ends after column {}, not 24", columns.len()),
     };
     Spot {
         line: Some(shown.to_vec()),
         columns: vec![marked],
-        detail,
+        detail: format!("line {number} {fault}"),
     }
+}
+
+/// The first line that is not 24 columns and a newline, and its number.
+fn odd_line(text: &[u8]) -> Option<(usize, &[u8])> {
+    let read_to_its_end = text.len() < LOOKED_AT;
+    let mut lines = text.split_inclusive(|byte| *byte == b'\n').enumerate();
+    lines.find(|(_, line)| match line.split_last() {
+        Some((b'\n', columns)) => columns.len() != LINE - 1,
+        // Where the text goes on, its last line may too.
+        _ => read_to_its_end || line.len() > LINE - 1,
+    })
 }
 
 /// The first C of an accepted table.
@@ -130,7 +131,7 @@ fn first_chance(lines: &[[u8; LINE]]) -> Spot {
         return Spot::default();
     };
     Spot {
-        line: Some(lines[1 + node][..LINE - 1].to_vec()),
+        line: Some(without_newline(&lines[1 + node]).to_vec()),
         columns: vec![KIND],
         detail: format!("the first is node {node}"),
     }
@@ -197,11 +198,15 @@ fn header_range(header: &[u8; LINE]) -> Faults {
     for (end, value) in [(LOWEST, lowest), (HIGHEST, highest)] {
         if value.abs() > 1_000_000 {
             faults.push((end, format!("{} is more than 1,000,000 from 0", end.name)));
+        } else if lowest > highest {
+            let above = "is above the highest end";
+            let fault = if end == LOWEST {
+                above
+            } else {
+                "is below the lowest end"
+            };
+            faults.push((end, format!("{} {fault}", end.name)));
         }
-    }
-    if faults.is_empty() {
-        let fault = "the lowest end is above the highest".to_string();
-        faults = vec![(LOWEST, fault), (HIGHEST, String::new())];
     }
     faults
 }
@@ -334,6 +339,10 @@ impl Nodes<'_> {
     fn kind(&self, node: usize) -> u8 {
         self.lines[node][5]
     }
+}
+
+fn without_newline(line: &[u8]) -> &[u8] {
+    line.strip_suffix(b"\n").unwrap_or(line)
 }
 
 fn columns(line: &[u8; LINE], field: Field) -> &[u8] {

@@ -1,0 +1,25 @@
+//! The desk's command, held to what the second engine says by docs/DESK.md: every
+//! byte of an answer, the number, the line and the marks of a refusal, the exit
+//! status, and that nothing else is written.
+//!
+//! The program is looked for at `../rust/target/release/desk`, or where the
+//! environment variable DESK_PROGRAM says (a relative name counts from this
+//! package's folder).
+
+mod questions;
+mod refused;
+mod run;
+
+pub use questions::*;
+pub use refused::*;
+pub use run::*;
+
+/// The verbs, with what they need before the file.
+pub const VERBS: [&[&str]; 6] = [
+    &["show"],
+    &["worth"],
+    &["judge", "1"],
+    &["search", "0"],
+    &["turn"],
+    &["rollout"],
+];

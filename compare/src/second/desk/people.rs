@@ -1,0 +1,185 @@
+//! The answers for people: lines of a name and what it names, and columns.
+
+use std::fmt::Display;
+
+use super::columns::{points, side_by_side, Column};
+use super::{letter, plays, tree, Play, RolledOut, Searched};
+use crate::second::{worths, Kind, Table};
+
+/// The columns of a name, the blanks after it included.
+const NAME: usize = 8;
+
+/// The last column of a line of the leaves read.
+const LAST_COLUMN: usize = 79;
+
+pub fn worth(table: &Table, worth: i64) -> String {
+    amount("worth", table, worth) + &grain(table)
+}
+
+/// The play judged and how many are level, and how many plays there are.
+pub fn judge(table: &Table, judged: Option<(&Play, usize)>, plays: usize) -> String {
+    let mut answer = play(table, judged.map(|(play, _)| (play.number, play.node)));
+    if let Some((play, level)) = judged {
+        answer += &amount("loss", table, play.loss);
+        answer += &line("level", format!("{level} of {plays} plays"));
+    }
+    answer + &grain(table)
+}
+
+pub fn search(table: &Table, searched: &Searched) -> String {
+    found(table, searched) + &read(&searched.read) + &grain(table)
+}
+
+pub fn rollout(table: &Table, out: &RolledOut) -> String {
+    let mut answer = amount("worth", table, out.rolled.worth);
+    answer += &leaves(table, out.read.len());
+    answer += &read(&out.read);
+    answer += &grain(table);
+    answer += "\n";
+    let lows: Vec<i64> = out.records.iter().map(|bounds| bounds.low).collect();
+    let highs: Vec<i64> = out.records.iter().map(|bounds| bounds.high).collect();
+    answer
+        + &side_by_side(&[
+            Column::of_numbers("node", 0..lows.len()),
+            Column::of_amounts("low", table, &lows),
+            Column::of_amounts("high", table, &highs),
+        ])
+}
+
+pub fn show(table: &Table, searched: Option<&Searched>) -> String {
+    let mut answer = header(table);
+    if let Some(searched) = searched {
+        answer += &found(table, searched);
+    }
+    answer += &grain(table);
+    answer += "\n";
+    answer += &drawn(table, searched);
+    if let Some(searched) = searched {
+        answer += &standings(table, searched);
+    }
+    answer
+}
+
+/// The tree, and which leaves the search read.
+fn drawn(table: &Table, searched: Option<&Searched>) -> String {
+    let mut columns = vec![
+        Column::of_words("tree", tree::lines(table)),
+        Column::of_amounts("worth", table, &worths(table)),
+    ];
+    if let Some(searched) = searched {
+        let word = |node| if searched.has_read(node) { "read" } else { "" };
+        let words = (0..table.nodes.len()).map(|node| word(node).to_string());
+        columns.push(Column::of_words("", words.collect()));
+    }
+    side_by_side(&columns)
+}
+
+/// How each play stands to the search's margin; nothing where nobody chooses.
+fn standings(table: &Table, searched: &Searched) -> String {
+    let plays = plays(table);
+    if plays.is_empty() {
+        return String::new();
+    }
+    let worths: Vec<i64> = plays.iter().map(|play| play.worth).collect();
+    let losses: Vec<i64> = plays.iter().map(|play| play.loss).collect();
+    let standings = plays.iter().map(|play| standing(searched, play));
+    let columns = side_by_side(&[
+        Column::of_numbers("number", plays.iter().map(|play| play.number)),
+        Column::of_numbers("node", plays.iter().map(|play| play.node)),
+        Column::of_amounts("worth", table, &worths),
+        Column::of_amounts("loss", table, &losses),
+        Column::of_words("standing", standings.collect()),
+    ]);
+    format!("\n{columns}")
+}
+
+fn standing(searched: &Searched, play: &Play) -> String {
+    let mut words = Vec::new();
+    if searched.found.play == Some(play.node) {
+        words.push("play");
+    }
+    if play.loss == 0 {
+        words.push("best");
+    }
+    words.push(if searched.within(play) {
+        "within the margin"
+    } else {
+        "past the margin"
+    });
+    words.join(", ")
+}
+
+// The lines of several answers
+
+/// The margin, and what the search found.
+fn found(table: &Table, searched: &Searched) -> String {
+    let mut answer = amount("margin", table, searched.margin);
+    answer += &amount("low", table, searched.found.low);
+    answer += &amount("high", table, searched.found.high);
+    answer += &play(table, searched.play(table));
+    answer + &leaves(table, searched.read.len())
+}
+
+fn header(table: &Table) -> String {
+    line(
+        "table",
+        format!(
+            "{} nodes, {} leaves, T {}, ends {} and {}, K {}",
+            table.nodes.len(),
+            table.leaves,
+            table.total,
+            table.lowest,
+            table.highest,
+            table.chances
+        ),
+    )
+}
+
+fn play(table: &Table, play: Option<(usize, usize)>) -> String {
+    let written = match play {
+        Some((number, node)) => format!("{number}, node {node}"),
+        None => {
+            let kind = table.nodes[0].kind;
+            let article = if kind == Kind::Leaf { "an" } else { "a" };
+            format!("none: nobody chooses at {article} {} root", letter(kind))
+        }
+    };
+    line("play", written)
+}
+
+fn leaves(table: &Table, read: usize) -> String {
+    line("leaves", format!("{read} of {} read", table.leaves))
+}
+
+/// The leaves read, as many in a line as it has room for.
+fn read(leaves: &[u16]) -> String {
+    let mut lines: Vec<String> = Vec::new();
+    for leaf in leaves {
+        let leaf = leaf.to_string();
+        match lines.last_mut() {
+            Some(line) if NAME + line.len() + 1 + leaf.len() <= LAST_COLUMN => {
+                line.push(' ');
+                line.push_str(&leaf);
+            }
+            _ => lines.push(leaf),
+        }
+    }
+    let names = std::iter::once("read").chain(std::iter::repeat(""));
+    names
+        .zip(lines)
+        .map(|(name, text)| line(name, text))
+        .collect()
+}
+
+fn grain(table: &Table) -> String {
+    line("grain", format!("{}g to the point", table.grains))
+}
+
+fn amount(name: &str, table: &Table, grains: i64) -> String {
+    let points = points(table, grains);
+    line(name, format!("{points} points ({grains}g)"))
+}
+
+fn line(name: &str, named: impl Display) -> String {
+    format!("{name:<NAME$}{named}\n")
+}

@@ -1,0 +1,156 @@
+//! The answers for spreadsheets: lines of fields, the first of which is a name.
+
+use std::fmt::Display;
+
+use super::columns::points;
+use super::{letter, plays, Play, RolledOut, Searched};
+use crate::second::{worths, Kind, Table};
+
+pub fn worth(table: &Table, worth: i64) -> String {
+    row("worth", &[&amount(table, worth)]) + &grain(table)
+}
+
+/// The play judged and how many are level, and how many plays there are.
+pub fn judge(table: &Table, judged: Option<(&Play, usize)>, plays: usize) -> String {
+    let mut answer = play(judged.map(|(play, _)| (play.number, play.node)));
+    if let Some((play, level)) = judged {
+        answer += &row("loss", &[&amount(table, play.loss)]);
+        answer += &row("level", &[&level]);
+        answer += &row("plays", &[&plays]);
+    }
+    answer + &grain(table)
+}
+
+pub fn search(table: &Table, searched: &Searched) -> String {
+    found(table, searched) + &leaves(table) + &read(&searched.read) + &grain(table)
+}
+
+/// The table is the turned one.
+pub fn turn(table: &Table) -> String {
+    let mut answer = nodes(table) + &total_and_ends(table);
+    for node in 0..table.nodes.len() {
+        answer += &row("node", &[&line(table, node)]);
+    }
+    answer
+}
+
+pub fn rollout(table: &Table, out: &RolledOut) -> String {
+    let mut answer = row("worth", &[&amount(table, out.rolled.worth)]);
+    answer += &leaves(table);
+    answer += &read(&out.read);
+    for (node, bounds) in out.records.iter().enumerate() {
+        let (low, high) = (amount(table, bounds.low), amount(table, bounds.high));
+        answer += &row("record", &[&node, &low, &high]);
+    }
+    answer + &grain(table)
+}
+
+pub fn show(table: &Table, searched: Option<&Searched>) -> String {
+    let mut answer = nodes(table) + &leaves(table) + &total_and_ends(table);
+    answer += &row("chances", &[&table.chances]);
+    answer += &grain(table);
+    if let Some(searched) = searched {
+        answer += &found(table, searched);
+        answer += &row("read", &[&searched.read.len()]);
+    }
+    for (node, worth) in worths(table).into_iter().enumerate() {
+        let (line, worth) = (line(table, node), amount(table, worth));
+        answer += &match searched {
+            None => row("node", &[&line, &worth]),
+            Some(searched) => {
+                let leaf = table.nodes[node].kind == Kind::Leaf;
+                let read = leaf.then(|| bit(searched.has_read(node)));
+                row("node", &[&line, &worth, &field(read)])
+            }
+        };
+    }
+    if let Some(searched) = searched {
+        for play in plays(table) {
+            answer += &child(table, searched, &play);
+        }
+    }
+    answer
+}
+
+fn child(table: &Table, searched: &Searched, play: &Play) -> String {
+    row(
+        "child",
+        &[
+            &play.number,
+            &play.node,
+            &amount(table, play.worth),
+            &amount(table, play.loss),
+            &bit(searched.within(play)),
+            &bit(searched.found.play == Some(play.node)),
+        ],
+    )
+}
+
+// The lines of several answers
+
+/// The margin, the bounds and the play.
+fn found(table: &Table, searched: &Searched) -> String {
+    let mut answer = row("margin", &[&amount(table, searched.margin)]);
+    answer += &row("low", &[&amount(table, searched.found.low)]);
+    answer += &row("high", &[&amount(table, searched.found.high)]);
+    answer + &play(searched.play(table))
+}
+
+fn play(play: Option<(usize, usize)>) -> String {
+    let (number, node) = play.unwrap_or((0, 0));
+    row("play", &[&number, &node])
+}
+
+fn nodes(table: &Table) -> String {
+    row("nodes", &[&table.nodes.len()])
+}
+
+fn leaves(table: &Table) -> String {
+    row("leaves", &[&table.leaves])
+}
+
+fn total_and_ends(table: &Table) -> String {
+    let mut rows = row("total", &[&table.total]);
+    rows += &row("lowest", &[&table.lowest]);
+    rows + &row("highest", &[&table.highest])
+}
+
+/// How many leaves were read, and each of them.
+fn read(leaves: &[u16]) -> String {
+    let each = leaves.iter().map(|leaf| row("leaf", &[leaf]));
+    row("read", &[&leaves.len()]) + &each.collect::<String>()
+}
+
+fn grain(table: &Table) -> String {
+    row("grain", &[&table.grains])
+}
+
+// Fields
+
+/// A line of the table: its number, parent, kind, weight and utility.
+fn line(table: &Table, number: usize) -> String {
+    let node = &table.nodes[number];
+    let (kind, parent) = (letter(node.kind), field(node.parent));
+    let (weight, utility) = (field(node.weight), field(node.utility));
+    format!("{number}\t{parent}\t{kind}\t{weight}\t{utility}")
+}
+
+/// The two fields of an amount.
+fn amount(table: &Table, grains: i64) -> String {
+    format!("{grains}\t{}", points(table, grains))
+}
+
+/// A field, empty where the node does not have it.
+fn field(value: Option<impl Display>) -> String {
+    value.map_or(String::new(), |value| value.to_string())
+}
+
+fn bit(yes: bool) -> u8 {
+    u8::from(yes)
+}
+
+/// A line: the name and the fields, with a tab between two.
+fn row(name: &str, fields: &[&dyn Display]) -> String {
+    let fields = fields.iter().map(|field| format!("\t{field}"));
+    format!("{name}{}\n", fields.collect::<String>())
+}

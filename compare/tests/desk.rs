@@ -1,0 +1,443 @@
+//! Holds the answers of the desk's command to the second engine, in both forms, and
+//! to its description, docs/DESK.md.
+//!
+//! SEED sets the seed of the random tables.
+
+use std::io::Write;
+use std::thread;
+use std::time::Duration;
+
+use compare::hold;
+use compare::hold::desk::Question::{Judge, Rollout, Search, Show, ShowTo, Turn, Worth};
+use compare::hold::desk::*;
+use compare::hold::rolling::policies;
+use compare::hold::seen::{Seen, ROOTS};
+use compare::random::Random;
+use compare::second::desk::{self, Form, FORMS};
+use compare::second::{self, Refusal, Table};
+use compare::texts::examples::*;
+use compare::texts::knobs::{Kinds, Knobs};
+
+const EXAMPLES: [&str; 6] = ["a", "b", "opening", "bear-off", "race", "replies"];
+
+// ---------------------------------------------------------------------------
+// Answers
+// ---------------------------------------------------------------------------
+
+/// Margins in points and in grains.
+const MARGINS: [&str; 10] = [
+    "0", "3", "0.05", "50", "12.345", "300.0", "0g", "12g", "1800g", "1000001g",
+];
+
+/// Every verb in both forms: the plays one after another, and several margins.
+#[test]
+fn every_verb_on_the_examples() {
+    let mut comparison = Comparison::new("desk on the examples");
+    for name in EXAMPLES {
+        let (file, text) = example(name);
+        let table = second::read(&text).expect("accepted");
+        let children = hold::root_children(&table) as i64;
+        assert!(children >= 2, "{name}: nothing to judge");
+        let mut questions = vec![Show, Worth, Turn];
+        questions.extend((1..=children).map(Judge));
+        for margin in MARGINS {
+            questions.push(Search(margin.to_string()));
+            questions.push(ShowTo(margin.to_string()));
+        }
+        if table.chances == 0 {
+            let policies = [&[][..], &[0], &[1, 1], &[255, 3], &[2, 0, 1]];
+            questions.extend(policies.map(|policy| Rollout(policy.to_vec())));
+        }
+        for (number, question) in questions.iter().enumerate() {
+            let way = match number % 5 {
+                3 => Way::Input,
+                4 => Way::Dash,
+                _ => Way::File(&file),
+            };
+            comparison.answered(question, &text, way);
+        }
+    }
+    comparison.demand(300);
+    let rollouts = EXAMPLES.map(|name| second::read(&example(name).1).expect("accepted").chances);
+    assert!(rollouts.contains(&0), "no example was rolled out");
+}
+
+/// Each verb with the table from a file, from standard input and as `-`.
+#[test]
+fn every_verb_by_every_way() {
+    let mut comparison = Comparison::new("desk by every way");
+    let (file, text) = example("a");
+    let questions = [
+        Show,
+        ShowTo("0.5".to_string()),
+        Worth,
+        Judge(2),
+        Search("1".to_string()),
+        Turn,
+        Rollout(Vec::new()),
+        Rollout(vec![2, 0, 1]),
+    ];
+    for question in &questions {
+        for way in [Way::File(&file), Way::Input, Way::Dash] {
+            comparison.answered(question, &text, way);
+        }
+    }
+    comparison.demand(48);
+}
+
+/// A random margin as it may be written, for a table of this span.
+fn random_margin(table: &Table, random: &mut Random) -> String {
+    let span = hold::span(table);
+    match random.below(5) {
+        0 => "0".to_string(),
+        1 => format!("{}g", random.between(0, span)),
+        2 => format!("{}g", random.between(0, span / 20)),
+        3 => format!("0.{:06}", random.between(0, 999_999)),
+        _ => {
+            let points = random.between(0, table.highest - table.lowest);
+            format!("{points}.{:03}", random.between(0, 999))
+        }
+    }
+}
+
+/// A policy no longer than a word of a command may be.
+fn as_a_word(mut policy: Vec<u8>) -> Vec<u8> {
+    policy.truncate(30_000);
+    policy
+}
+
+fn random_question(table: &Table, random: &mut Random) -> Question {
+    match random.below(8) {
+        0 => Worth,
+        1 => {
+            let children = hold::root_children(table) as i64;
+            Judge(random.between(1, children.max(1)))
+        }
+        2 => Search(random_margin(table, random)),
+        3 => Turn,
+        4 => {
+            let mut policies = policies(random);
+            let policy = policies.swap_remove(random.below(policies.len()));
+            Rollout(as_a_word(policy))
+        }
+        5 => Show,
+        6 => ShowTo(random_margin(table, random)),
+        _ => match random.below(4) {
+            0 => Judge(random.pick(&[0, -1, 1_024, i64::MAX, i64::MIN])),
+            1 => Search("-1g".to_string()),
+            2 => Search("40000000000000g".to_string()),
+            _ => ShowTo(format!("{}g", random.between(-2, 2))),
+        },
+    }
+}
+
+/// Tables of every sort, a question each. It also fails where the tables or the
+/// answers were too much alike to mean anything.
+#[test]
+fn random_tables() {
+    let mut comparison = Comparison::new("desk on random tables");
+    let mut seen = Seen::default();
+    for number in 0..360 {
+        let random = &mut Random::of_case(comparison.tally.seed, number);
+        let knobs = match number % 12 {
+            0 => Knobs::close(random),
+            1 => Knobs::narrow(random),
+            2 => Knobs::ties(random),
+            3 => Knobs::forced(random),
+            4 => Knobs::dice(random),
+            5 => Knobs::plain(random),
+            6 => Knobs::largest(random),
+            7 => Knobs::largest_flat(b"MN", random),
+            8 => Knobs::largest_chains(random),
+            9 => Knobs {
+                nodes: 1,
+                ..Knobs::any(random)
+            },
+            10 => Knobs {
+                root: Kinds::either(1),
+                ..Knobs::any(random)
+            },
+            _ => Knobs::any(random),
+        };
+        let text = knobs.text(random);
+        let table = second::read(&text).expect("valid");
+        let question = random_question(&table, random);
+        let form = random.pick(&FORMS);
+        let file = written("desk-random.txt", &text);
+        let way = [Way::File(&file), Way::Input, Way::Dash][random.below(3)];
+        let answer = comparison.hold(&question, &text, form, way);
+
+        seen.count_table(&table);
+        seen.count_root(&ROOTS, &table);
+        seen.count_chances(&table);
+        for verb in VERBS {
+            let is_one = question.words()[0] == verb[0];
+            for one in FORMS {
+                let sort = format!("{} for {one:?}", verb[0]);
+                seen.count(&sort, is_one && form == one);
+            }
+        }
+        let refused = answer.as_ref().err().map(|refusal| refusal.number);
+        seen.count("an answer", answer.is_ok());
+        for number in [12, 13, 14] {
+            seen.count(&format!("refused {number}"), refused == Some(number));
+        }
+        let answer = answer.unwrap_or_default();
+        let has = |part| answer.contains(part);
+        seen.count("leaves read in several lines", has("\n        "));
+        seen.count("a play past the margin", has("past the margin"));
+        seen.count("below zero", has(" -") || has("\t-"));
+    }
+    comparison.demand(360);
+    seen.demand(2);
+}
+
+/// Rollouts of random tables without C, by several policies.
+#[test]
+fn rollouts() {
+    let mut comparison = Comparison::new("desk on rollouts");
+    let mut seen = Seen::default();
+    for number in 0..24 {
+        let random = &mut Random::of_case(comparison.tally.seed, number);
+        let knobs = match number % 4 {
+            0 => Knobs::largest_plain(random),
+            // Between equal ends no leaf is read.
+            1 => Knobs {
+                ends: (-5, -5),
+                ..Knobs::plain(random)
+            },
+            _ => Knobs::plain(random),
+        };
+        let text = knobs.text(random);
+        for policy in policies(random) {
+            let form = random.pick(&FORMS);
+            let question = Rollout(as_a_word(policy));
+            let answer = comparison.hold(&question, &text, form, Way::Input);
+            let answer = answer.expect("a table without C");
+            seen.count("no leaf read", answer.contains("leaves  0 of"));
+            seen.count("some leaf read", answer.contains("\nread    "));
+            seen.count("no leaf, in fields", answer.contains("\nread\t0\n"));
+            seen.count("some leaf, in fields", answer.contains("\nleaf\t"));
+        }
+    }
+    comparison.demand(48);
+    seen.demand(2);
+}
+
+/// A table that comes in pieces is read to its end.
+#[test]
+fn input_in_pieces() {
+    let (_, text) = example("replies");
+    let table = second::read(&text).expect("accepted");
+    let mut child = start(command(&["worth"]));
+    let mut stdin = child.stdin.take().expect("a pipe");
+    for piece in text.chunks(5_000) {
+        stdin.write_all(piece).expect("the program reads");
+        thread::sleep(Duration::from_millis(5));
+    }
+    drop(stdin);
+    let output = child.wait_with_output().expect("the program ends");
+    let ran = Ran::new("desk worth, in pieces".to_string(), output);
+    ran.answers(&desk::worth(&table, Form::People));
+}
+
+/// A chain of C with T 20, whose last has a leaf of this utility with this
+/// weight; all its other leaves are at 0.
+fn in_eight_thousandths(weight: i64, utility: i64) -> Vec<u8> {
+    let last = 20 - weight;
+    format!(
+        "   7  20      -1       1\n\
+         \x20  0 C                  \n\
+         \x20  1 L    0   19       0\n\
+         \x20  2 C    0    1        \n\
+         \x20  3 L    2   19       0\n\
+         \x20  4 C    2    1        \n\
+         \x20  5 L    4{weight:>5}{utility:>8}\n\
+         \x20  6 L    4{last:>5}       0\n"
+    )
+    .into_bytes()
+}
+
+/// To the nearest thousandth, halves away from zero, and no minus before zero.
+#[test]
+fn points_are_rounded() {
+    let known = [
+        (3, 1, "0.000 points (3g)"),
+        (3, -1, "0.000 points (-3g)"),
+        (4, 1, "0.001 points (4g)"),
+        (4, -1, "-0.001 points (-4g)"),
+        (5, 1, "0.001 points (5g)"),
+        (11, -1, "-0.001 points (-11g)"),
+        (12, 1, "0.002 points (12g)"),
+        (12, -1, "-0.002 points (-12g)"),
+    ];
+    for (weight, utility, amount) in known {
+        let text = in_eight_thousandths(weight, utility);
+        let table = second::read(&text).expect("accepted");
+        let answer = desk::worth(&table, Form::People);
+        let expected = format!("worth   {amount}\ngrain   8000g to the point\n");
+        assert_eq!(answer, expected);
+        run(&["worth"], &text).answers(&expected);
+    }
+}
+
+// ---------------------------------------------------------------------------
+// Margins as they are written
+// ---------------------------------------------------------------------------
+
+const THIRD: &str = "0.333333333333333333333333333333333333333333";
+const SHORT_OF_ONE: &str = "0.999999999999999999999999999999999999999999";
+const SIXTY_DIGITS: &str = "123456789012345678901234567890123456789012345678901234567890";
+
+/// Margins, with their grains where a point is 1 grain, 4 and 1,679,616; what is
+/// too great for an i64 stands as the greatest.
+const WRITTEN: [(&str, [i64; 3]); 20] = [
+    ("0", [0, 0, 0]),
+    ("3", [3, 12, 5_038_848]),
+    ("0.05", [0, 0, 83_980]),
+    ("0.25", [0, 1, 419_904]),
+    ("0.249999999999999999999999999999", [0, 0, 419_903]),
+    ("12.345", [12, 49, 20_734_859]),
+    ("1.000", [1, 4, 1_679_616]),
+    (THIRD, [0, 1, 559_871]),
+    (SHORT_OF_ONE, [0, 3, 1_679_615]),
+    ("0g", [0, 0, 0]),
+    ("12g", [12, 12, 12]),
+    ("40000000000000g", [40_000_000_000_000; 3]),
+    ("40000000000001g", [40_000_000_000_001; 3]),
+    ("-1", [-1, -4, -1_679_616]),
+    ("-0.5", [-1, -2, -839_808]),
+    ("-0.00001", [-1, -1, -17]),
+    ("-3g", [-3, -3, -3]),
+    (
+        "10000000000000.249999",
+        [10_000_000_000_000, 40_000_000_000_000, i64::MAX],
+    ),
+    (
+        "10000000000000.25",
+        [10_000_000_000_000, 40_000_000_000_001, i64::MAX],
+    ),
+    (SIXTY_DIGITS, [i64::MAX; 3]),
+];
+
+/// Points are multiplied exactly and rounded down to grains, which are printed;
+/// what is no margin is refused with 12.
+#[test]
+fn margins_as_written() {
+    let mut comparison = Comparison::new("desk on margins as written");
+    for (at, name) in ["a", "b", "bear-off"].into_iter().enumerate() {
+        let (file, text) = example(name);
+        let table = second::read(&text).expect("accepted");
+        assert_eq!(table.grains, [1, 4, 1_679_616][at], "{name}: G");
+        for (written, grains) in WRITTEN {
+            let grains = grains[at];
+            assert_eq!(grains_of(written, table.grains), grains, "{written}");
+            for question in [Search(written.to_string()), ShowTo(written.to_string())] {
+                for form in FORMS {
+                    let answer = comparison.hold(&question, &text, form, Way::File(&file));
+                    hold_margin(&answer, grains, form);
+                }
+            }
+        }
+    }
+    assert!(comparison.tally.counts[12] >= 20, "too few were refused");
+    comparison.demand(200);
+}
+
+/// Fails the test unless the answer says that the margin is so many grains, or
+/// they are no margin and refused.
+fn hold_margin(answer: &Result<String, Refusal>, grains: i64, form: Form) {
+    match answer {
+        Ok(answer) => {
+            let named = answer.lines().find(|line| line.starts_with("margin"));
+            let printed = match form {
+                Form::People => format!(" points ({grains}g)"),
+                Form::Tsv => format!("margin\t{grains}\t"),
+            };
+            assert!(named.is_some_and(|line| line.contains(&printed)));
+        }
+        Err(refusal) => {
+            assert_eq!((refusal.number, refusal.line), (12, 0));
+            let margins = 0..=second::GREATEST_MARGIN;
+            assert!(!margins.contains(&grains), "{grains} grains are a margin");
+        }
+    }
+}
+
+/// Numbers of any length are numbers, and refused where there is no such margin
+/// or play.
+#[test]
+fn numbers_of_any_length() {
+    let mut comparison = Comparison::new("desk on numbers of any length");
+    let (file, text) = example("b");
+    for places in [
+        SIXTY_DIGITS,
+        "0000000000000000000000000000000000000000000001",
+    ] {
+        let question = Search(format!("0.{places}"));
+        comparison.answered(&question, &text, Way::File(&file));
+    }
+
+    let minus = format!("-{SIXTY_DIGITS}");
+    let grains = format!("{SIXTY_DIGITS}g");
+    let mut refused = 0;
+    for number in [SIXTY_DIGITS, &minus, &grains] {
+        for words in [&["search", number][..], &["show", "--margin", number]] {
+            refused += hold_number(words, &file, &text, 12);
+        }
+    }
+    for number in ["0", "3", "-1", "9223372036854775808", SIXTY_DIGITS, &minus] {
+        refused += hold_number(&["judge", number], &file, &text, 14);
+    }
+    assert_eq!(refused, 24);
+}
+
+/// Holds both forms to this refusal of a number, and counts the runs.
+fn hold_number(words: &[&str], file: &str, text: &[u8], number: u8) -> usize {
+    let refusal = Refusal { number, line: 0 };
+    for form in FORMS {
+        let ran = ask(self::words(words), text, form, Way::File(file), 0);
+        Refused::of(text, refusal).hold(&ran, form, file, "a number of any length");
+    }
+    FORMS.len()
+}
+
+// ---------------------------------------------------------------------------
+// The description
+// ---------------------------------------------------------------------------
+
+/// The examples in the description are what the second engine and the program
+/// answer.
+#[test]
+fn examples_in_the_description() {
+    let examples = [
+        ("b", Worth, "worth"),
+        ("b", Judge(2), "judge 2"),
+        ("b", Search("3".to_string()), "search 3"),
+        ("a", Rollout(Vec::new()), "rollout"),
+        ("b", Show, "show"),
+        ("b", ShowTo("3".to_string()), "show --margin 3"),
+    ];
+    for (name, question, words) in examples {
+        let (file, text) = example(name);
+        assert_eq!(question.words().join(" "), words);
+        let answer = question.answer(&text, Form::People).expect("an answer");
+        let described = block("docs/DESK.md", &format!("`desk {words} {file}`"));
+        assert_eq!(described, answer, "docs/DESK.md on {words} {file}");
+        ask(question.words(), &text, Form::People, Way::File(&file), 0).answers(&described);
+    }
+}
+
+/// The refusal in the description is what the program prints.
+#[test]
+fn refusal_in_the_description() {
+    let described = block("docs/DESK.md", "A refusal is printed on standard error");
+    assert!(described.starts_with("desk: light.txt: refused 9 at line 3 "));
+    let light = table_b_with(4, "...3.L....2....2.......2");
+    written("light.txt", &light);
+    let mut command = command(&["worth", "light.txt"]);
+    command.current_dir(folder());
+    let ran = finish(command, &[]);
+    assert_eq!((ran.status, &*ran.out), (Some(1), ""));
+    assert_eq!(ran.err, described);
+}

@@ -1,0 +1,374 @@
+//! Holds the refusals of the desk's command to the second engine: the number, the
+//! line, what is shown of it and the columns marked.
+//!
+//! SEED sets the seed of the random texts.
+
+use std::fs;
+use std::ops::RangeInclusive;
+use std::time::{Duration, Instant};
+
+use compare::hold::desk::Question::{Judge, Rollout, Search, ShowTo};
+use compare::hold::desk::*;
+use compare::hold::tally::{Tally, OF_TABLES};
+use compare::random::Random;
+use compare::second::desk::{self, Form, Stretch, FORMS};
+use compare::second::{self, Refusal, LINE};
+use compare::texts;
+use compare::texts::broken::broken;
+use compare::texts::examples::*;
+use compare::texts::largest;
+
+/// A text that is refused: what is wrong with it, and what must be printed.
+struct Bad {
+    why: String,
+    text: Vec<u8>,
+    refused: Refused,
+}
+
+impl Bad {
+    /// The second engine must have the same number, line and columns.
+    fn new(number: u8, line: usize, marks: &str, why: &str, text: Vec<u8>) -> Bad {
+        let refusal = Refusal { number, line };
+        assert_eq!(second::read(&text), Err(refusal), "{why}");
+        let refused = Refused::of(&text, refusal);
+        let stretches = marks.split(',').filter(|stretch| !stretch.is_empty());
+        let stretches: Vec<Stretch> = stretches.map(|s| stretch_of(s, '-')).collect();
+        assert_eq!(refused.marks, stretches, "{why}");
+        let why = why.to_string();
+        Bad { why, text, refused }
+    }
+}
+
+/// Table B with these bytes in place of some columns of a line.
+fn b_spliced(line: usize, columns: RangeInclusive<usize>, bytes: &[u8]) -> Vec<u8> {
+    let mut text = dotted(TABLE_B);
+    let first = LINE * line + columns.start() - 1;
+    let past = LINE * line + columns.end();
+    text.splice(first..past, bytes.iter().copied());
+    text
+}
+
+/// The text with a carriage return before each newline.
+fn carriage_returns(text: &[u8]) -> Vec<u8> {
+    let lines = text.chunks(LINE).map(|line| &line[..LINE - 1]);
+    lines.flat_map(|line| [line, b"\r\n"].concat()).collect()
+}
+
+/// Texts whose length is wrong.
+fn wrong_lengths() -> Vec<Bad> {
+    let b = dotted(TABLE_B);
+    let cut = |length: usize| b[..length].to_vec();
+    let joined = |one: &[u8], other: &[u8]| [one, other].concat();
+    let full = largest::all_read(b'M');
+    let one_more = joined(&full, b"1024 L    0            0\n");
+    let long_last = joined(&full[..full.len() - LINE], &[b'x'; 60]);
+    let words = b" \t some words\n";
+    let one = |marked, why, text| Bad::new(1, 0, marked, why, text);
+    vec![
+        one("", "empty", vec![]),
+        one("", "no node line", cut(LINE)),
+        one("", "1,025 node lines", one_more),
+        one("2-24", "1,024 node lines and a blank", joined(&full, b" ")),
+        one("25-40", "a long line as the 1,024th", long_last),
+        one("25", "no last newline", cut(149)),
+        one("24", "no last column", cut(148)),
+        one("6-24", "a line cut off", cut(130)),
+        one("25", "a header cut off", cut(24)),
+        one("2-24", "a byte", b"x".to_vec()),
+        one("2-24", "a blank more", joined(&b, b" ")),
+        one("1-24", "an empty line at the end", joined(&b, b"\n")),
+        one("1-24", "an empty line at first", joined(b"\n", &b)),
+        one("24", "a blank too few", b_spliced(2, 12..=12, b"")),
+        one("21-24", "four too few", b_spliced(2, 12..=15, b"")),
+        one("25", "a blank too many", b_spliced(3, 12..=12, b"  ")),
+        one("25", "one at the end", b_spliced(3, 25..=25, b" \n")),
+        one("25-26", "two too many", b_spliced(0, 24..=24, b"800")),
+        one("25-37", "words after it", b_spliced(4, 25..=25, words)),
+        one("25-40", "40 columns", b_spliced(4, 24..=24, &[b'8'; 17])),
+        one("25-40", "41 columns", b_spliced(4, 24..=24, &[b'8'; 18])),
+        one("25-40", "a newline lost", b_spliced(1, 25..=25, b"")),
+        one("25", "carriage returns", carriage_returns(&b)),
+    ]
+}
+
+/// A line of table B that is written otherwise and refused: the number, the
+/// line, the columns marked, how it is written, and what is wrong.
+const LINES_OF_B: &str = "\
+2 0 1-4 .......4.......0.......8 no count
+2 0 5-8 ...5...........0.......8 no T
+2 0 9-16 ...5...4...............8 no lowest end
+2 0 17-24 ...5...4.......0........ no highest end
+2 0 1-4 ..05...4.......0.......8 a leading zero in the count
+2 0 5-8 ...5..+4.......0.......8 a plus before T
+2 0 9-16 ...5...4......-0.......8 an end of -0
+2 0 17-24 ...5...4.......08....... an end left-justified
+2 0 1-4,9-16 ..05...4......00.......8 two leading zeros
+2 0 1-4,5-8,9-16,17-24 ..05..+4......-0......8. every field
+2 1 1-4 .....M.................. no number
+2 1 1-4 ..00.M.................. a leading zero in a number
+2 3 6 ...2......0............. no kind
+2 3 7-11 ...2.C...01............. a leading zero in a parent
+2 3 7-11 ...2.C.0................ a parent left-justified
+2 4 12-16 ...3.L....2...+3.......2 a plus before a weight
+2 4 12-16 ...3.L....2...3a.......2 a letter in a weight
+2 2 17-24 ...1.L....0...........05 a leading zero in a utility
+2 2 17-24 ...1.L....0...........-0 a utility of -0
+2 2 17-24 ...1.L....0...........+5 a plus before a utility
+2 2 17-24 ...1.L....0...........5. a blank after a utility
+2 2 17-24 ...1.L....0..........-.5 a blank after its minus
+2 2 17-24 ...1.L....0..........5.5 a blank inside
+2 2 17-24 ...1.L....0............- a minus alone
+2 2 5 ...1xL....0............5 column 5
+2 2 5,6 ...1x.....0............5 column 5 and the kind
+2 2 5,7-11 ...1xL...+0............5 column 5 and the parent
+2 2 1-4,17-24 ..01.L....0...........05 the number and the utility
+2 4 17-24 ...4.L....2....3......02 2 comes before 4
+3 0 5-8 ...5...0.......0.......8 T 0
+3 0 5-8 ...5..65.......0.......8 T 65
+3 0 5-8 ...5..-4.......0.......8 T -4
+3 0 9-16 ...5...4-1000001.......8 the lowest end too low
+3 0 17-24 ...5...4.......0.1000001 the highest end too high
+3 0 9-16,17-24 ...5...4.......9.......8 the lowest end above the highest
+3 0 5-8,17-24 ...5..65.......0.1000001 T and an end
+3 0 9-16,17-24 ...5...4.......0-1000001 an end too low and below the other
+3 0 5-8,9-16,17-24 ...5...0.......9.......8 T 0, and the lowest end above the highest
+3 0 5-8 ...6...0.......0.......8 3 comes before 4
+3 4 12-16 ...3.L....2....5.......2 a weight above T
+3 4 12-16 ...3.L....2....0.......2 a weight of 0
+3 4 12-16 ...3.L....2...-1.......2 a weight below zero
+3 2 17-24 ...1.L....0............9 a utility above the ends
+3 2 17-24 ...1.L....0...........-1 a utility below the ends
+3 4 12-16,17-24 ...3.L....2....0.......9 a weight and a utility
+4 0 1-4 ...6...4.......0.......8 a node too many counted
+4 0 1-4 ..-5...4.......0.......8 a count below zero
+4 4 1-4 ...4.L....2....3.......2 a number that comes later
+4 4 1-4 ...4.X....2....3.......2 4 comes before 5
+5 1 6 ...0.X.................. no such kind
+5 2 6 ...1.l....0............5 a small letter
+5 3 6 ...2.X....1............. 5 comes before 6
+6 1 7-11 ...0.M....0............. a parent of the root
+6 3 7-11 ...2.C.................. no parent
+6 3 7-11 ...2.C....1............. a leaf as parent
+6 3 7-11 ...2.C....2............. itself as parent
+6 3 7-11 ...2.C...-1............. a parent below zero
+6 3 7-11 ...2.C..999............. no such parent
+7 4 12-16 ...3.L....2............2 no weight
+7 2 12-16 ...1.L....0....1.......5 a weight too many
+7 1 12-16 ...0.M.........1........ a weight of the root
+7 2 17-24 ...1.L....0............. no utility
+7 3 17-24 ...2.C....0............5 a utility too many
+7 4 12-16,17-24 ...3.L....2............. neither
+7 3 12-16,17-24 ...2.C....0....1.......5 both
+7 4 12-16 ...3.L....2............9 7 comes before 3
+8 2 6 ...1.N....0............. an N without a child
+8 5 6 ...4.M....2....1........ an M as the last
+8 5 6 ...4.C....2....2........ 8 comes before 9
+";
+
+fn lines_of_b() -> Vec<Bad> {
+    let lines = LINES_OF_B.lines().map(|case| {
+        let parts: Vec<&str> = case.splitn(5, ' ').collect();
+        let [number, line, marked, written, why] = parts[..] else {
+            panic!("{case}");
+        };
+        let number = number.parse().expect("a number");
+        let line = line.parse().expect("a line");
+        Bad::new(number, line, marked, why, table_b_with(line, written))
+    });
+    lines.collect()
+}
+
+/// Bytes that no line above can have, and trees that are wrong as a whole.
+fn other_texts() -> Vec<Bad> {
+    // Node 1's line has a blank too few before its newline and one after it.
+    let mut shifted = b_spliced(2, 12..=12, b"");
+    shifted.insert(LINE * 3 - 1, b' ');
+    let windows = carriage_returns(&chain(&[b'M'; 23], 1));
+    let closed = dotted(&TABLE_A.replace("...6.L....4", "...6.L....1"));
+    let weight = |weight| b_spliced(4, 16..=16, weight);
+    let mut heavy_root = table_b_under_chance();
+    heavy_root[2 * LINE + 15] = b'2';
+    let mut no_weight = chain(b"CCCCC", 1);
+    no_weight[5 * LINE + 15] = b' ';
+    let bad = Bad::new;
+    vec![
+        bad(2, 2, "5", "a tab", b_spliced(2, 5..=5, b"\t")),
+        bad(2, 0, "25", "a blank for 25", b_spliced(0, 25..=25, b" ")),
+        bad(2, 1, "25", "in a node line", b_spliced(1, 25..=25, b" ")),
+        bad(2, 2, "25", "a return", b_spliced(2, 25..=25, b"\r")),
+        bad(2, 5, "25", "a last letter", b_spliced(5, 25..=25, b"x")),
+        bad(2, 0, "25", "carriage returns in 25 lines", windows),
+        bad(2, 2, "17-24,25", "a newline in column 24", shifted),
+        bad(6, 7, "7-11", "a parent whose run is over", closed),
+        bad(9, 3, "6", "weights too small", weight(b"2")),
+        bad(9, 3, "6", "weights too great", weight(b"4")),
+        bad(9, 1, "6", "weights under the root", heavy_root),
+        bad(10, 65, "7-11", "65 nodes", chain(&[b'M'; 64], 1)),
+        bad(10, 5, "6", "a fifth C", chain(b"CCCCC", 1)),
+        bad(10, 9, "6", "a fifth C", chain(b"CNCMCNCMC", 1)),
+        bad(10, 5, "6", "10 comes before 7", no_weight),
+    ]
+}
+
+/// Every bad table, asked about with each verb in turn: the number and the line,
+/// the line shown and its marks.
+#[test]
+fn refused_tables() {
+    let mut tally = Tally::new("desk on refused tables");
+    // A table is refused before a margin or a number.
+    let verbs = [&VERBS[..], &[&["search", "-1"], &["judge", "0"]]].concat();
+    let lists = [wrong_lengths(), lines_of_b(), other_texts()];
+    for bad in lists.iter().flatten() {
+        let file = written("desk-refused.txt", &bad.text);
+        for form in FORMS {
+            let case = tally.cases as usize;
+            let way = [Way::File(&file), Way::Input, Way::Dash][case % 3];
+            let words = words(verbs[case % verbs.len()]);
+            let ran = ask(words, &bad.text, form, way, tally.cases / 2);
+            bad.refused.hold(&ran, form, way.name(), &bad.why);
+            tally.add(&[u64::from(bad.refused.refusal.number)]);
+        }
+    }
+    tally.report();
+    for number in OF_TABLES {
+        let count = tally.counts[number];
+        assert!(count >= 4, "refusal {number} came only {count} times");
+    }
+}
+
+/// Texts that are damaged at random.
+#[test]
+fn random_refused_texts() {
+    let mut tally = Tally::new("desk on random refused texts");
+    for case in 0..1_000 {
+        let random = &mut Random::of_case(tally.seed, case);
+        let (text, refusal) = match case % 20 {
+            number @ 0..10 => broken(1 + number as u8, random),
+            _ => damaged(random),
+        };
+        assert_eq!(second::read(&text), Err(refusal));
+        let form = random.pick(&FORMS);
+        let words = words(random.pick(&VERBS));
+        let ran = ask(words, &text, form, Way::Input, case);
+        Refused::of(&text, refusal).hold(&ran, form, Way::Input.name(), &tally.place());
+        tally.add(&[u64::from(refusal.number)]);
+    }
+    tally.report();
+    for number in OF_TABLES {
+        let count = tally.counts[number];
+        assert!(count >= 50, "refusal {number} came only {count} times");
+    }
+}
+
+/// A damaged text that is refused.
+fn damaged(random: &mut Random) -> (Vec<u8>, Refusal) {
+    loop {
+        let text = texts::case(random).text;
+        if let Err(refusal) = second::read(&text) {
+            return (text, refusal);
+        }
+    }
+}
+
+/// Refusals of a call on an accepted table: 12, 13 and 14.
+#[test]
+fn refused_calls() {
+    let mut comparison = Comparison::new("desk on refused calls");
+    let (file, b) = example("b");
+    let chance = table_b_under_chance();
+    let turned = dotted(TABLE_B_TURNED);
+    let questions = [
+        (12, &b, Search("-1".to_string())),
+        (12, &b, ShowTo("-0.25".to_string())),
+        (12, &chance, Search("40000000000001g".to_string())),
+        (12, &turned, ShowTo("10000000000001".to_string())),
+        (13, &b, Rollout(Vec::new())),
+        (13, &b, Rollout(vec![2, 0, 1])),
+        (13, &chance, Rollout(Vec::new())),
+        (14, &b, Judge(0)),
+        (14, &b, Judge(3)),
+        (14, &turned, Judge(-1)),
+    ];
+    for (number, text, question) in questions {
+        for form in FORMS {
+            let way = if *text == b {
+                Way::File(&file)
+            } else {
+                Way::Input
+            };
+            let answer = comparison.hold(&question, text, form, way);
+            assert_eq!(answer, Err(Refusal { number, line: 0 }));
+        }
+    }
+    // The first C of table B is node 2, of the other table the root.
+    let thirteen = Refusal {
+        number: 13,
+        line: 0,
+    };
+    for (text, line) in [(&b, "   2 C    0"), (&chance, "   0 C")] {
+        assert_eq!(desk::shown(text, thirteen), Some(format!("{line:<24}")));
+    }
+    // Nobody chooses at a C or L, so that no number is refused.
+    for text in [chance, dotted(LONE_LEAF)] {
+        for number in [0, 1, 77, -1] {
+            comparison.answered(&Judge(number), &text, Way::Input);
+        }
+    }
+    comparison.demand(36);
+    for number in [12, 13, 14] {
+        assert!(comparison.tally.counts[number] >= 6, "refusal {number}");
+    }
+}
+
+/// Bytes that cannot be printed are shown as `?`, and printed nowhere.
+#[test]
+fn unprintable_bytes() {
+    for byte in [0x1b, 0xff, 0x00, 0x7f, b'\t', b'\r', 0x80, 0xc3, 0x9b] {
+        let why = format!("byte {byte:#x}");
+        let bad = |number, line, marked, text| Bad::new(number, line, marked, &why, text);
+        for bad in [
+            bad(2, 2, "17-24", b_spliced(2, 23..=23, &[byte])),
+            bad(2, 2, "25", b_spliced(2, 25..=25, &[byte])),
+            bad(5, 2, "6", b_spliced(2, 6..=6, &[byte])),
+            bad(1, 0, "25", b_spliced(2, 25..=25, &[byte, b'\n'])),
+        ] {
+            let shown = bad.refused.shown.as_ref();
+            assert!(shown.is_some_and(|line| line.contains('?')), "{why}");
+            for form in FORMS {
+                let ran = ask(words(&["worth"]), &bad.text, form, Way::Input, 0);
+                bad.refused.hold(&ran, form, Way::Input.name(), &why);
+                let printed = format!("{}{}", ran.out, ran.err);
+                let plain = |c: char| c.is_ascii_graphic() || " \n\t".contains(c);
+                assert!(printed.chars().all(plain), "{why}: {printed:?}");
+            }
+        }
+    }
+}
+
+/// Inputs of megabytes are refused with 1, and soon.
+#[test]
+fn inputs_of_megabytes() {
+    const LENGTH: usize = 10_000_000;
+    let (header, lines) = (&dotted(TABLE_B)[..LINE], &dotted(TABLE_B)[LINE..]);
+    let whole = [header, &lines.repeat(LENGTH / lines.len())].concat();
+    for bad in [
+        Bad::new(1, 0, "25-40", "blanks", vec![b' '; LENGTH]),
+        Bad::new(1, 0, "25-40", "binary", vec![0xff; LENGTH]),
+        Bad::new(1, 0, "1-24", "newlines", vec![b'\n'; LENGTH]),
+        Bad::new(1, 0, "", "whole lines", whole),
+    ] {
+        let file = written("desk-megabytes.txt", &bad.text);
+        for (way, form) in [
+            (Way::File(&file), Form::People),
+            (Way::Input, Form::People),
+            (Way::Dash, Form::Tsv),
+        ] {
+            let began = Instant::now();
+            let ran = ask(words(&["worth"]), &bad.text, form, way, 0);
+            let took = began.elapsed();
+            bad.refused.hold(&ran, form, way.name(), &bad.why);
+            assert!(took < Duration::from_secs(2), "{}: {took:?}", bad.why);
+        }
+        fs::remove_file(file).expect("the file just written");
+    }
+}
