@@ -1,5 +1,7 @@
 //! What is printed: pages for people, sheets for spreadsheets.
 
+use std::env;
+use std::ffi::OsString;
 use std::fmt::{Display, Write as _};
 use std::io::{self, ErrorKind, IsTerminal, Write};
 use std::process::ExitCode;
@@ -170,13 +172,16 @@ impl Sheet {
     }
 }
 
-/// Whether standard output gets colours: on a terminal that knows them, unless the
-/// user wants none.
+/// Whether standard output gets colours.
 pub fn coloured() -> bool {
-    let set = |name| std::env::var_os(name).filter(|value| !value.is_empty());
-    io::stdout().is_terminal()
-        && set("NO_COLOR").is_none()
-        && set("TERM").is_some_and(|term| term != "dumb")
+    let terminal = io::stdout().is_terminal();
+    wanted(terminal, env::var_os("NO_COLOR"), env::var_os("TERM"))
+}
+
+/// Colours are for a terminal that knows them, unless the user wants none.
+fn wanted(terminal: bool, no_color: Option<OsString>, term: Option<OsString>) -> bool {
+    let set = |value: Option<OsString>| value.filter(|value| !value.is_empty());
+    terminal && set(no_color).is_none() && set(term).is_some_and(|term| term != "dumb")
 }
 
 /// Prints to standard output. One that was closed is not our concern: whoever
@@ -195,4 +200,39 @@ pub fn print(bytes: &[u8], status: ExitCode) -> ExitCode {
 /// Prints to standard error; where that fails too, nobody can be told.
 pub fn complain(message: &str) {
     let _ = io::stderr().lock().write_all(message.as_bytes());
+}
+
+#[cfg(test)]
+mod tests {
+    use super::{Page, wanted};
+
+    #[test]
+    fn colours_on_a_terminal_alone() {
+        let set = |value: &str| Some(value.into());
+        assert!(wanted(true, None, set("xterm")));
+        assert!(wanted(true, set(""), set("xterm")));
+        assert!(!wanted(false, None, set("xterm")));
+        assert!(!wanted(true, set("1"), set("xterm")));
+        assert!(!wanted(true, None, set("dumb")));
+        assert!(!wanted(true, None, None));
+    }
+
+    /// Without its colours a page is the plain one.
+    #[test]
+    fn colours_add_no_text() {
+        let [plain, coloured] = [false, true].map(|coloured| {
+            let mut page = Page::new(coloured);
+            page.named("worth", "5.000 points");
+            page.bold("read");
+            page.plain("\n");
+            String::from_utf8(page.into_bytes()).expect("text")
+        });
+        assert_eq!(plain, "worth   5.000 points\nread\n");
+        assert!(coloured.contains('\x1b'));
+        let colours = ["\x1b[1m", "\x1b[2m", "\x1b[0m"];
+        let text = colours
+            .iter()
+            .fold(coloured, |text, colour| text.replace(colour, ""));
+        assert_eq!(text, plain);
+    }
 }
