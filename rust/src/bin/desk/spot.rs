@@ -78,7 +78,7 @@ fn length(text: &[u8]) -> Spot {
     let Some((number, line)) = odd_line(text) else {
         let detail = match text.len() {
             0 => "it is empty",
-            ..=LINE => "it has no node line",
+            1..=LINE => "it has no node line",
             _ => "it has more than 1,024 node lines",
         };
         return Spot {
