@@ -9,6 +9,7 @@ mod margin;
 mod output;
 mod refused;
 mod spot;
+mod tree;
 mod under;
 mod verbs;
 

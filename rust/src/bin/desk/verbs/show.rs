@@ -9,6 +9,7 @@ use super::{Answer, Question, Verb};
 use crate::grid::{Cell, Row, lay};
 use crate::margin::Margin;
 use crate::output::{Amount, Page, Sheet};
+use crate::tree;
 use crate::under::worths;
 
 pub const VERB: Verb = Verb {
@@ -112,39 +113,6 @@ impl Drawn {
         });
         standing.collect()
     }
-
-    /// The tree's lines, one for each node.
-    fn tree(&self) -> Vec<String> {
-        let nodes = &self.table.nodes;
-        // For each node on the path its stretch of line, as it goes on below.
-        let mut path: Vec<&str> = Vec::new();
-        let mut depths = Vec::with_capacity(nodes.len());
-        let mut tree = Vec::with_capacity(nodes.len());
-        for (number, node) in nodes.iter().enumerate() {
-            let mut line = String::new();
-            match node.parent {
-                None => depths.push(0),
-                Some(parent) => {
-                    let depth: usize = depths[parent];
-                    depths.push(depth + 1);
-                    path.truncate(depth);
-                    line.extend(path.iter().copied());
-                    let last = node.stop == nodes[parent].stop;
-                    line += if last { "└── " } else { "├── " };
-                    path.push(if last { "    " } else { "│   " });
-                }
-            }
-            if let Some(weight) = node.weight {
-                line += &format!("{weight}/{} ", self.table.total);
-            }
-            line += &format!("{number} {}", node.kind);
-            if let Some(utility) = node.utility {
-                line += &format!(" {utility}");
-            }
-            tree.push(line);
-        }
-        tree
-    }
 }
 
 impl Standing {
@@ -198,7 +166,7 @@ impl Answer for Drawn {
 
         let read = self.read();
         let mut rows = Vec::with_capacity(table.nodes.len());
-        for (node, line) in self.tree().into_iter().enumerate() {
+        for (node, line) in tree::lines(table).into_iter().enumerate() {
             let read = read.as_ref().is_some_and(|read| read[node]);
             let mark = if read { "read" } else { "" };
             rows.push(Row {
