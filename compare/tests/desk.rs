@@ -215,7 +215,7 @@ fn rollouts() {
             let answer = comparison.hold(&question, &text, form, Way::Input);
             let answer = answer.expect("a table without C");
             seen.count("no leaf read", answer.contains("leaves  0 of"));
-            seen.count("some leaf read", answer.contains("\nread    "));
+            seen.count("some leaf read", answer.contains("\nleaf    "));
             seen.count("no leaf, in fields", answer.contains("\nread\t0\n"));
             seen.count("some leaf, in fields", answer.contains("\nleaf\t"));
         }

@@ -305,8 +305,9 @@ fn refused_calls() {
         number: 13,
         line: 0,
     };
-    for (text, line) in [(&b, "   2 C    0"), (&chance, "   0 C")] {
-        assert_eq!(desk::shown(text, thirteen), Some(format!("{line:<24}")));
+    for (text, number, line) in [(&b, 3, "   2 C    0"), (&chance, 1, "   0 C")] {
+        let line = format!("{line:<24}");
+        assert_eq!(desk::shown(text, thirteen), Some((number, line)));
     }
     // Nobody chooses at a C or L, so that no number is refused.
     for text in [chance, dotted(LONE_LEAF)] {
@@ -333,7 +334,7 @@ fn unprintable_bytes() {
             bad(1, 0, "25", b_spliced(2, 25..=25, &[byte, b'\n'])),
         ] {
             let shown = bad.refused.shown.as_ref();
-            assert!(shown.is_some_and(|line| line.contains('?')), "{why}");
+            assert!(shown.is_some_and(|(_, line)| line.contains('?')), "{why}");
             for form in FORMS {
                 let ran = ask(words(&["worth"]), &bad.text, form, Way::Input, 0);
                 bad.refused.hold(&ran, form, Way::Input.name(), &why);

@@ -157,7 +157,9 @@ fn wrong_usage() {
         "rollout 18446744073709551616 F",
         "rollout 1,,2 F",
         "rollout 1 F F",
+        "search --margin 3 F",
         "help nonsense",
+        "help show show",
     ];
     for line in lines {
         let words = line.split(' ').filter(|word| !word.is_empty());

@@ -61,10 +61,7 @@ fn package_lines(table: &package::Table) -> Vec<String> {
 fn judged(judgement: second::Judgement) -> package::Judgement {
     match judgement {
         second::Judgement::NoDecision => package::Judgement::NoDecision,
-        second::Judgement::Loss { grains, level } => package::Judgement::Loss {
-            grains: u64::try_from(grains).expect("no play gains"),
-            level,
-        },
+        second::Judgement::Loss { grains, level } => package::Judgement::Loss { grains, level },
     }
 }
 
@@ -79,7 +76,7 @@ fn found(table: &Table, margin: i64) -> Result<Found, Refusal> {
         Some(node) => {
             let up_to_it = &table.nodes[..=node];
             let children = up_to_it.iter().filter(|node| node.parent == Some(0));
-            let number = children.count();
+            let number = children.count() as i64;
             package::Play::Child { number, node }
         }
     };

@@ -8,7 +8,7 @@ use compare::second::desk::{self, Form};
 use compare::second::{self, Table};
 
 /// Margins in points, at the ends that the examples have and at narrow ones.
-const README_MARGINS: [[i64; 3]; 2] = [[0, 50, 300], [0, 50, 100]];
+const README_MARGINS: [i64; 3] = [0, 50, 100];
 
 /// The text with its ends drawn to the lowest and the highest utility.
 fn narrowed(text: &[u8], table: &Table) -> Vec<u8> {
@@ -92,8 +92,8 @@ fn readme_rows() {
         let file = format!("examples/{name}.txt");
         let text = example(&file);
         let table = second::read(&text).expect("accepted");
-        let wide = leaves_read(&mut tally, &text, README_MARGINS[0]);
-        let narrow = leaves_read(&mut tally, &narrowed(&text, &table), README_MARGINS[1]);
+        let wide = leaves_read(&mut tally, &text, README_MARGINS);
+        let narrow = leaves_read(&mut tally, &narrowed(&text, &table), README_MARGINS);
         let row = format!("({file}) | {} | {wide} | {narrow} |", table.leaves);
         assert!(readme.contains(&row), "README.md has no row with {row}");
     }

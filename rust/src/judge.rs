@@ -5,13 +5,12 @@ use crate::refusal::{Refusal, answered};
 
 /// What there is to say of the play made at the root.
 #[derive(Clone, Copy, Debug, PartialEq, Eq)]
-#[non_exhaustive]
 pub enum Judgement {
     /// The root is a choice of MAX or MIN.
     Loss {
         /// What the play loses against the best, in grains.
-        grains: u64,
-        /// How many plays are level with the best.
+        grains: i64,
+        /// How many plays are level with the best: they lose less than a point.
         level: usize,
     },
     /// Nobody chooses at a C or L root.
@@ -36,7 +35,8 @@ pub fn judge(text: &[u8], number: i64) -> Result<Judgement, Refusal> {
     Ok(match numbers {
         [0, ..] => Judgement::NoDecision,
         [_, grains, level] => Judgement::Loss {
-            grains,
+            // At most the span of the ends, which an i64 holds.
+            grains: grains as i64,
             level: level as usize,
         },
     })

@@ -57,5 +57,17 @@ pub const LINE: usize = 25;
 /// The most bytes that a table has: a header and a line for each node.
 pub const MOST_BYTES: usize = LINE * (1 + MOST_NODES);
 
+/// The greatest T.
+pub const MOST_TOTAL: i64 = 64;
+
+/// An end lies at most this far from 0.
+pub const FARTHEST_END: i64 = 1_000_000;
+
+/// The most nodes on a path from the root.
+pub const LONGEST_PATH: usize = 64;
+
+/// The most C on a path from the root.
+pub const MOST_CHANCES: usize = 4;
+
 /// The greatest margin, in grains.
 pub const GREATEST_MARGIN: i64 = 40_000_000_000_000;

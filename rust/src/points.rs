@@ -14,8 +14,9 @@
 ///
 /// # Panics
 ///
-/// Where there are no grains in a point (`per_point` is 0), which no answer says.
+/// Where `per_point` is not above zero; every answer's is.
 pub fn points(grains: i64, per_point: i64) -> String {
+    assert!(per_point > 0, "{per_point} grains in a point");
     let (grains, per_point) = (i128::from(grains), i128::from(per_point));
     let doubled = 2 * 1_000 * grains.abs() + per_point;
     let thousandths = doubled / (2 * per_point);

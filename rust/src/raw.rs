@@ -6,9 +6,11 @@
 //! `include/margin_engine.h`. Entries past an answer keep what they held.
 //!
 //! The only `unsafe` of this package is here. All six blocks are sound for the
-//! same reason: each pointer stands with the length of what it points to, it
-//! comes from a slice and so is not null, and no slice that a call may write
-//! overlaps another, as the borrows show.
+//! same reasons: the declarations are those of the header, and `Record` has the
+//! layout of its struct; each pointer stands with the length of what it points to;
+//! it comes from a slice and so is not null; and no slice that a call may write
+//! overlaps another, as the borrows show. The engine keeps nothing between calls,
+//! so that threads may call it at once, and it never unwinds.
 
 #![allow(unsafe_code)]
 

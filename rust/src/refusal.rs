@@ -43,10 +43,16 @@ impl Refusal {
                 "the text is not a header and 1 to 1,024 node lines, 25 bytes each",
                 "write 24 columns and one newline for each line, blanks at its end too",
             ),
-            2 => (
-                "the line is ill-written",
-                "right-justify each number, with blanks alone before it; column 5 is blank, 6 the kind, 25 the newline",
-            ),
+            2 => match self.line {
+                0 => (
+                    "the header is ill-written",
+                    "right-justify each number, with blanks alone before it: columns 1-4, 5-8, 9-16, 17-24, then a newline",
+                ),
+                _ => (
+                    "the line is ill-written",
+                    "right-justify each number, with blanks alone before it; column 5 is blank, 6 the kind, 25 the newline",
+                ),
+            },
             3 => (
                 "a number is out of range",
                 "correct the number; T is 1 to 64, an end at most 1,000,000 from 0, a weight 1 to T, a utility between the ends",

@@ -14,8 +14,8 @@ pub struct Found {
     pub high: i64,
     /// A play whose worth is within the margin of the best.
     pub play: Play,
-    /// The node numbers of the leaves read, in reading sequence. Whatever the other
-    /// leaves are, the answer is the same.
+    /// The node numbers of the leaves read, in reading sequence. The answer is the
+    /// same whatever the other leaves are, within the table's ends.
     pub leaves: Vec<usize>,
     /// G, the grains in one point.
     pub per_point: i64,
@@ -28,7 +28,7 @@ pub enum Play {
     Child {
         /// Its number among the root's children, from 1, as [`judge`](crate::judge)
         /// takes it.
-        number: usize,
+        number: i64,
         /// Its node number.
         node: usize,
     },
@@ -77,7 +77,7 @@ fn child(text: &[u8], node: usize) -> Play {
     let children = std::iter::successors(Some(1), |child| Some(usize::from(stops[*child])));
     let before = children.take_while(|child| *child < node).count();
     Play::Child {
-        number: 1 + before,
+        number: 1 + before as i64,
         node,
     }
 }

@@ -68,6 +68,10 @@ impl fmt::Display for Kind {
 
 impl Table {
     /// The node numbers of a node's children, in the order of their lines.
+    ///
+    /// # Panics
+    ///
+    /// Where the table has no such node.
     pub fn children(&self, node: usize) -> impl Iterator<Item = usize> + '_ {
         let stop = self.nodes[node].stop;
         let below = move |child: usize| (child < stop).then_some(child);

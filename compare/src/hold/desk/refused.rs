@@ -9,8 +9,9 @@ use crate::second::Refusal;
 /// What is printed of a refusal.
 pub struct Refused {
     pub refusal: Refusal,
-    /// The line between the bars; none where no line is shown.
-    pub shown: Option<String>,
+    /// The number of the line between the bars, and the line; none where none is
+    /// shown.
+    pub shown: Option<(usize, String)>,
     pub marks: Vec<Stretch>,
 }
 
@@ -40,7 +41,7 @@ impl Refused {
         let advice = match form {
             Form::People => {
                 self.hold_first_line(lines.next().unwrap_or_default(), name, &place);
-                if let Some(shown) = &self.shown {
+                if let Some((_, shown)) = &self.shown {
                     assert_eq!(lines.next(), Some(&*format!("  |{shown}|")), "{place}");
                     self.hold_marks(lines.next().unwrap_or_default(), &place);
                 }
@@ -88,6 +89,9 @@ impl Refused {
             "{place}"
         );
         assert_eq!(lines.next(), Some(&*format!("line\t{line}")), "{place}");
+        if let Some((shown, _)) = &self.shown {
+            assert_eq!(lines.next(), Some(&*format!("shown\t{shown}")), "{place}");
+        }
         let mut rows = Vec::new();
         while let Some((name, columns)) = lines.clone().next().and_then(|l| l.split_once('\t')) {
             if name != "columns" {

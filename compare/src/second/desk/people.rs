@@ -164,7 +164,7 @@ fn read(leaves: &[u16]) -> String {
             _ => lines.push(leaf),
         }
     }
-    let names = std::iter::once("read").chain(std::iter::repeat(""));
+    let names = std::iter::once("leaf").chain(std::iter::repeat(""));
     names
         .zip(lines)
         .map(|(name, text)| line(name, text))

@@ -21,21 +21,21 @@ const WEIGHT: Stretch = (12, 16);
 const UTILITY: Stretch = (17, 24);
 const NEWLINE: Stretch = (25, 25);
 
-/// The line that is shown with a refusal, a byte that cannot be printed as `?`;
-/// none where no line is shown.
-pub fn shown(text: &[u8], refusal: Refusal) -> Option<String> {
-    let line = line_at_fault(text, refusal)?;
+/// The line that is shown with a refusal, a byte that cannot be printed as `?`, and
+/// its number; none where no line is shown.
+pub fn shown(text: &[u8], refusal: Refusal) -> Option<(usize, String)> {
+    let (number, line) = line_at_fault(text, refusal)?;
     let columns = line.strip_suffix(b"\n").unwrap_or(line);
     let printed = |&byte: &u8| match byte {
         b' '..=b'~' => char::from(byte),
         _ => '?',
     };
-    Some(columns.iter().take(SHOWN).map(printed).collect())
+    Some((number, columns.iter().take(SHOWN).map(printed).collect()))
 }
 
 /// The columns marked below that line, field by field.
 pub fn marks(text: &[u8], refusal: Refusal) -> Vec<Stretch> {
-    let Some(line) = line_at_fault(text, refusal) else {
+    let Some((_, line)) = line_at_fault(text, refusal) else {
         return Vec::new();
     };
     match refusal.number {
@@ -51,16 +51,17 @@ pub fn marks(text: &[u8], refusal: Refusal) -> Vec<Stretch> {
     }
 }
 
-/// The bytes of the line, the newline included.
-fn line_at_fault(text: &[u8], refusal: Refusal) -> Option<&[u8]> {
-    let mut lines = text.chunks(LINE);
+/// The line's number and its bytes, the newline included.
+fn line_at_fault(text: &[u8], refusal: Refusal) -> Option<(usize, &[u8])> {
+    let mut lines = text.chunks(LINE).enumerate();
     match refusal.number {
         1 => {
-            let mut lines = text.split_inclusive(|&byte| byte == b'\n');
-            lines.find(|line| line.len() != LINE || !line.ends_with(b"\n"))
+            let lines = text.split_inclusive(|&byte| byte == b'\n');
+            let mut lines = lines.enumerate();
+            lines.find(|(_, line)| line.len() != LINE || !line.ends_with(b"\n"))
         }
         12 | 14 => None,
-        13 => lines.skip(1).find(|line| kind(line) == b'C'),
+        13 => lines.skip(1).find(|(_, line)| kind(line) == b'C'),
         _ => lines.nth(refusal.line),
     }
 }

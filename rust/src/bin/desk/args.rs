@@ -5,13 +5,14 @@ use std::ffi::{OsStr, OsString};
 use std::fmt;
 
 use crate::input::Source;
-use crate::margin::{Margin, whole_number};
+use crate::margin::{Margin, Number};
 use crate::verbs::{Question, VERBS, Verb};
 
 /// What the user wants.
 pub enum Asked {
     /// The help page of a verb, or the list of all.
     Help(Option<&'static Verb>),
+    Version,
     Question(Task),
 }
 
@@ -51,20 +52,29 @@ pub fn parse(mut words: impl Iterator<Item = OsString>) -> Result<Asked, Wrong> 
     let wrong = |why| Wrong { why, verb: None };
     let first = words.next();
     let first = first.ok_or_else(|| wrong("a verb is missing".to_string()))?;
-    if ["help", "--help", "-h"].iter().any(|help| first == *help) {
-        let verb = words.next().map(|word| find(&word)).transpose();
-        return verb.map(Asked::Help).map_err(wrong);
+    match first.to_str() {
+        Some("--version") => return Ok(Asked::Version),
+        Some("help" | "--help" | "-h") => return help(words).map_err(wrong),
+        _ => {}
     }
     let verb = find(&first).map_err(wrong)?;
     let wrong = |why| Wrong {
         why,
         verb: Some(verb),
     };
-    let words = Words::sort(words).map_err(wrong)?;
+    let words = Words::sort(verb, words).map_err(wrong)?;
     if words.help {
         return Ok(Asked::Help(Some(verb)));
     }
     words.task(verb).map(Asked::Question).map_err(wrong)
+}
+
+fn help(mut words: impl Iterator<Item = OsString>) -> Result<Asked, String> {
+    let verb = words.next().map(|word| find(&word)).transpose()?;
+    match words.next() {
+        Some(word) => Err(too_many(&word)),
+        None => Ok(Asked::Help(verb)),
+    }
 }
 
 fn find(word: &OsStr) -> Result<&'static Verb, String> {
@@ -78,13 +88,14 @@ fn find(word: &OsStr) -> Result<&'static Verb, String> {
 pub struct Words {
     /// Those that are no options, in sequence.
     plain: VecDeque<OsString>,
-    margin: Option<OsString>,
+    /// The verb's own options that were given, with what stands after each.
+    options: Vec<(&'static str, OsString)>,
     tsv: bool,
     help: bool,
 }
 
 impl Words {
-    fn sort(mut words: impl Iterator<Item = OsString>) -> Result<Words, String> {
+    fn sort(verb: &Verb, mut words: impl Iterator<Item = OsString>) -> Result<Words, String> {
         let mut sorted = Words::default();
         while let Some(word) = words.next() {
             match word.to_str() {
@@ -94,14 +105,20 @@ impl Words {
                 }
                 Some("--tsv") => sorted.tsv = true,
                 Some("--help" | "-h") => sorted.help = true,
-                Some("--margin") => {
-                    let margin = words.next().ok_or("--margin needs a margin after it")?;
-                    sorted.margin = Some(margin);
+                Some(option) if is_option(option) => {
+                    let (name, value) = match option.split_once('=') {
+                        Some((name, value)) => (name, Some(value.into())),
+                        None => (option, None),
+                    };
+                    let mut known = verb.options.iter().map(|(known, _)| *known);
+                    let known = known.find(|known| *known == name);
+                    let name = known.ok_or_else(|| {
+                        format!("{} takes no option {}", verb.call(), quoted(&word))
+                    })?;
+                    let value = value.or_else(|| words.next());
+                    let value = value.ok_or_else(|| format!("nothing stands after {name}"))?;
+                    sorted.options.push((name, value));
                 }
-                Some(option) if is_option(option) => match option.strip_prefix("--margin=") {
-                    Some(margin) => sorted.margin = Some(margin.into()),
-                    None => return Err(format!("there is no option {}", quoted(&word))),
-                },
                 _ => sorted.plain.push_back(word),
             }
         }
@@ -111,16 +128,13 @@ impl Words {
     /// The task that these words give with this verb. What is left of them is the
     /// table's file.
     fn task(mut self, verb: &Verb) -> Result<Task, String> {
-        if self.margin.is_some() && !verb.options.contains("--margin") {
-            return Err(format!("{} takes no --margin", verb.call()));
-        }
         let question = (verb.ask)(&mut self)?;
         let source = match self.plain.pop_front() {
             Some(file) if file != "-" => Source::File(file),
             _ => Source::StandardInput,
         };
         if let Some(word) = self.plain.pop_front() {
-            return Err(format!("{} is one word too many", quoted(&word)));
+            return Err(too_many(&word));
         }
         Ok(Task {
             question,
@@ -130,9 +144,9 @@ impl Words {
     }
 
     /// The next word as a whole number, which its verb calls by this name.
-    pub fn number(&mut self, name: &str) -> Result<i64, String> {
+    pub fn number(&mut self, name: &str) -> Result<Number, String> {
         let word = self.next(name)?;
-        let number = word.to_str().and_then(whole_number);
+        let number = word.to_str().and_then(Number::parse);
         number.ok_or_else(|| format!("{} is no whole number", quoted(&word)))
     }
 
@@ -142,9 +156,12 @@ impl Words {
         margin(&word)
     }
 
-    /// The margin of the option `--margin`, if it is there.
-    pub fn margin_option(&mut self) -> Result<Option<Margin>, String> {
-        self.margin.take().map(|word| margin(&word)).transpose()
+    /// The margin after this option, if it was given; the last, where it was given
+    /// more than once.
+    pub fn margin_after(&self, option: &str) -> Result<Option<Margin>, String> {
+        let mut options = self.options.iter().rev();
+        let given = options.find(|(name, _)| *name == option);
+        given.map(|(_, word)| margin(word)).transpose()
     }
 
     /// The next word as a list of bytes, if it is made of digits and commas. Any
@@ -182,6 +199,10 @@ fn margin(word: &OsStr) -> Result<Margin, String> {
         let word = quoted(word);
         format!("{word} is no margin: write points, as 0.05, or whole grains, as 12g")
     })
+}
+
+fn too_many(word: &OsStr) -> String {
+    format!("{} is one word too many", quoted(word))
 }
 
 /// A word as it can be shown, whatever bytes it has.

@@ -2,8 +2,11 @@
 
 use crate::verbs::{VERBS, Verb};
 
+/// The package's version.
+pub const VERSION: &str = env!("CARGO_PKG_VERSION");
+
 /// What a margin is, for the verbs that take one.
-const MARGINS: &str = "\
+pub const MARGINS: &str = "\
 A margin is in points, as 3 or 0.05 (rounded down to whole grains), or in grains,
 as 12g. A point is one unit of utility; G grains are a point.
 ";
@@ -12,6 +15,7 @@ const FILES: &str = "\
 FILE holds a table; without one, or with -, it is read from standard input.
 --tsv prints lines of fields with tabs between them, for spreadsheets.
 The exit status is 0 for an answer, 1 for a refusal, 2 for anything else.
+The engine's answers are proved; this command, which prints them, is tested.
 ";
 
 /// The help page of a verb, or the list of all.
@@ -23,25 +27,18 @@ pub fn text(verb: Option<&Verb>) -> String {
 }
 
 fn page(verb: &Verb) -> String {
-    let takes_margin = verb.usage().to_lowercase().contains("margin");
-    let parts = [
-        format!("{}\n{} {}.\n", verb.usage(), verb.name, verb.does),
-        verb.more.to_string(),
-        if takes_margin { MARGINS } else { "" }.to_string(),
-        FILES.to_string(),
-    ];
-    let said: Vec<String> = parts.into_iter().filter(|part| !part.is_empty()).collect();
-    said.join("\n")
+    let head = format!("{}\n{} {}.\n", verb.usage(), verb.name, verb.does);
+    [&[head.as_str()], verb.more, &[FILES]].concat().join("\n")
 }
 
 fn list() -> String {
     let line = |call: String, does: &str| format!("  {call:<18}{does}\n");
-    let mut verbs: String = VERBS
-        .iter()
-        .map(|verb| line(verb.call(), verb.does))
-        .collect();
+    let verbs = VERBS.iter().map(|verb| line(verb.call(), verb.does));
+    let mut verbs: String = verbs.collect();
     verbs += &line("help VERB".to_string(), "explains a verb");
-    let head =
-        "desk VERB [options] [FILE]\nanswers a question about a table, with the proved engine.\n";
-    [head, &verbs, MARGINS, FILES].join("\n")
+    let head = format!(
+        "desk VERB [options] [FILE]\n\
+         answers a question about a table, with the proved engine. Version {VERSION}.\n"
+    );
+    [&head, &verbs, MARGINS, FILES].join("\n")
 }

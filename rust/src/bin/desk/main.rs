@@ -37,6 +37,10 @@ fn main() -> ExitCode {
     };
     let task = match asked {
         Asked::Help(verb) => return print(help::text(verb).as_bytes(), ExitCode::SUCCESS),
+        Asked::Version => {
+            let version = format!("desk {}\n", help::VERSION);
+            return print(version.as_bytes(), ExitCode::SUCCESS);
+        }
         Asked::Question(task) => task,
     };
     let text = match task.source.read() {

@@ -1,8 +1,32 @@
-//! Margins as people write them: in points, or in grains with a `g`.
+//! Numbers as people write them, and margins: in points, or in grains with a `g`.
 
-/// A margin as it was written.
+/// A whole number, and the word that was written for it.
 #[derive(Clone, Debug, PartialEq, Eq)]
-pub enum Margin {
+pub struct Number {
+    pub value: i64,
+    pub word: String,
+}
+
+impl Number {
+    /// Reads a whole number, with a minus or without. One past the range of an i64
+    /// counts as its end, which is no number of a child either.
+    pub fn parse(word: &str) -> Option<Number> {
+        let value = whole_number(word)?;
+        let word = word.to_string();
+        Some(Number { value, word })
+    }
+}
+
+/// A margin, and the word that was written for it.
+#[derive(Clone, Debug, PartialEq, Eq)]
+pub struct Margin {
+    size: Size,
+    pub word: String,
+}
+
+/// How much a margin is.
+#[derive(Clone, Debug, PartialEq, Eq)]
+enum Size {
     Grains(i64),
     Points {
         below_zero: bool,
@@ -16,25 +40,37 @@ impl Margin {
     /// Reads `3`, `0.05`, `.05`, `-1` or `12g`; none for anything else. A number past the
     /// range of an i64 counts as its end, which is no margin either.
     pub fn parse(word: &str) -> Option<Margin> {
+        let size = Size::parse(word)?;
+        let word = word.to_string();
+        Some(Margin { size, word })
+    }
+
+    /// The margin in grains: points times G, rounded down.
+    pub fn grains(&self, per_point: i64) -> i64 {
+        self.size.grains(per_point)
+    }
+}
+
+impl Size {
+    fn parse(word: &str) -> Option<Size> {
         if let Some(grains) = word.strip_suffix('g') {
-            return whole_number(grains).map(Margin::Grains);
+            return whole_number(grains).map(Size::Grains);
         }
         let (below_zero, size) = signed(word);
         let (whole, decimals) = size.split_once('.').unwrap_or((size, ""));
         let (whole, decimals) = (digits(whole)?, digits(decimals)?);
         let written = !whole.is_empty() || !decimals.is_empty();
-        written.then(|| Margin::Points {
+        written.then(|| Size::Points {
             below_zero,
             whole: value(&whole),
             decimals,
         })
     }
 
-    /// The margin in grains: points times G, rounded down.
-    pub fn grains(&self, per_point: i64) -> i64 {
+    fn grains(&self, per_point: i64) -> i64 {
         match self {
-            Margin::Grains(grains) => *grains,
-            Margin::Points {
+            Size::Grains(grains) => *grains,
+            Size::Points {
                 below_zero,
                 whole,
                 decimals,
@@ -64,7 +100,7 @@ fn part(decimals: &[u8], per_point: i64) -> (i64, bool) {
 }
 
 /// A whole number with a minus or without; past the range of an i64, its end.
-pub fn whole_number(word: &str) -> Option<i64> {
+fn whole_number(word: &str) -> Option<i64> {
     let (below_zero, size) = signed(word);
     let digits = digits(size).filter(|digits| !digits.is_empty())?;
     let size = value(&digits);

@@ -32,6 +32,10 @@ impl Refused {
         }
     }
 
+    fn mend(&self) -> &'static str {
+        self.spot.mend.unwrap_or(self.refusal.mend())
+    }
+
     /// For people, about a table from there.
     pub fn people(&self, source: &Source) -> String {
         let Refusal { number, line, .. } = self.refusal;
@@ -42,10 +46,10 @@ impl Refused {
         };
         let mut text = format!("desk: {source}: refused {number}{place}\n");
         if let Some(line) = &self.spot.line {
-            text += &format!("  |{}|\n", printable(line));
+            text += &format!("  |{}|\n", printable(&line.bytes));
             text += &self.marks();
         }
-        let (reason, mend) = (self.reason(), self.refusal.mend());
+        let (reason, mend) = (self.reason(), self.mend());
         text + &format!("reason  {reason}\nmend    {mend}\n")
     }
 
@@ -75,11 +79,14 @@ impl Refused {
         let mut sheet = Sheet::default();
         sheet.row("refused", &[&self.refusal.number]);
         sheet.row("line", &[&self.refusal.line]);
+        if let Some(line) = &self.spot.line {
+            sheet.row("shown", &[&line.number]);
+        }
         for field in &self.spot.columns {
             sheet.row("columns", &[&field.first, &field.last]);
         }
         sheet.row("reason", &[&self.reason()]);
-        sheet.row("mend", &[&self.refusal.mend()]);
+        sheet.row("mend", &[&self.mend()]);
         sheet.into_text()
     }
 }

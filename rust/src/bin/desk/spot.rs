@@ -1,11 +1,11 @@
 //! Where in a refused table the fault shows. The refusal's number and line are the
 //! engine's; this reads the line again to point at its columns, for the eye.
 
-use margin_engine::{LINE, Refusal};
+use margin_engine::{FARTHEST_END, LINE, LONGEST_PATH, MOST_CHANCES, MOST_TOTAL, Refusal};
 
 use crate::input::LOOKED_AT;
 
-/// A stretch of columns, counted from 1, and what stands there.
+/// A stretch of columns, counted from 1, and the name of the number there, if one is.
 #[derive(Clone, Copy, Debug, PartialEq, Eq)]
 pub struct Field {
     pub first: usize,
@@ -23,13 +23,13 @@ const LOWEST: Field = field(9, 16, "the lowest end");
 const HIGHEST: Field = field(17, 24, "the highest end");
 
 const NUMBER: Field = field(1, 4, "the node's number");
-const GAP: Field = field(5, 5, "column 5");
-const KIND: Field = field(6, 6, "the kind");
+const GAP: Field = field(5, 5, "");
+const KIND: Field = field(6, 6, "");
 const PARENT: Field = field(7, 11, "the parent");
 const WEIGHT: Field = field(12, 16, "the weight");
 const UTILITY: Field = field(17, 24, "the utility");
 
-const NEWLINE: Field = field(25, 25, "the newline");
+const NEWLINE: Field = field(25, 25, "");
 
 /// Of a line that is too long so many columns are shown.
 const SHOWN: usize = 40;
@@ -37,11 +37,28 @@ const SHOWN: usize = 40;
 /// What to point at.
 #[derive(Debug, Default, PartialEq, Eq)]
 pub struct Spot {
-    /// The line at fault, without its newline.
-    pub line: Option<Vec<u8>>,
+    /// The line at fault, if there is one, and its number.
+    pub line: Option<Line>,
     pub columns: Vec<Field>,
     /// What the reason does not say; empty where it says all.
     pub detail: String,
+    /// A better mend than the refusal's own.
+    pub mend: Option<&'static str>,
+}
+
+/// A line of the text, without its newline.
+#[derive(Debug, PartialEq, Eq)]
+pub struct Line {
+    /// The header's is 0.
+    pub number: usize,
+    pub bytes: Vec<u8>,
+}
+
+impl Line {
+    fn of(number: usize, bytes: &[u8]) -> Option<Line> {
+        let bytes = without_newline(bytes).to_vec();
+        Some(Line { number, bytes })
+    }
 }
 
 /// The fault of a text that is refused so.
@@ -64,9 +81,10 @@ pub fn of(text: &[u8], refusal: &Refusal) -> Spot {
     let said = faults.iter().map(|(_, fault)| fault.as_str());
     let said = said.filter(|fault| !fault.is_empty());
     Spot {
-        line: Some(without_newline(&lines[refusal.line]).to_vec()),
+        line: Line::of(refusal.line, &lines[refusal.line]),
         detail: said.collect::<Vec<_>>().join(", "),
         columns: faults.iter().map(|(field, _)| *field).collect(),
+        mend: None,
     }
 }
 
@@ -76,13 +94,17 @@ type Faults = Vec<(Field, String)>;
 /// A text whose length is not that of a table.
 fn length(text: &[u8]) -> Spot {
     let Some((number, line)) = odd_line(text) else {
-        let detail = match text.len() {
-            0 => "it is empty",
-            1..=LINE => "it has no node line",
-            _ => "it has more than 1,024 node lines",
+        let (detail, mend) = match text.len() {
+            0 => ("it is empty", "write a header and a line for each node"),
+            1..=LINE => ("it has no node line", "write a line for each node"),
+            _ => (
+                "it has more than 1,024 node lines",
+                "cut the tree down, or divide it at the root",
+            ),
         };
         return Spot {
             detail: detail.to_string(),
+            mend: Some(mend),
             ..Spot::default()
         };
     };
@@ -94,22 +116,70 @@ fn length(text: &[u8]) -> Spot {
         long => field(25, long, ""),
     };
     let ended = columns.len() < line.len();
-    let fault = match (columns, ended) {
-        ([.., b'\r'], true) if columns.len() == LINE => {
-            "has a carriage return before its newline".to_string()
-        }
-        (_, true) if number == 0 && columns.len() == 14 => {
-            "has 14 columns, like a margin line; desk takes the margin after the verb".to_string()
-        }
-        (_, false) if columns.len() == LINE - 1 => "has no newline".to_string(),
-        (_, false) if text.len() == LOOKED_AT => "is much longer than 24 columns".to_string(),
-        ([], _) => "is empty".to_string(),
-        _ => format!("ends after column {}, not 24", columns.len()),
-    };
+    let goes_on = !ended && text.len() == LOOKED_AT;
+    let (fault, mend) = length_fault(number, columns, ended, goes_on);
     Spot {
-        line: Some(shown.to_vec()),
+        line: Line::of(number, shown),
         columns: vec![marked],
-        detail: format!("line {number} {fault}"),
+        detail: match number {
+            0 => format!("the header {fault}"),
+            _ => format!("line {number} (the header is line 0) {fault}"),
+        },
+        mend: Some(mend),
+    }
+}
+
+/// What is wrong with a line that has not 24 columns and a newline, and how to mend
+/// it. The likeliest cause first.
+fn length_fault(
+    number: usize,
+    columns: &[u8],
+    ended: bool,
+    goes_on: bool,
+) -> (String, &'static str) {
+    let fault = |fault: &str, mend| (fault.to_string(), mend);
+    if columns.is_empty() {
+        return fault("is empty", "delete the empty line");
+    }
+    if number == 0 && columns.len() == 14 && ended {
+        let mend = "leave out this line, and give the margin after the verb";
+        return fault("has 14 columns, like a margin line", mend);
+    }
+    if columns.len() == LINE && columns.ends_with(b"\r") {
+        let mend = "save the file with newlines alone at the ends of its lines";
+        return fault("has a carriage return before its newline", mend);
+    }
+    if columns.starts_with(b"\xef\xbb\xbf") {
+        let mend = "save the file without a byte order mark";
+        return fault("begins with a byte order mark", mend);
+    }
+    let bytes = (1..).zip(columns);
+    let mut strange = bytes.filter_map(|(column, byte)| Some((column, strange(*byte)?)));
+    if let Some((column, (name, mend))) = strange.next() {
+        return (format!("has {name} in column {column}"), mend);
+    }
+    if columns.len() == LINE - 1 {
+        return fault("has no newline", "end the last line with a newline");
+    }
+    if goes_on {
+        return fault("is much longer than 24 columns", "cut it to 24 columns");
+    }
+    let mend = match columns.len() < LINE {
+        true => "fill each line with blanks to 24 columns: awk '{ printf \"%-24s\\n\", $0 }'",
+        false => "cut it to 24 columns",
+    };
+    (format!("ends after column {}", columns.len()), mend)
+}
+
+/// What a byte is that no table has and an editor may show as another width or not at
+/// all, and what to do about it; none for any other byte.
+fn strange(byte: u8) -> Option<(&'static str, &'static str)> {
+    match byte {
+        b' '..=b'~' => None,
+        b'\t' => Some(("a tab", "write blanks in place of the tab")),
+        b'\r' => Some(("a carriage return", "end each line with a newline alone")),
+        128.. => Some(("a character that is not ASCII", "write it in ASCII")),
+        _ => Some(("a control character", "take it out")),
     }
 }
 
@@ -131,9 +201,10 @@ fn first_chance(lines: &[[u8; LINE]]) -> Spot {
         return Spot::default();
     };
     Spot {
-        line: Some(without_newline(&lines[1 + node]).to_vec()),
+        line: Line::of(1 + node, &lines[1 + node]),
         columns: vec![KIND],
         detail: format!("the first is node {node}"),
+        mend: None,
     }
 }
 
@@ -159,7 +230,7 @@ fn ill_written(line: &[u8; LINE], must: &[Field], may: &[Field]) -> Faults {
     let mut faults = Vec::new();
     for &field in must.iter().chain(may) {
         let fault = match blank(line, field) {
-            true => must.contains(&field).then_some("is blank"),
+            true => must.contains(&field).then(|| "is blank".to_string()),
             false => number_fault(columns(line, field)),
         };
         faults.extend(fault.map(|fault| (field, format!("{} {fault}", field.name))));
@@ -168,44 +239,48 @@ fn ill_written(line: &[u8; LINE], must: &[Field], may: &[Field]) -> Faults {
 }
 
 /// What is wrong with a field that is not blank as a number, if something is.
-fn number_fault(columns: &[u8]) -> Option<&'static str> {
+fn number_fault(columns: &[u8]) -> Option<String> {
+    if let Some((name, _)) = columns.iter().find_map(|byte| strange(*byte)) {
+        return Some(format!("has {name}"));
+    }
     let start = columns.iter().position(|byte| *byte != b' ');
     let written = &columns[start.unwrap_or(columns.len())..];
     let digits = written.strip_prefix(b"-").unwrap_or(written);
-    match digits {
-        [.., b' '] => Some("is not right-justified"),
-        [b'+', ..] => Some("has a plus"),
-        [b' ', ..] => Some("has a blank after its minus"),
-        [b'0'] if written.len() > 1 => Some("is -0"),
-        [b'0', _, ..] => Some("has a leading zero"),
-        [_, ..] if digits.iter().all(u8::is_ascii_digit) => None,
-        _ => Some("is no number"),
-    }
+    let fault = match digits {
+        [.., b' '] => "is not right-justified",
+        [b'+', ..] => "has a plus",
+        [b' ', ..] => "has a blank after its minus",
+        [b'0'] if written.len() > 1 => "is -0",
+        [b'0', _, ..] => "has a leading zero",
+        [_, ..] if digits.iter().all(u8::is_ascii_digit) => return None,
+        _ => "is no number",
+    };
+    Some(fault.to_string())
 }
 
 fn newline_fault(line: &[u8; LINE]) -> Option<(Field, String)> {
-    let fault = || (NEWLINE, "the newline is missing in column 25".to_string());
-    (line[LINE - 1] != b'\n').then(fault)
+    let fault = match line[LINE - 1] {
+        b'\n' => return None,
+        b'\r' => "a carriage return stands where the newline should",
+        _ => "the newline is missing in column 25",
+    };
+    Some((NEWLINE, fault.to_string()))
 }
 
 /// The numbers of a header that are out of range.
 fn header_range(header: &[u8; LINE]) -> Faults {
     let [total, lowest, highest] = [TOTAL, LOWEST, HIGHEST].map(|field| value(header, field));
     let mut faults = Vec::new();
-    if !(1..=64).contains(&total) {
-        faults.push((TOTAL, "T is not 1 to 64".to_string()));
+    if !(1..=MOST_TOTAL).contains(&total) {
+        faults.push((TOTAL, format!("T is not 1 to {MOST_TOTAL}")));
     }
     for (end, value) in [(LOWEST, lowest), (HIGHEST, highest)] {
-        if value.abs() > 1_000_000 {
+        if value.abs() > FARTHEST_END {
             faults.push((end, format!("{} is more than 1,000,000 from 0", end.name)));
         } else if lowest > highest {
-            let above = "is above the highest end";
-            let fault = if end == LOWEST {
-                above
-            } else {
-                "is below the lowest end"
-            };
-            faults.push((end, format!("{} {fault}", end.name)));
+            let told = "the lowest end is above the highest";
+            let fault = if end == LOWEST { told } else { "" };
+            faults.push((end, fault.to_string()));
         }
     }
     faults
@@ -322,10 +397,10 @@ impl Nodes<'_> {
         let path = || std::iter::successors(Some(node), |node| self.parent(*node));
         let chances = path().filter(|node| self.kind(*node) == b'C').count();
         let mut faults = Vec::new();
-        if chances > 4 {
+        if chances > MOST_CHANCES {
             faults.push((KIND, "it is the fifth C on its path".to_string()));
         }
-        if path().count() > 64 {
+        if path().count() > LONGEST_PATH {
             faults.push((PARENT, "it is the 65th node on its path".to_string()));
         }
         faults

@@ -3,17 +3,19 @@
 use margin_engine::{Judgement, Refusal, Table, judge, read};
 
 use super::{Answer, Played, Question, Verb};
+use crate::margin::Number;
 use crate::output::{Amount, Page, Sheet};
 
 pub const VERB: Verb = Verb {
     name: "judge",
     arguments: "NUMBER",
-    options: "[--tsv]",
+    options: &[],
     does: "tells what a play loses",
-    more: "\
+    more: &["\
 NUMBER counts the root's children from 1, in the order of their lines. Told are
-the play's loss against the best one, and how many plays are level with the best.
-",
+the play's loss against the best one, and how many plays are level with the best:
+they lose less than a point.
+"],
     ask: |words| {
         let number = words.number("NUMBER")?;
         Ok(Box::new(Asked { number }))
@@ -21,12 +23,13 @@ the play's loss against the best one, and how many plays are level with the best
 };
 
 struct Asked {
-    number: i64,
+    number: Number,
 }
 
 impl Question for Asked {
     fn answer(&self, text: &[u8]) -> Result<Box<dyn Answer>, Refusal> {
-        let judgement = judge(text, self.number)?;
+        let number = self.number.value;
+        let judgement = judge(text, number)?;
         let table = read(text)?;
         let plays: Vec<usize> = table.children(0).collect();
         Ok(Box::new(Judged {
@@ -34,8 +37,8 @@ impl Question for Asked {
             played: match judgement {
                 // The engine refuses a number that no child has.
                 Judgement::Loss { .. } => Played::Child {
-                    number: self.number as usize,
-                    node: plays[self.number as usize - 1],
+                    number,
+                    node: plays[number as usize - 1],
                 },
                 _ => Played::Nobody(table.nodes[0].kind),
             },
@@ -46,7 +49,7 @@ impl Question for Asked {
 
     fn given(&self, table: &Table) -> String {
         let children = table.children(0).count();
-        format!("{} was given, and there are {children}", self.number)
+        format!("{} was given, and there are {children}", self.number.word)
     }
 }
 
@@ -62,7 +65,7 @@ impl Answer for Judged {
     fn people(&self, page: &mut Page) {
         self.played.people(page);
         if let Judgement::Loss { grains, level } = self.judgement {
-            page.amount("loss", Amount::of(grains as i64, self.per_point));
+            page.amount("loss", Amount::of(grains, self.per_point));
             page.named("level", format_args!("{level} of {} plays", self.plays));
         }
         page.grain(self.per_point);
@@ -71,7 +74,7 @@ impl Answer for Judged {
     fn tsv(&self, sheet: &mut Sheet) {
         self.played.tsv(sheet);
         if let Judgement::Loss { grains, level } = self.judgement {
-            sheet.amount("loss", Amount::of(grains as i64, self.per_point));
+            sheet.amount("loss", Amount::of(grains, self.per_point));
             sheet.row("level", &[&level]);
             sheet.row("plays", &[&self.plays]);
         }

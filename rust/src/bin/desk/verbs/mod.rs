@@ -13,7 +13,7 @@ use crate::args::Words;
 use crate::output::{Page, Sheet};
 
 /// All verbs, in the sequence in which help lists them.
-pub const VERBS: [&Verb; 6] = [
+pub const VERBS: &[&Verb] = &[
     &show::VERB,
     &worth::VERB,
     &judge::VERB,
@@ -27,11 +27,12 @@ pub struct Verb {
     pub name: &'static str,
     /// What stands after it.
     pub arguments: &'static str,
-    pub options: &'static str,
+    /// Its own options beside `--tsv` and `--help`, with what stands after each.
+    pub options: &'static [(&'static str, &'static str)],
     /// What it does; the verb stands before this.
     pub does: &'static str,
-    /// What else is good to know.
-    pub more: &'static str,
+    /// What else is good to know, a paragraph each.
+    pub more: &'static [&'static str],
     pub ask: fn(&mut Words) -> Result<Box<dyn Question>, String>,
 }
 
@@ -44,7 +45,11 @@ impl Verb {
 
     /// The whole line to type.
     pub fn usage(&self) -> String {
-        format!("desk {} {} [FILE]", self.call(), self.options)
+        let options = self.options.iter();
+        let options: String = options
+            .map(|(name, value)| format!("[{name} {value}] "))
+            .collect();
+        format!("desk {} {options}[--tsv] [FILE]", self.call())
     }
 }
 
@@ -70,7 +75,7 @@ pub trait Answer {
 #[derive(Clone, Copy)]
 enum Played {
     Child {
-        number: usize,
+        number: i64,
         node: usize,
     },
     /// Nobody chooses at a root of this kind.

@@ -9,15 +9,15 @@ use crate::output::{Amount, Page, Sheet};
 pub const VERB: Verb = Verb {
     name: "rollout",
     arguments: "[POLICY]",
-    options: "[--tsv]",
+    options: &[],
     does: "finds the worth of a table without C by rollouts",
-    more: "\
+    more: &["\
 POLICY is a list of numbers from 0 to 255 with commas, as 2,0,1. Each inner node
 that a walk comes to uses up one number: of its m candidates, counted from 0, it
 takes the one with that number mod m; past the list's end, the first. The worth is
 the same under every policy. The list at the end has each node's bounds as last
 updated. A file whose name looks like a policy is written ./2.
-",
+"],
     ask: |words| {
         let policy = words.policy()?;
         Ok(Box::new(Asked { policy }))
@@ -52,7 +52,7 @@ impl Answer for Shown {
         let amount = |grains| Amount::of(grains, self.per_point);
         page.amount("worth", amount(self.rolled.worth));
         page.leaves(self.rolled.leaves.len(), self.leaves);
-        page.list("read", &self.rolled.leaves);
+        page.list("leaf", &self.rolled.leaves);
         page.grain(self.per_point);
 
         let records = self.rolled.records.iter().enumerate();

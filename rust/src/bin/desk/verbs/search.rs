@@ -3,19 +3,24 @@
 use margin_engine::{Found, Refusal, Table, read, search};
 
 use super::{Answer, Played, Question, Verb};
+use crate::help::MARGINS;
 use crate::margin::Margin;
 use crate::output::{Amount, Page, Sheet};
 
 pub const VERB: Verb = Verb {
     name: "search",
     arguments: "MARGIN",
-    options: "[--tsv]",
+    options: &[],
     does: "finds the worth and a play to within a margin",
-    more: "\
+    more: &[
+        "\
 The worth lies from low to high, which are at most the margin apart; the play
 loses at most the margin against the best. Only the leaves listed were read: the
-answer is the same whatever the others are. Margin 0 gives the exact worth.
+answer is the same whatever the others are, within the ends. Margin 0 gives the
+exact worth.
 ",
+        MARGINS,
+    ],
     ask: |words| {
         let margin = words.margin()?;
         Ok(Box::new(Asked { margin }))
@@ -39,7 +44,12 @@ impl Question for Asked {
 
 /// What to say of a margin that is refused.
 pub fn given(margin: &Margin, table: &Table) -> String {
-    format!("{}g were given", margin.grains(table.per_point))
+    let (word, grains) = (&margin.word, margin.grains(table.per_point));
+    match grains.abs() {
+        // The end of the numbers: it was more than this.
+        i64::MAX => format!("{word} was given"),
+        _ => format!("{word} is {grains}g"),
+    }
 }
 
 /// What a search found, and what it is shown with.
@@ -74,7 +84,7 @@ impl Searched {
     }
 
     /// The bounds, the play and how much was read.
-    pub fn people(&self, page: &mut Page) {
+    pub fn head(&self, page: &mut Page) {
         for (name, amount) in self.amounts() {
             page.amount(name, amount);
         }
@@ -83,7 +93,7 @@ impl Searched {
     }
 
     /// The bounds and the play.
-    pub fn tsv(&self, sheet: &mut Sheet) {
+    pub fn head_tsv(&self, sheet: &mut Sheet) {
         for (name, amount) in self.amounts() {
             sheet.amount(name, amount);
         }
@@ -93,13 +103,13 @@ impl Searched {
 
 impl Answer for Searched {
     fn people(&self, page: &mut Page) {
-        self.people(page);
-        page.list("read", &self.found.leaves);
+        self.head(page);
+        page.list("leaf", &self.found.leaves);
         page.grain(self.found.per_point);
     }
 
     fn tsv(&self, sheet: &mut Sheet) {
-        self.tsv(sheet);
+        self.head_tsv(sheet);
         sheet.leaves(self.leaves, &self.found.leaves);
         sheet.row("grain", &[&self.found.per_point]);
     }

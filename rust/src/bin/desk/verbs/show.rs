@@ -7,6 +7,7 @@ use margin_engine::{Kind, Play, Refusal, Table, read};
 use super::search::{Searched, given};
 use super::{Answer, Question, Verb};
 use crate::grid::{Cell, Row, lay};
+use crate::help::MARGINS;
 use crate::margin::Margin;
 use crate::output::{Amount, Page, Sheet};
 use crate::tree;
@@ -15,19 +16,23 @@ use crate::under::worths;
 pub const VERB: Verb = Verb {
     name: "show",
     arguments: "",
-    options: "[--margin M] [--tsv]",
+    options: &[("--margin", "M")],
     does: "draws the tree with every node's worth",
-    more: "\
+    more: &[
+        "\
 A node is its number, its kind (M: MAX plays, N: MIN plays, C: dice, L: a leaf)
 and at a leaf its utility; a fraction before it is its chance under a C. The
 worth is in points, with the grains beside it.
-
+",
+        "\
 With --margin M the leaves that a search to this margin reads are marked `read`,
 and each play is listed with its worth and its loss: `play` is the search's,
 `best` loses nothing, and a loss is within the margin or past it.
 ",
+        MARGINS,
+    ],
     ask: |words| {
-        let margin = words.margin_option()?;
+        let margin = words.margin_after("--margin")?;
         Ok(Box::new(Asked { margin }))
     },
 };
@@ -64,7 +69,7 @@ struct Drawn {
 
 /// How a child of an M or N root stands.
 struct Standing {
-    number: usize,
+    number: i64,
     node: usize,
     worth: Amount,
     loss: Amount,
@@ -135,7 +140,7 @@ impl Standing {
     fn row(&self) -> Row {
         Row {
             cells: vec![
-                Cell::Number(self.number),
+                Cell::Number(self.number as usize),
                 Cell::Number(self.node),
                 Cell::Amount(self.worth),
                 Cell::Amount(self.loss),
@@ -160,7 +165,7 @@ impl Answer for Drawn {
         );
         page.named("table", line);
         if let Some(searched) = &self.searched {
-            searched.people(page);
+            searched.head(page);
         }
         page.grain(table.per_point);
 
@@ -203,7 +208,7 @@ impl Answer for Drawn {
         sheet.row("chances", &[&table.chances]);
         sheet.row("grain", &[&table.per_point]);
         if let Some(searched) = &self.searched {
-            searched.tsv(sheet);
+            searched.head_tsv(sheet);
             sheet.row("read", &[&searched.found.leaves.len()]);
         }
 

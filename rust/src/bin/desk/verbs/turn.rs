@@ -8,12 +8,12 @@ use crate::output::{Page, Sheet};
 pub const VERB: Verb = Verb {
     name: "turn",
     arguments: "",
-    options: "[--tsv]",
+    options: &[],
     does: "prints the table from the other side",
-    more: "\
+    more: &["\
 M and N change places, utilities get the other sign, and the two ends are negated
 and exchanged.
-",
+"],
     ask: |_| Ok(Box::new(Asked)),
 };
 

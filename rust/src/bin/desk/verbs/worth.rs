@@ -8,9 +8,9 @@ use crate::output::{Amount, Page, Sheet};
 pub const VERB: Verb = Verb {
     name: "worth",
     arguments: "",
-    options: "[--tsv]",
+    options: &[],
     does: "tells the exact worth of a table",
-    more: "",
+    more: &[],
     ask: |_| Ok(Box::new(Asked)),
 };
 
