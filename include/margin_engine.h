@@ -11,7 +11,8 @@
  *
  * A pointer is followed by its length: the number of entries that it points to, not of bytes. Each pointer must be valid for that many
  * entries and not null, also where the length is 0; the areas that a call may write (pointers without const) must lie apart from each
- * other and from those that it only reads, the text and the policy. This is all that a caller must see to. Nothing is kept between calls.
+ * other and from those that it only reads, the text and the policy. This is all that a caller must see to, but for the stack: 64 KB have room
+ * for every call, by measurement and not by proof. Nothing is kept between calls.
  *
  * `numbers` gets as many of an answer's numbers as it has room for. Entries past the answer keep what they held, in every area.
  *

@@ -10,7 +10,8 @@
 //! layout of its struct; each pointer stands with the length of what it points to;
 //! it comes from a slice and so is not null; and no slice that a call may write
 //! overlaps another, as the borrows show. The engine keeps nothing between calls,
-//! so that threads may call it at once, and it never unwinds.
+//! so that threads may call it at once, and it never unwinds. A call needs up to
+//! 40 KB of stack, as measured; the typed calls need 20 more for what they lend.
 
 #![allow(unsafe_code)]
 
