@@ -105,19 +105,9 @@ impl Words {
                 }
                 Some("--tsv") => sorted.tsv = true,
                 Some("--help" | "-h") => sorted.help = true,
-                Some(option) if is_option(option) => {
-                    let (name, value) = match option.split_once('=') {
-                        Some((name, value)) => (name, Some(value.into())),
-                        None => (option, None),
-                    };
-                    let mut known = verb.options.iter().map(|(known, _)| *known);
-                    let known = known.find(|known| *known == name);
-                    let name = known.ok_or_else(|| {
-                        format!("{} takes no option {}", verb.call(), quoted(&word))
-                    })?;
-                    let value = value.or_else(|| words.next());
-                    let value = value.ok_or_else(|| format!("nothing stands after {name}"))?;
-                    sorted.options.push((name, value));
+                Some(word) if is_option(word) => {
+                    let option = option(verb, word, &mut words)?;
+                    sorted.options.push(option);
                 }
                 _ => sorted.plain.push_back(word),
             }
@@ -185,6 +175,27 @@ impl Words {
         let word = self.plain.pop_front();
         word.ok_or_else(|| format!("{name} is missing"))
     }
+}
+
+/// An option of the verb and what stands after it: behind a `=`, or as the next word.
+fn option(
+    verb: &Verb,
+    word: &str,
+    rest: &mut impl Iterator<Item = OsString>,
+) -> Result<(&'static str, OsString), String> {
+    let (name, value) = match word.split_once('=') {
+        Some((name, value)) => (name, Some(value.into())),
+        None => (word, None),
+    };
+    let mut known = verb.options.iter().map(|(known, _)| *known);
+    let known = known.find(|known| *known == name);
+    let name = known.ok_or_else(|| {
+        let word = quoted(OsStr::new(word));
+        format!("{} takes no option {word}", verb.call())
+    })?;
+    let value = value.or_else(|| rest.next());
+    let value = value.ok_or_else(|| format!("nothing stands after {name}"))?;
+    Ok((name, value))
 }
 
 /// Whether a word has the look of an option: a minus, and no number after it.
