@@ -38,6 +38,7 @@ pub fn folder() -> &'static Path {
 /// Writes a file that no other test writes, and returns its name.
 pub fn written(name: &str, text: &[u8]) -> String {
     let file = folder().join(name);
+    fs::create_dir_all(folder()).expect("a folder in the target folder");
     fs::write(&file, text).expect("a file in the target folder");
     file.into_os_string()
         .into_string()
