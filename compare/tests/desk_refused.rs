@@ -270,6 +270,174 @@ fn damaged(random: &mut Random) -> (Vec<u8>, Refusal) {
     }
 }
 
+/// What a reason must say after its colon, and words of the mend.
+struct Said {
+    text: Vec<u8>,
+    detail: String,
+    mend: &'static str,
+}
+
+impl Said {
+    fn new(text: Vec<u8>, detail: &str, mend: &'static str) -> Said {
+        let detail = detail.to_string();
+        Said { text, detail, mend }
+    }
+
+    /// Asks with these words, and compares.
+    fn hold(&self, words: &[&str]) {
+        let ran = ask(self::words(words), &self.text, Form::Tsv, Way::Input, 0);
+        let row = |name: &str| {
+            let mut lines = ran.out.lines();
+            let row = lines.find_map(|line| line.strip_prefix(name));
+            row.unwrap_or_else(|| panic!("{}: no {name} in {}", ran.asked, ran.out))
+        };
+        let (_, detail) = row("reason\t").split_once(": ").expect("a detail");
+        assert_eq!(detail, self.detail, "{}", ran.asked);
+        let mend = row("mend\t");
+        assert!(mend.contains(self.mend), "{}: {detail}: {mend}", ran.asked);
+    }
+}
+
+/// Table B with the blanks at the ends of its lines cut off, as editors do.
+fn trimmed_b() -> Vec<u8> {
+    let text = String::from_utf8(dotted(TABLE_B)).expect("ASCII");
+    let lines = text.lines().map(|line| format!("{}\n", line.trim_end()));
+    lines.collect::<String>().into_bytes()
+}
+
+/// Causes of a wrong length that people meet, each with its own mend.
+#[test]
+fn causes_of_wrong_lengths() {
+    let b = dotted(TABLE_B);
+    let joined = |one: &[u8], other: &[u8]| [one, other].concat();
+    let full = largest::all_read(b'M');
+    let one_more = joined(&full, b"1024 L    0            0\n");
+    let at = |line: usize, fault: &str| format!("line {line} (the header is line 0) {fault}");
+    let awk = "awk '{ printf \"%-24s\\n\", $0 }'";
+    let said = [
+        Said::new(vec![], "it is empty", "header"),
+        Said::new(b[..LINE].to_vec(), "it has no node line", "each node"),
+        Said::new(one_more, "it has more than 1,024 node lines", "cut"),
+        Said::new(
+            joined(b"            12\n", &b),
+            "the header has 14 columns, like a margin line",
+            "leave out",
+        ),
+        Said::new(
+            carriage_returns(&b),
+            "the header has a carriage return before its newline",
+            "newlines alone",
+        ),
+        Said::new(
+            joined(b"\xef\xbb\xbf", &b),
+            "the header begins with a byte order mark",
+            "without",
+        ),
+        Said::new(trimmed_b(), &at(1, "ends after column 6"), awk),
+        Said::new(b[..149].to_vec(), &at(5, "has no newline"), "end the last"),
+        Said::new(joined(&b, b"\n"), &at(6, "is empty"), "delete"),
+        Said::new(joined(&b, b"x"), &at(6, "ends after column 1"), "blanks"),
+        Said::new(
+            b_spliced(2, 7..=11, b"\t0"),
+            &at(2, "has a tab in column 7"),
+            "blanks",
+        ),
+        Said::new(
+            b_spliced(2, 7..=7, b"\xc2\xa0"),
+            &at(2, "has a character that is not ASCII in column 7"),
+            "ASCII",
+        ),
+        Said::new(
+            b_spliced(2, 25..=25, b"  \n"),
+            &at(2, "ends after column 26"),
+            "cut it",
+        ),
+        Said::new(
+            vec![b'x'; 30_000],
+            "the header is much longer than 24 columns",
+            "cut it",
+        ),
+    ];
+    for said in said {
+        assert_eq!(second::read(&said.text).map_err(|r| r.number), Err(1));
+        said.hold(&["worth"]);
+    }
+
+    // The mend for cut-off blanks gives the table back.
+    let cut = written("desk-trimmed.txt", &trimmed_b());
+    let program = awk.split('\'').nth(1).expect("a program in quotes");
+    let filled = std::process::Command::new("awk")
+        .args([program, &cut])
+        .output();
+    assert_eq!(filled.expect("awk").stdout, b);
+}
+
+/// What is said of a line at fault, in words that name what stands there.
+const REASONS: &str = "\
+0 .......4.......0.......8 the count of nodes is blank
+0 ...5..+4.......0.......8 T has a plus
+0 ...5...4......-0.......8 the lowest end is -0
+0 ...5...4.......08....... the highest end is not right-justified
+0 ...5...0.......0.......8 T is not 1 to 64
+0 ...5...4-1000001.......8 the lowest end is more than 1,000,000 from 0
+0 ...5...4.......9.......8 the lowest end is above the highest
+0 ...6...4.......0.......8 it is 6, and there are 5
+1 ...0.M....0............. node 0 has none
+2 ...1.L....0...........05 the utility has a leading zero
+2 ...1.L....0..........-.5 the utility has a blank after its minus
+2 ...1x.....0............5 column 5 is not blank, the kind is blank
+2 ...1.l....0............5 it is `l`
+2 ...1.L....0............9 the utility is outside the ends 0 and 8
+2 ...1.L....0............. a leaf needs a utility
+2 ...1.L....0....1.......5 only the children of a C have a weight
+3 ...2.C.................. it is missing
+3 ...2.C....1............. node 1 is a leaf
+3 ...2.C....2............. node 2 does not come before this one
+3 ...2.C...-1............. there is no node -1
+3 ...2.C....0............5 only a leaf has a utility
+4 ...3.L....2...3a.......2 the weight is no number
+4 ...3.L....2....5.......2 the weight is not 1 to 4
+4 ...3.L....2............2 a child of a C needs a weight
+4 ...4.L....2....3.......2 it is 4 and should be 3
+4 ...3.L....2....2.......2 they sum to 3, and T is 4
+";
+
+#[test]
+fn reasons_in_words() {
+    let mut told = 0;
+    for case in REASONS.lines() {
+        let parts: Vec<&str> = case.splitn(3, ' ').collect();
+        let [line, columns, detail] = parts[..] else {
+            panic!("{case}");
+        };
+        let line = line.parse().expect("a line");
+        Said::new(table_b_with(line, columns), detail, "").hold(&["show"]);
+        told += 1;
+    }
+    assert_eq!(told, 26);
+
+    let closed = dotted(&TABLE_A.replace("...6.L....4", "...6.L....1"));
+    let others = "other nodes than those under node 1 stand between";
+    Said::new(closed, others, "follow it").hold(&["show"]);
+    let deep = "it is the 65th node on its path";
+    Said::new(chain(&[b'M'; 64], 1), deep, "64 nodes").hold(&["show"]);
+    let chances = "it is the fifth C on its path";
+    Said::new(chain(b"CCCCC", 1), chances, "4 C").hold(&["show"]);
+    let windows = carriage_returns(&chain(&[b'M'; 23], 1));
+    let returned = "a carriage return stands where the newline should";
+    Said::new(windows, returned, "newline").hold(&["show"]);
+    let tab = "the utility has a tab";
+    Said::new(b_spliced(2, 23..=23, b"\t"), tab, "").hold(&["show"]);
+
+    let b = || dotted(TABLE_B);
+    Said::new(b(), "-0.1 is -1g", "range").hold(&["search", "-0.1"]);
+    let great = "99999999999999999999";
+    let given = format!("{great} was given");
+    Said::new(b(), &given, "range").hold(&["show", "--margin", great]);
+    Said::new(b(), "the first is node 2", "search it").hold(&["rollout"]);
+    Said::new(b(), "7 was given, and there are 2", "from 1").hold(&["judge", "7"]);
+}
+
 /// Refusals of a call on an accepted table: 12, 13 and 14.
 #[test]
 fn refused_calls() {

@@ -2,14 +2,27 @@
 
 use crate::output::{Amount, Page};
 
-/// An entry of a column. All entries of a column are of one sort.
+/// An entry of a column, as it is printed. All entries of a column are of one sort.
 pub enum Cell {
     /// Left-justified.
     Text(String),
     /// Right-justified.
-    Number(usize),
+    Number(String),
     /// The points right-justified, the grains after them left-justified.
-    Amount(Amount),
+    Amount { points: String, beside: String },
+}
+
+impl Cell {
+    pub fn number(number: usize) -> Cell {
+        Cell::Number(number.to_string())
+    }
+
+    pub fn amount(amount: Amount) -> Cell {
+        Cell::Amount {
+            points: amount.points(),
+            beside: amount.beside(),
+        }
+    }
 }
 
 /// A line of a grid.
@@ -19,15 +32,8 @@ pub struct Row {
     pub bold: bool,
 }
 
-/// An entry as it will be printed, in parts that are justified each by itself.
-enum Part {
-    Left(String),
-    Right(String),
-    Pair(String, String),
-}
-
 /// How wide a column is.
-#[derive(Clone, Copy, Default)]
+#[derive(Clone, Copy)]
 struct Widths {
     /// Of the points, where the column has amounts.
     points: usize,
@@ -39,30 +45,22 @@ struct Widths {
 
 /// Prints the rows, of which there is at least one, under these headings.
 pub fn lay(page: &mut Page, headings: &[&str], rows: &[Row]) {
-    let parts: Vec<Vec<Part>> = rows.iter().map(parts).collect();
-    let mut columns = vec![Widths::default(); headings.len()];
-    for (widths, heading) in columns.iter_mut().zip(headings) {
-        widths.all = heading.len();
-    }
-    for row in &parts {
-        for (widths, part) in columns.iter_mut().zip(row) {
-            widths.fit(part);
+    let mut columns: Vec<Widths> = headings.iter().map(|head| Widths::of(head)).collect();
+    for row in rows {
+        for (widths, cell) in columns.iter_mut().zip(&row.cells) {
+            widths.fit(cell);
         }
     }
 
-    let numbers = |column: usize| matches!(rows[0].cells[column], Cell::Number(_));
-    let heading = headings.iter().enumerate().map(|(i, heading)| {
-        let width = columns[i].all;
-        match numbers(i) {
-            true => format!("{heading:>width$}"),
-            false => format!("{heading:<width$}"),
-        }
+    let heads = headings.iter().zip(&rows[0].cells);
+    let heads = heads.map(|(head, below)| match below {
+        Cell::Number(_) => Cell::Number(head.to_string()),
+        _ => Cell::Text(head.to_string()),
     });
-    page.dim(&line(heading));
+    page.dim(&line(&columns, &heads.collect::<Vec<_>>()));
     page.plain("\n");
-    for (row, parts) in rows.iter().zip(&parts) {
-        let cells = columns.iter().zip(parts);
-        let line = line(cells.map(|(widths, part)| widths.justify(part)));
+    for row in rows {
+        let line = line(&columns, &row.cells);
         match row.bold {
             true => page.bold(&line),
             false => page.plain(&line),
@@ -71,41 +69,40 @@ pub fn lay(page: &mut Page, headings: &[&str], rows: &[Row]) {
     }
 }
 
-fn parts(row: &Row) -> Vec<Part> {
-    let part = |cell: &Cell| match cell {
-        Cell::Text(text) => Part::Left(text.clone()),
-        Cell::Number(number) => Part::Right(number.to_string()),
-        Cell::Amount(amount) => Part::Pair(amount.points(), amount.beside()),
-    };
-    row.cells.iter().map(part).collect()
-}
-
-fn line(cells: impl Iterator<Item = String>) -> String {
-    let cells: Vec<String> = cells.collect();
+fn line(columns: &[Widths], cells: &[Cell]) -> String {
+    let cells = columns.iter().zip(cells);
+    let cells: Vec<String> = cells.map(|(widths, cell)| widths.justify(cell)).collect();
     cells.join("  ").trim_end().to_string()
 }
 
 impl Widths {
-    /// Makes room for an entry.
-    fn fit(&mut self, part: &Part) {
-        match part {
-            Part::Left(text) | Part::Right(text) => {
-                self.all = self.all.max(text.chars().count());
-            }
-            Part::Pair(points, beside) => {
-                self.points = self.points.max(points.len());
-                self.beside = self.beside.max(beside.len());
-                self.all = self.all.max(self.points + 1 + self.beside);
-            }
+    fn of(heading: &str) -> Widths {
+        Widths {
+            points: 0,
+            beside: 0,
+            all: heading.len(),
         }
     }
 
-    fn justify(&self, part: &Part) -> String {
+    /// Makes room for an entry.
+    fn fit(&mut self, cell: &Cell) {
+        let width = match cell {
+            Cell::Text(text) | Cell::Number(text) => text.chars().count(),
+            Cell::Amount { points, beside } => {
+                self.points = self.points.max(points.len());
+                self.beside = self.beside.max(beside.len());
+                self.points + 1 + self.beside
+            }
+        };
+        self.all = self.all.max(width);
+    }
+
+    fn justify(&self, cell: &Cell) -> String {
         let width = self.all;
-        match part {
-            Part::Left(text) => format!("{text:<width$}"),
-            Part::Right(text) => format!("{text:>width$}"),
-            Part::Pair(points, beside) => {
+        match cell {
+            Cell::Text(text) => format!("{text:<width$}"),
+            Cell::Number(text) => format!("{text:>width$}"),
+            Cell::Amount { points, beside } => {
                 let amount = format!("{points:>0$} {beside}", self.points);
                 format!("{amount:<width$}")
             }

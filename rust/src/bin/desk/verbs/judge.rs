@@ -1,6 +1,6 @@
 //! `judge NUMBER`: what a play loses.
 
-use margin_engine::{Judgement, Refusal, Table, judge, read};
+use margin_engine::{Judgement, Play, Refusal, Table, judge, read};
 
 use super::{Answer, Played, Question, Verb};
 use crate::margin::Number;
@@ -32,16 +32,17 @@ impl Question for Asked {
         let judgement = judge(text, number)?;
         let table = read(text)?;
         let plays: Vec<usize> = table.children(0).collect();
+        let play = match judgement {
+            // The engine refuses a number that no child has.
+            Judgement::Loss { .. } => Play::Child {
+                number,
+                node: plays[number as usize - 1],
+            },
+            Judgement::NoDecision => Play::None,
+        };
         Ok(Box::new(Judged {
             judgement,
-            played: match judgement {
-                // The engine refuses a number that no child has.
-                Judgement::Loss { .. } => Played::Child {
-                    number,
-                    node: plays[number as usize - 1],
-                },
-                _ => Played::Nobody(table.nodes[0].kind),
-            },
+            played: Played::of(play, &table),
             plays: plays.len(),
             per_point: table.per_point,
         }))

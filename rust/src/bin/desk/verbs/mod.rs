@@ -58,8 +58,8 @@ pub trait Question {
     /// Asks the engine.
     fn answer(&self, text: &[u8]) -> Result<Box<dyn Answer>, Refusal>;
 
-    /// What to say of a refusal that is not for the table but for what was asked
-    /// about it: the words that were given.
+    /// Where the table is accepted and the question is refused: what was asked, to be
+    /// printed with the reason.
     fn given(&self, _: &Table) -> String {
         String::new()
     }
@@ -71,41 +71,38 @@ pub trait Answer {
     fn tsv(&self, sheet: &mut Sheet);
 }
 
-/// The child of the root that a verb speaks of, by number and node.
-#[derive(Clone, Copy)]
-enum Played {
-    Child {
-        number: i64,
-        node: usize,
-    },
-    /// Nobody chooses at a root of this kind.
-    Nobody(Kind),
+/// The play that a verb speaks of.
+struct Played {
+    play: Play,
+    /// The root's kind, which says why there is no play where there is none.
+    root: Kind,
 }
 
 impl Played {
     fn of(play: Play, table: &Table) -> Played {
-        match play {
-            Play::Child { number, node } => Played::Child { number, node },
-            Play::None => Played::Nobody(table.nodes[0].kind),
-        }
+        let root = table.nodes[0].kind;
+        Played { play, root }
     }
 
     fn people(&self, page: &mut Page) {
-        match self {
-            Played::Child { number, node } => {
+        match self.play {
+            Play::Child { number, node } => {
                 page.named("play", format_args!("{number}, node {node}"));
             }
-            Played::Nobody(kind) => {
-                let root = if *kind == Kind::Leaf { "an L" } else { "a C" };
+            Play::None => {
+                let root = match self.root {
+                    Kind::Leaf => "an L",
+                    _ => "a C",
+                };
                 page.named("play", format_args!("none: nobody chooses at {root} root"));
             }
         }
     }
 
     fn tsv(&self, sheet: &mut Sheet) {
-        let (number, node) = match self {
-            Played::Child { number, node } => (*number, *node),
-            Played::Nobody(_) => (0, 0),
+        let (number, node) = match self.play {
+            Play::Child { number, node } => (number, node),
+            Play::None => (0, 0),
         };
         sheet.row("play", &[&number, &node]);
     }

@@ -58,9 +58,9 @@ impl Answer for Shown {
         let records = self.rolled.records.iter().enumerate();
         let rows = records.map(|(node, record)| Row {
             cells: vec![
-                Cell::Number(node),
-                Cell::Amount(amount(record.low)),
-                Cell::Amount(amount(record.high)),
+                Cell::number(node),
+                Cell::amount(amount(record.low)),
+                Cell::amount(amount(record.high)),
             ],
             bold: false,
         });

@@ -140,10 +140,10 @@ impl Standing {
     fn row(&self) -> Row {
         Row {
             cells: vec![
-                Cell::Number(self.number as usize),
-                Cell::Number(self.node),
-                Cell::Amount(self.worth),
-                Cell::Amount(self.loss),
+                Cell::number(self.number as usize),
+                Cell::number(self.node),
+                Cell::amount(self.worth),
+                Cell::amount(self.loss),
                 Cell::Text(self.words()),
             ],
             bold: self.play,
@@ -177,7 +177,7 @@ impl Answer for Drawn {
             rows.push(Row {
                 cells: vec![
                     Cell::Text(line),
-                    Cell::Amount(self.amount(self.worths[node])),
+                    Cell::amount(self.amount(self.worths[node])),
                     Cell::Text(mark.to_string()),
                 ],
                 bold: read,
