@@ -1,11 +1,12 @@
--- Refusals of a table, 1 to 10, and of a call on an accepted one, 11 to 14. Document 01, 'Refused tables and calls'.
+-- Refusals of a table, 1 to 10, of a call on an accepted one, 11 to 14, and of a match file, 15 and 16. Document 01, 'Refused tables and
+-- calls'; document 02, Item 1.
 use Prim.Native.Nat.{ℕ}
 use mathlib.Core.Bool.{Bool, cond}
 use mathlib.Core.List.{List, [], _∷_}
 use Rattle.line.specs.declared.Refusal.{Refusal}
-use Rattle.line.specs.declared.Refusal.the-variants.{Length, IllWritten, OutOfRange, Misnumbered, UnknownKind, WrongParent, Misfilled, Childless, WrongSum, TooDeep, NoRoom, BadMargin, HasChance, NoChild}
+use Rattle.line.specs.declared.Refusal.the-variants.{Length, IllWritten, OutOfRange, Misnumbered, UnknownKind, WrongParent, Misfilled, Childless, WrongSum, TooDeep, NoRoom, BadMargin, HasChance, NoChild, TooMany, NoPosition}
 
--- "Returned": the number and the line of every refusal
+-- "Returned": the number and the line of every refusal; of Item 1, "15 and 16 have line 0"
 abbrev pub numberOf : Refusal → ℕ
 numberOf Length = 1
 numberOf (IllWritten line) = 2
@@ -21,6 +22,8 @@ numberOf NoRoom = 11
 numberOf BadMargin = 12
 numberOf HasChance = 13
 numberOf NoChild = 14
+numberOf TooMany = 15
+numberOf NoPosition = 16
 
 abbrev pub lineOf : Refusal → ℕ
 lineOf Length = 0
@@ -37,6 +40,8 @@ lineOf NoRoom = 0
 lineOf BadMargin = 0
 lineOf HasChance = 0
 lineOf NoChild = 0
+lineOf TooMany = 0
+lineOf NoPosition = 0
 
 -- what a step of the reading gives: a refusal, or what it read
 pub data Verdict (A : Type 0) : Type 0 where

@@ -6,7 +6,8 @@ ghost use Rattle.line.specs.Refusal.{numberOf, lineOf};
 ghost use Rattle.line.specs.Line.{valueOf, toNat, letterCode};
 use field::Field;
 
-// Why a table, or a call on an accepted one, is refused. A case that has a line names it: the header is line 0, and node i is line i + 1.
+// Why a table, a call on an accepted one, or a match file is refused. A case that has a line names it: the header is line 0, and node i is
+// line i + 1.
 pub enum Refusal {
     Length,
     IllWritten(usize),
@@ -22,6 +23,8 @@ pub enum Refusal {
     BadMargin,
     HasChance,
     NoChild,
+    TooMany,
+    NoPosition,
 }
 
 // The header's fields, and what they say.
@@ -57,7 +60,7 @@ pub struct Line {
     pub chances: u64,
 }
 
-// Document 01's number of a refusal.
+// The documents' number of a refusal.
 pub fn refusal_number(r: Refusal) -> u64
     ensures { λ n. ⌜ n ≡ numberOf r ⌝ }
 {
@@ -76,10 +79,12 @@ pub fn refusal_number(r: Refusal) -> u64
         Refusal::BadMargin => 12,
         Refusal::HasChance => 13,
         Refusal::NoChild => 14,
+        Refusal::TooMany => 15,
+        Refusal::NoPosition => 16,
     }
 }
 
-// Document 01's line of a refusal.
+// The documents' line of a refusal.
 pub fn refusal_line(r: Refusal) -> usize
     ensures { λ n. ⌜ n ≡ lineOf r ⌝ }
 {
@@ -98,6 +103,8 @@ pub fn refusal_line(r: Refusal) -> usize
         Refusal::BadMargin => 0,
         Refusal::HasChance => 0,
         Refusal::NoChild => 0,
+        Refusal::TooMany => 0,
+        Refusal::NoPosition => 0,
     }
 }
 

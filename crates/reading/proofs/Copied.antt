@@ -12,28 +12,29 @@ use Rattle.table.proofs.Laid.{laid-more}
 -- ---- copying
 
 -- i of n entries are copied from xs; the slice came as a
-pub record Copying (n : ℕ) (xs a b : List ℕ) (i : ℕ) : Type 0 where
+pub record Copying {A : Type 0} (n : ℕ) (xs a b : List A) (i : ℕ) : Type 0 where
   pub some : n ≤ length xs
   pub before : i ≤ n
   pub within : i ≤ length a
   pub copied : b ≡ laid (take i xs) a
   pub kept : length b ≡ length a
 
-pub copying-none : (n : ℕ) (xs a : List ℕ) → n ≤ length xs → Copying n xs a a 0
+pub copying-none : {A : Type 0} (n : ℕ) (xs a : List A) → n ≤ length xs → Copying n xs a a 0
 copying-none n xs a h = record { some = h; before = omega arith; within = omega arith; copied = refl; kept = refl }
 
-module _ (n : ℕ) (xs a b : List ℕ) (i : ℕ) (C : Copying n xs a b i) where
-  pub copying-more : i < n → i < length b → Copying n xs a (set b i (getD xs i 0)) (i + 1)
-  copying-more l m =
+module _ {A : Type 0} (n : ℕ) (xs a b : List A) (i : ℕ) (C : Copying n xs a b i) where
+  -- d is read where there is no such entry
+  pub copying-more : (d : A) → i < n → i < length b → Copying n xs a (set b i (getD xs i d)) (i + 1)
+  copying-more d l m =
       let r : i < length a = omega (arith, C .kept) in
       let e : length (take i xs) ≡ i = length-take-le i xs (omega (arith, C .some)) in
       record {
         some = C .some;
         before = omega arith;
         within = omega arith;
-        copied = ap (λ (y : List ℕ). set y i (getD xs i 0)) (C .copied)
-            ∙ rw (add-one, take-suc xs i 0 (omega (arith, C .some)), laid-more (take i xs) a (getD xs i 0) (omega arith), e);
-        kept = length-set b i (getD xs i 0) ∙ C .kept;
+        copied = ap (λ (y : List A). set y i (getD xs i d)) (C .copied)
+            ∙ rw (add-one, take-suc xs i d (omega (arith, C .some)), laid-more (take i xs) a (getD xs i d) (omega arith), e);
+        kept = length-set b i (getD xs i d) ∙ C .kept;
       }
 
   -- no room is left

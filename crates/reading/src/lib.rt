@@ -62,7 +62,7 @@ fn completed(
 }
 
 // The first n entries, or as many as there is room for, copied: once for each width.
-fn keep8(n: usize, from: &[u8], to: &mut [u8])
+pub fn keep8(n: usize, from: &[u8], to: &mut [u8])
     requires { ⌜ n ≤ length (now from) ⌝ }
     ensures { λ _. ⌜ now (to .exit) ≡ fitted (take n (now (from .entry))) (now (to .entry)) ⌝ }
 {

@@ -1,4 +1,4 @@
--- Numbers at the front of a slice. Assumes nothing.
+-- Entries at the front of a slice. Assumes nothing.
 use Prim.Native.Nat.{ℕ, suc, _≤_, _<_}
 use mathlib.Core.Path.{_≡_, sym, ap, _∙_}
 use mathlib.Core.List.{List, [], _∷_, _++_, append-assoc}
@@ -10,15 +10,15 @@ use Rattle.table.specs.Slices.{laid, fitted}
 
 -- ---- one entry more in a slice
 
-pub laid-more : (xs a : List ℕ) (v : ℕ) → length xs < length a → laid (xs ++ (v ∷ [])) a ≡ set (laid xs a) (length xs) v
+pub laid-more : {A : Type 0} (xs a : List A) (v : A) → length xs < length a → laid (xs ++ (v ∷ [])) a ≡ set (laid xs a) (length xs) v
 laid-more xs a v h =
     let e : length (xs ++ (v ∷ [])) ≡ suc (length xs) = length-append xs (v ∷ []) ∙ add-one (length xs) in
-    rw (e, append-assoc, drop-cons a (length xs) 0 h) (sym (set-append-seam xs (getD a (length xs) 0) (drop (suc (length xs)) a) v))
+    rw (e, append-assoc, drop-cons a (length xs) v h) (sym (set-append-seam xs (getD a (length xs) v) (drop (suc (length xs)) a) v))
 
 -- ---- a slice with room for all entries gets them all
 
-pub fitted-all : (xs a : List ℕ) → length xs ≤ length a → fitted xs a ≡ laid xs a
-fitted-all xs a h = ap (λ (ys : List ℕ). laid ys a) (take-all (length a) xs h)
+pub fitted-all : {A : Type 0} (xs a : List A) → length xs ≤ length a → fitted xs a ≡ laid xs a
+fitted-all xs a h = ap (λ ys. laid ys a) (take-all (length a) xs h)
 
 pub fitted-long : (xs a : List ℕ) (n : ℕ) → length xs ≡ n → n ≤ length a → n ≤ length (fitted xs a)
 fitted-long xs a n e h = rw (fitted-all xs a (omega arith)) (omega (arith, length-append xs (drop (length xs) a)))

@@ -1,6 +1,6 @@
--- A refusal names a line of the table. Assumes nothing.
+-- A refusal names a line of the table; where the length is good, its number is not 1. Assumes nothing.
 use Prim.Native.Nat.{ℕ, zero, suc, _+_, _≤_, _<_}
-use mathlib.Core.Path.{_≡_, refl, subst}
+use mathlib.Core.Path.{_≡_, refl, sym, subst, _∙_}
 use mathlib.Core.Bool.{Bool, true, false, cond}
 use mathlib.Core.List.{List, [], _∷_, _++_}
 use native.Mathlib.Omega.{arith}
@@ -9,7 +9,7 @@ use Rattle.line.specs.declared.Head.{Head}
 use Rattle.line.specs.declared.Line.{Line}
 use Rattle.line.specs.declared.Refusal.{Refusal}
 use Rattle.line.specs.declared.Refusal.the-variants.{Childless, WrongSum}
-use Rattle.line.specs.Refusal.{Verdict, refused, fine, Check, unless, unlessAt, next, lineOf}
+use Rattle.line.specs.Refusal.{Verdict, refused, fine, Check, unless, unlessAt, next, numberOf, lineOf}
 use Rattle.line.specs.Line.{Step, Placed, ancestors, stepped, stepsOf, placed, letterCode, entryOf, headingOf, headOf, header, headerChecks, lineChecks, nodeLine}
 use Rattle.line.proofs.Fine.{unlessAt-fine}
 use Rattle.table.specs.Tree.{Kind, Forest, end, leaf, inner, nodesWhere, childless, unbalanced}
@@ -20,17 +20,20 @@ use Rattle.table.proofs.Known.{read-numbered, read-size}
 
 -- ---- checks
 
--- a refusal at line m or before
-abbrev Upto : ℕ → {A : Type 0} → Verdict A → Type 0
-Upto m (refused r) = lineOf r ≤ m
+-- a refusal at line m or before, another than 1
+abbrev pub Named : ℕ → Refusal → Type 0
+Named m r = (2 ≤ numberOf r) × (lineOf r ≤ m)
+
+abbrev pub Upto : ℕ → {A : Type 0} → Verdict A → Type 0
+Upto m (refused r) = Named m r
 Upto m (fine a) = Unit {0}
 
-abbrev Lines : ℕ → List Check → Type 0
+abbrev pub Lines : ℕ → List Check → Type 0
 Lines m [] = Unit {0}
-Lines m (c ∷ cs) = (lineOf (c .gives) ≤ m) × Lines m cs
+Lines m (c ∷ cs) = Named m (c .gives) × Lines m cs
 
 module _ {A : Type 0} (m : ℕ) where
-  unless-upto : (cs : List Check) (a : A) → Lines m cs → Upto m (unless cs a)
+  pub unless-upto : (cs : List Check) (a : A) → Lines m cs → Upto m (unless cs a)
   unfolding unless
   unless-upto [] a h = tt
   unless-upto (c ∷ cs) a h = go (unless-upto cs a (h .1)) (c .holds)
@@ -39,7 +42,7 @@ module _ {A : Type 0} (m : ℕ) where
       go ih true = h .0
       go ih false = ih
 
-next-upto : {A B : Type 0} (m : ℕ) (v : Verdict A) (f : A → Verdict B) → Upto m v → ((a : A) → v ≡ fine a → Upto m (f a)) → Upto m (next v f)
+pub next-upto : {A B : Type 0} (m : ℕ) (v : Verdict A) (f : A → Verdict B) → Upto m v → ((a : A) → v ≡ fine a → Upto m (f a)) → Upto m (next v f)
 next-upto m (refused r) f h g = h
 next-upto m (fine a) f h g = g a refl
 
@@ -57,7 +60,7 @@ module _ (h : Head) (m : ℕ) where
       let k : ℕ = letterCode (e .letter) in
       let here : i + 1 ≤ m = omega arith in
       next-upto m (nodeLine h i P (take 25 s)) (λ (p : Placed). prefix (p .line ∷ []) (nodeLines h n (suc i) (p .steps) (drop 25 s)))
-      (unless-upto m (lineChecks h i e (getD (take 25 s) 4 0) (getD (take 25 s) 24 0) a) (placed i k e (stepped i k (stepsOf a))) (here, (here, (here, (here, (here, (here, (here, tt))))))))
+      (unless-upto m (lineChecks h i e (getD (take 25 s) 4 0) (getD (take 25 s) 24 0) a) (placed i k e (stepped i k (stepsOf a))) ((omega arith, here), ((omega arith, here), ((omega arith, here), ((omega arith, here), ((omega arith, here), ((omega arith, here), ((omega arith, here), tt))))))))
       (λ p q. prefix-upto m (p .line ∷ []) (nodeLines h n (suc i) (p .steps) (drop 25 s)) (lines-upto n (suc i) (p .steps) (drop 25 s) (omega arith)))
 
 -- ---- nodes
@@ -83,7 +86,7 @@ where-below bad m i (inner n w k under rest) N l =
     below-append m (cond (bad k under) (n ∷ []) []) (nodesWhere bad under ++ nodesWhere bad rest) (below-one m n (bad k under) (omega (arith, N .0)))
     (below-append m (nodesWhere bad under) (nodesWhere bad rest) (where-below bad m (suc i) under (N .1) (omega arith)) (where-below bad m (suc i + size under) rest (N .2) (omega arith)))
 
-unless-at : {A : Type 0} (m : ℕ) (gives : ℕ → Refusal) (xs : List ℕ) (a : A) → ((x : ℕ) → x < m → lineOf (gives x) ≤ m) → Below m xs → Upto m (unlessAt gives xs a)
+unless-at : {A : Type 0} (m : ℕ) (gives : ℕ → Refusal) (xs : List ℕ) (a : A) → ((x : ℕ) → x < m → Named m (gives x)) → Below m xs → Upto m (unlessAt gives xs a)
 unfolding unlessAt
 unless-at m gives [] a g b = tt
 unless-at m gives (x ∷ xs) a g b = g x (b .0)
@@ -92,27 +95,39 @@ complete-upto : (m : ℕ) (t : Table) → Numbered 0 (tree t) → size (tree t) 
 unfolding complete
 complete-upto m t N l =
     next-upto m (unlessAt (λ (n : ℕ). Childless (n + 1)) (childless (tree t)) t) (λ (t : Table). unlessAt (λ (n : ℕ). WrongSum (n + 1)) (unbalanced (t .head .total) (tree t)) t)
-    (unless-at m (λ (n : ℕ). Childless (n + 1)) (childless (tree t)) t (λ x h. omega arith) (where-below _ m 0 (tree t) N (omega arith)))
+    (unless-at m (λ (n : ℕ). Childless (n + 1)) (childless (tree t)) t (λ x h. (omega arith, omega arith)) (where-below _ m 0 (tree t) N (omega arith)))
     (λ t′ e.
     let z : t ≡ t′ = unlessAt-fine (λ (n : ℕ). Childless (n + 1)) (childless (tree t)) t t′ e .1 in
     subst (λ (y : Table). Upto m (unlessAt (λ (n : ℕ). WrongSum (n + 1)) (unbalanced (y .head .total) (tree y)) y)) z
-    (unless-at m (λ (n : ℕ). WrongSum (n + 1)) (unbalanced (t .head .total) (tree t)) t (λ x h. omega arith) (where-below _ m 0 (tree t) N (omega arith))))
+    (unless-at m (λ (n : ℕ). WrongSum (n + 1)) (unbalanced (t .head .total) (tree t)) t (λ x h. (omega arith, omega arith)) (where-below _ m 0 (tree t) N (omega arith))))
 
 -- ---- the whole text
 
-read-upto : (s : List ℕ) (b : Bool) → badLength (length s) ≡ b → Upto 1024 (readText s)
-read-upto s true e = rw (read-length s e) (omega arith)
-read-upto s false e =
+read-upto : (s : List ℕ) → badLength (length s) ≡ false → Upto 1024 (readText s)
+read-upto s e =
     let g = good-length (length s) e in
     let n : ℕ = count s in
     rw (read-header s e)
     (next-upto 1024 (header n (take 25 s)) (λ (h : Head). linesOf h n (drop 25 s))
-    (unless-upto 1024 (headerChecks n (getD (take 25 s) 24 0) (headingOf (take 25 s))) (headOf (headingOf (take 25 s))) (omega arith, (omega arith, (omega arith, tt))))
+    (unless-upto 1024 (headerChecks n (getD (take 25 s) 24 0) (headingOf (take 25 s))) (headOf (headingOf (take 25 s)))
+    ((omega arith, omega arith), ((omega arith, omega arith), ((omega arith, omega arith), tt))))
     (λ h p.
     next-upto 1024 (nodeLines h n 0 [] (drop 25 s)) (λ (ls : List Line). complete (record { head = h; lines = ls })) (lines-upto h 1024 n 0 [] (drop 25 s) (omega (arith, g .2)))
     (λ ls q.
     let t : Table = record { head = h; lines = ls } in
     complete-upto 1024 t (read-numbered t n (drop 25 s) q (g .1)) (omega (arith, read-size t n (drop 25 s) q (g .1), g .2)))))
 
+pub refused-named : (s : List ℕ) (r : Refusal) → badLength (length s) ≡ false → readText s ≡ refused r → Named 1024 r
+refused-named s r g e = subst (Upto 1024) e (read-upto s g)
+
+-- whatever the length
+abbrev AtMost : Verdict Table → Type 0
+AtMost (refused r) = lineOf r ≤ 1024
+AtMost (fine t) = Unit {0}
+
 pub refused-line : (s : List ℕ) (r : Refusal) → readText s ≡ refused r → lineOf r ≤ 1024
-refused-line s r e = subst (Upto 1024) e (read-upto s (badLength (length s)) refl)
+refused-line s r e = go (badLength (length s)) refl
+  where
+    go : (b : Bool) → badLength (length s) ≡ b → lineOf r ≤ 1024
+    go true l = subst (λ (v : Verdict Table). AtMost v) (sym (read-length s l) ∙ e) (omega arith)
+    go false l = refused-named s r l e .1

@@ -32,13 +32,14 @@ lineStops (l ∷ ls) = (l .node + 1 + length (run (l .node) ls)) ∷ lineStops l
 abbrev pub stopsOf : Table → List ℕ
 stopsOf t = lineStops (t .lines)
 
--- a slice a with the numbers xs, for which it has room, at its front
-abbrev pub laid : List ℕ → List ℕ → List ℕ
-laid xs a = xs ++ drop (length xs) a
+module _ {A : Type 0} where
+  -- a slice a with the entries xs, for which it has room, at its front
+  abbrev pub laid : List A → List A → List A
+  laid xs a = xs ++ drop (length xs) a
 
--- the same with as many of xs as a has room for
-abbrev pub fitted : List ℕ → List ℕ → List ℕ
-fitted xs a = laid (take (length a) xs) a
+  -- the same with as many of xs as a has room for
+  abbrev pub fitted : List A → List A → List A
+  fitted xs a = laid (take (length a) xs) a
 
 -- the numbers of an accepted table; of a refused one none, so that nothing is written
 abbrev pub decoded : (Table → List ℕ) → Verdict Table → List ℕ
