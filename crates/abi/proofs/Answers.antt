@@ -26,8 +26,12 @@ use Rattle.rolled.specs.declared.Rolled
 use Rattle.rolled.specs.declared.Rolled.{Rolled}
 use Rattle.rolled.specs.Call.{rollCall}
 use Rattle.rolled.proofs.Answered.{RollSized, roll-sizes}
+use Rattle.report_call.specs.declared.Reported
+use Rattle.report_call.specs.declared.Reported.{Reported}
+use Rattle.report_call.specs.Call.{reportCall}
+use Rattle.report_call.proofs.Answered.{report-refused, report-totals}
 use Rattle.codes.specs.Numbers.{nodeNumber}
-use Rattle.codes.specs.Inside.{SmallReading, SmallExact, SmallOpinion, SmallBounded, SmallRolled, SmallTurned}
+use Rattle.codes.specs.Inside.{SmallReading, SmallExact, SmallOpinion, SmallBounded, SmallRolled, SmallTurned, SmallReported}
 
 node-small : (p : Play) → PlayBelow 1024 p → nodeNumber p < 1024
 node-small (Child n) h = h
@@ -88,3 +92,11 @@ module _ (s : List ℕ) where
       go : (t : Turned) → turnCall (readText s) room ≡ t → SmallTurned t
       go (Turned.the-variants.Refused r) e = turn-line s room r e
       go (Turned.the-variants.Written n) e = tt
+
+-- of any file
+pub reported-small : (file : List ℕ) (kinds losses : ℕ) → SmallReported (reportCall file kinds losses)
+reported-small file kinds losses = go (reportCall file kinds losses) refl
+  where
+    go : (r : Reported) → reportCall file kinds losses ≡ r → SmallReported r
+    go (Reported.the-variants.Refused q k) e = let h = report-refused file kinds losses q k e in (h .1 .1, h .0)
+    go (Reported.the-variants.Done t) e = report-totals file kinds losses t e

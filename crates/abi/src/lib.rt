@@ -1,5 +1,6 @@
 // The calls for programs in C and Rust. Each writes its answer's numbers into a slice of the caller's, as many as it has room for (turning
 // has none), and returns 0; where it refuses, it writes nothing and returns the refusal's line and number as one, so that 309 is refusal 9 at line 3.
+// The report has the position before them: 3000309 is the same in position 3.
 ghost use mathlib.Core.Path.{_≡_};
 ghost use lib.ListN.{length};
 ghost use Rattle.table.specs.Table.{readText, answer};
@@ -9,8 +10,9 @@ ghost use Rattle.judge.specs.Call.{judgeCall};
 ghost use Rattle.search_call.specs.Call.{searchCall, searchReads};
 ghost use Rattle.rolled.specs.Call.{rollCall, rollReads, rollStore};
 ghost use Rattle.rollout_call.specs.Records.{recorded};
+ghost use Rattle.report_call.specs.Call.{reportCall, reportKinds, reportLosses};
 ghost use Rattle.turn_call.specs.Call.{turnCall, turnBytes};
-ghost use Rattle.codes.specs.Numbers.{readCode, numbersOf, worthCode, worthNumbers, judgeCode, judgeNumbers, searchCode, searchNumbers, rollCode, rollNumbers, turnedCode, put};
+ghost use Rattle.codes.specs.Numbers.{readCode, numbersOf, worthCode, worthNumbers, judgeCode, judgeNumbers, searchCode, searchNumbers, rollCode, rollNumbers, turnedCode, reportCode, reportNumbers, put};
 use rollout_call::Record;
 
 // An accepted table: its numbers of nodes, T, the lowest and the highest end, K, G and its number of leaves go to `numbers`, and its
@@ -94,4 +96,22 @@ pub extern "C" fn margin_rollout(
     ensures store { λ _. ⌜ now (store .exit) ≡ recorded (rollStore (readText (now (text .entry))) (now (policy .entry)) (length (now (leaves .entry))) (length (now (store .entry)))) (now (store .entry)) ⌝ }
 {
     codes::put_rolled(rollout_call::rollouts(text, policy, store, leaves), numbers)
+}
+
+// The report of a match file: the number of positions, and of M and of N the number of decisions and the sum of their losses go to `numbers`;
+// each position's kind of root to `kinds`, and to `losses` its loss in thousandths of a point, -1 for no decision. Where the report is
+// refused, nothing is written.
+#[no_mangle]
+pub extern "C" fn margin_report(
+    file: &[u8],
+    kinds: &mut [u8],
+    losses: &mut [i64],
+    numbers: &mut [i64],
+) -> u64
+    ensures code { λ r. ⌜ r ≡ reportCode (reportCall (now (file .entry)) (length (now (kinds .entry))) (length (now (losses .entry)))) ⌝ }
+    ensures numbers { λ _. ⌜ now (numbers .exit) ≡ put 0 (reportNumbers (reportCall (now (file .entry)) (length (now (kinds .entry))) (length (now (losses .entry))))) (now (numbers .entry)) ⌝ }
+    ensures kinds { λ _. ⌜ now (kinds .exit) ≡ laid (reportKinds (now (file .entry)) (length (now (kinds .entry))) (length (now (losses .entry)))) (now (kinds .entry)) ⌝ }
+    ensures losses { λ _. ⌜ now (losses .exit) ≡ laid (reportLosses (now (file .entry)) (length (now (kinds .entry))) (length (now (losses .entry)))) (now (losses .entry)) ⌝ }
+{
+    codes::put_reported(report_call::report(file, kinds, losses), numbers)
 }

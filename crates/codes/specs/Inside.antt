@@ -15,6 +15,9 @@ use Rattle.rolled.specs.declared.Rolled
 use Rattle.rolled.specs.declared.Rolled.{Rolled}
 use Rattle.turn_call.specs.declared.Turned
 use Rattle.turn_call.specs.declared.Turned.{Turned}
+use Rattle.report.specs.Inside.{SmallTotals}
+use Rattle.report_call.specs.declared.Reported
+use Rattle.report_call.specs.declared.Reported.{Reported}
 use Rattle.codes.specs.Numbers.{nodeNumber}
 
 -- a table's counts fit a signed number
@@ -55,3 +58,8 @@ SmallRolled (Rolled.the-variants.Refused r) = lineOf r ≤ 1024
 abbrev pub SmallTurned : Turned → Type 0
 SmallTurned (Turned.the-variants.Written n) = Unit {0}
 SmallTurned (Turned.the-variants.Refused r) = lineOf r ≤ 1024
+
+-- a report's position is at most 501
+abbrev pub SmallReported : Reported → Type 0
+SmallReported (Reported.the-variants.Done t) = SmallTotals t
+SmallReported (Reported.the-variants.Refused r k) = (lineOf r ≤ 1024) × (k ≤ 501)

@@ -22,6 +22,10 @@ use Rattle.search_call.specs.declared.Bounds.{Bounds}
 use Rattle.search_call.specs.declared.Bounded
 use Rattle.search_call.specs.declared.Bounded.{Bounded}
 use Rattle.search_call.specs.Call.{searchNumber, searchLine}
+use Rattle.report.specs.declared.Totals.{Totals}
+use Rattle.report_call.specs.declared.Reported
+use Rattle.report_call.specs.declared.Reported.{Reported}
+use Rattle.report_call.specs.Call.{reportNumber, reportLine, reportPosition}
 use Rattle.rolled.specs.Call.{rollNumber, rollLine}
 use Rattle.rolled.specs.declared.Rolled
 use Rattle.rolled.specs.declared.Rolled.{Rolled}
@@ -83,6 +87,19 @@ rollNumbers (Rolled.the-variants.Refused r) = []
 -- the same of turning
 abbrev pub turnedCode : Turned → ℕ
 turnedCode t = 100 * turnedLine t + turnedNumber t
+
+-- the same of a report, with the position before the line, so that 3000309 is refusal 9 at line 3 of position 3: the number of positions, and
+-- of M and of N the number of decisions and the sum of the listed losses
+abbrev pub reportCode : Reported → ℕ
+reportCode r = 1000000 * reportPosition r + (100 * reportLine r + reportNumber r)
+
+abbrev pub totalsNumbers : Totals → List ℤ
+totalsNumbers t =
+    pos (t .positions) ∷ pos (t .max .decisions) ∷ pos (t .max .sum) ∷ pos (t .min .decisions) ∷ pos (t .min .sum) ∷ []
+
+abbrev pub reportNumbers : Reported → List ℤ
+reportNumbers (Reported.the-variants.Done t) = totalsNumbers t
+reportNumbers (Reported.the-variants.Refused r k) = []
 
 module _ {A : Type 0} where
   -- the list l with xs written from its entry i on, as far as it goes

@@ -5,11 +5,14 @@ ghost use Prim.Native.Nat.{_<_, _≤_, _^_};
 ghost use lib.ListN.{set};
 ghost use lib.IntN.{pos};
 ghost use Rattle.line.specs.Refusal.{lineOf};
-ghost use Rattle.codes.specs.Numbers.{readCode, numbersOf, worthCode, worthNumbers, judgeCode, judgedNumbers, judgeNumbers, nodeNumber, boundsNumbers, searchCode, searchNumbers, rollCode, rollNumbers, turnedCode, put};
-ghost use Rattle.codes.specs.Inside.{SmallSummary, SmallBounds, SmallReading, SmallExact, SmallOpinion, SmallBounded, SmallRolled, SmallTurned};
+ghost use Rattle.codes.specs.Numbers.{readCode, numbersOf, worthCode, worthNumbers, judgeCode, judgedNumbers, judgeNumbers, nodeNumber, boundsNumbers, searchCode, searchNumbers, rollCode, rollNumbers, turnedCode, totalsNumbers, reportCode, reportNumbers, put};
+ghost use Rattle.codes.specs.Inside.{SmallSummary, SmallBounds, SmallReading, SmallExact, SmallOpinion, SmallBounded, SmallRolled, SmallTurned, SmallReported};
+ghost use Rattle.report.specs.Inside.{SmallTotals};
 use judge::Judged;
 use judge::Opinion;
 use line::Refusal;
+use report::Totals;
+use report_call::Reported;
 use rolled::Rolled;
 use search_call::Bounded;
 use search_call::Bounds;
@@ -110,6 +113,19 @@ fn put_bounds(b: Bounds, numbers: &mut [i64])
     put_at(numbers, 4, signed(b.grain));
 }
 
+fn put_totals(t: Totals, numbers: &mut [i64])
+    requires { ⌜ SmallTotals t ⌝ }
+    ensures { λ _. ⌜ now (numbers .exit) ≡ put 0 (totalsNumbers t) (now (numbers .entry)) ⌝ }
+{
+    let max = t.max;
+    let min = t.min;
+    put_at(numbers, 0, signed(t.positions as u64));
+    put_at(numbers, 1, signed(max.decisions));
+    put_at(numbers, 2, signed(max.sum));
+    put_at(numbers, 3, signed(min.decisions));
+    put_at(numbers, 4, signed(min.sum));
+}
+
 // What a call answers, as a code and numbers; where it is refused, no number is written.
 
 pub fn put_reading(r: Reading, numbers: &mut [i64]) -> u64
@@ -190,5 +206,20 @@ pub fn turned_code(t: Turned) -> u64
     match t {
         Turned::Refused(r) => refusal_code(r),
         Turned::Written(_) => 0,
+    }
+}
+
+// The report's code has the position too.
+pub fn put_reported(r: Reported, numbers: &mut [i64]) -> u64
+    requires { ⌜ SmallReported r ⌝ }
+    ensures code { λ n. ⌜ n ≡ reportCode r ⌝ }
+    ensures numbers { λ _. ⌜ now (numbers .exit) ≡ put 0 (reportNumbers r) (now (numbers .entry)) ⌝ }
+{
+    match r {
+        Reported::Refused(q, k) => 1000000 * (k as u64) + refusal_code(q),
+        Reported::Done(t) => {
+            put_totals(t, numbers);
+            0
+        }
     }
 }

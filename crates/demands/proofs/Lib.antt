@@ -2,3 +2,5 @@ pub mod Untouched
 pub mod Utilities
 pub mod Demands
 pub mod Rows
+pub mod Matches
+pub mod Worked

@@ -22,8 +22,10 @@ use Rattle.search_call.specs.Call.{Sought, sought, searchAnswer, searchList}
 use Rattle.rollout_call.specs.declared.Record.{Record}
 use Rattle.rolled.specs.Call.{rolls, rollAnswer, rollList, rollRecords}
 use Rattle.rollout_call.specs.Records.{recorded}
-use Rattle.codes.specs.Numbers.{readCode, numbersOf, worthCode, worthNumbers, judgeCode, judgeNumbers, searchCode, searchNumbers, rollCode, rollNumbers, turnedCode, put}
-use Rattle.demands.specs.Untouched.{Refuses, CodesRefuse, SlicesKept, ReadUntouched, SearchUntouched, TurnUntouched, RollUntouched, CReadUntouched, CWorthUntouched, CJudgeUntouched, CSearchUntouched, CTurnUntouched, CRollUntouched}
+use Rattle.report.specs.Report.{Outcome, stopped, rows, matchOf, kindsIn, lossesIn}
+use Rattle.report_call.specs.Call.{fit, reportAnswer, filled}
+use Rattle.codes.specs.Numbers.{readCode, numbersOf, worthCode, worthNumbers, judgeCode, judgeNumbers, searchCode, searchNumbers, rollCode, rollNumbers, turnedCode, reportCode, reportNumbers, put}
+use Rattle.demands.specs.Untouched.{Refuses, CodesRefuse, ReportCodesRefuse, SlicesKept, ReadUntouched, SearchUntouched, TurnUntouched, RollUntouched, ReportUntouched, CReadUntouched, CWorthUntouched, CJudgeUntouched, CSearchUntouched, CTurnUntouched, CRollUntouched, CReportUntouched}
 
 slices-kept : (r : Refusal) (kind stop weight height : List ℕ) → SlicesKept (refused r) kind stop weight height
 slices-kept r kind stop weight height =
@@ -34,6 +36,9 @@ slices-kept r kind stop weight height =
 
 pub codes-refuse : CodesRefuse
 codes-refuse r e = omega (arith, e, number-some r)
+
+pub report-codes-refuse : ReportCodesRefuse
+report-codes-refuse r k e = omega (arith, e, number-some r)
 
 read-code : (v : Verdict Table) (numbers : List ℤ) (kind stop weight height : List ℕ) → Refuses (readCode (answer v))
     → (put 0 (numbersOf (answer v)) numbers ≡ numbers) × SlicesKept v kind stop weight height
@@ -62,6 +67,11 @@ roll-code : (p : List ℕ) (v : Verdict Table) (list : List ℕ) (store : List R
 roll-code p (refused r) list store numbers c = (refl, refl, refl)
 roll-code p (fine t) list store numbers c = absurd (c refl)
 
+report-code : (o : Outcome) (kinds : List ℕ) (losses numbers : List ℤ) → Refuses (reportCode (reportAnswer o))
+    → (put 0 (reportNumbers (reportAnswer o)) numbers ≡ numbers) × ((laid (kindsIn (filled o)) kinds ≡ kinds) × (laid (lossesIn (filled o)) losses ≡ losses))
+report-code (stopped r k) kinds losses numbers c = (refl, (refl, refl))
+report-code (rows rs) kinds losses numbers c = absurd (c refl)
+
 pub c-read-untouched : CReadUntouched
 c-read-untouched s numbers kind stop weight height c = read-code (readText s) numbers kind stop weight height c
 
@@ -80,6 +90,9 @@ c-turn-untouched s buffer c = turn-code (turnOf (readText s) (length buffer)) bu
 pub c-roll-untouched : CRollUntouched
 c-roll-untouched s p list store numbers c = roll-code p (rolls (readText s) (length list) (length store)) list store numbers c
 
+pub c-report-untouched : CReportUntouched
+c-report-untouched file kinds losses numbers c = report-code (fit (length kinds) (length losses) (matchOf file)) kinds losses numbers c
+
 -- ---- by the answer: a refusal's number is not 0
 
 pub read-untouched : ReadUntouched
@@ -96,3 +109,6 @@ pub roll-untouched : RollUntouched
 roll-untouched s p list store r e =
     let k = c-roll-untouched s p list store [] (λ z. codes-refuse r (sym (ap rollCode e) ∙ z)) in
     (k .1, k .2)
+
+pub report-untouched : ReportUntouched
+report-untouched file kinds losses r k e = c-report-untouched file kinds losses [] (λ z. report-codes-refuse r k (sym (ap reportCode e) ∙ z)) .1

@@ -1,3 +1,4 @@
 pub mod Untouched
 pub mod Demands
 pub mod Rows
+pub mod Matches

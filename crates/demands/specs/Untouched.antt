@@ -20,7 +20,9 @@ use Rattle.rollout_call.specs.declared.Record.{Record}
 use Rattle.rolled.specs.declared.Rolled
 use Rattle.rolled.specs.Call.{rollCall, rollReads, rollStore}
 use Rattle.rollout_call.specs.Records.{recorded}
-use Rattle.codes.specs.Numbers.{readCode, numbersOf, worthCode, worthNumbers, judgeCode, judgeNumbers, searchCode, searchNumbers, rollCode, rollNumbers, turnedCode, put}
+use Rattle.report_call.specs.declared.Reported
+use Rattle.report_call.specs.Call.{reportCall, reportKinds, reportLosses}
+use Rattle.codes.specs.Numbers.{readCode, numbersOf, worthCode, worthNumbers, judgeCode, judgeNumbers, searchCode, searchNumbers, rollCode, rollNumbers, turnedCode, reportCode, reportNumbers, put}
 
 -- ---- the calls of Rattle; the exact worth and the judgement are lent nothing but the text
 
@@ -53,6 +55,16 @@ RollUntouched =
     → (laid (rollReads (readText s) p (length list) (length store)) list ≡ list)
     × (recorded (rollStore (readText s) p (length list) (length store)) store ≡ store)
 
+-- document 02, Item 1: both lists, and from a file in place of a text
+abbrev pub ListsKept : List ℕ → List ℕ → List ℤ → Type 0
+ListsKept file kinds losses =
+    (laid (reportKinds file (length kinds) (length losses)) kinds ≡ kinds) × (laid (reportLosses file (length kinds) (length losses)) losses ≡ losses)
+
+abbrev pub ReportUntouched : Type 0
+ReportUntouched =
+    (file kinds : List ℕ) (losses : List ℤ) (r : Refusal) (k : ℕ) → reportCall file (length kinds) (length losses) ≡ Reported.the-variants.Refused r k
+    → ListsKept file kinds losses
+
 -- ---- the calls of the C interface, where the number that is returned is not 0
 
 -- a number returned by a refused call
@@ -62,6 +74,10 @@ Refuses code = code ≡ 0 → ⊥
 -- that is every refused call: each call returns this number of its refusal
 abbrev pub CodesRefuse : Type 0
 CodesRefuse = (r : Refusal) → Refuses (100 * lineOf r + numberOf r)
+
+-- the report's has the position k before it
+abbrev pub ReportCodesRefuse : Type 0
+ReportCodesRefuse = (r : Refusal) (k : ℕ) → Refuses (reportCode (Reported.the-variants.Refused r k))
 
 abbrev pub CReadUntouched : Type 0
 CReadUntouched =
@@ -94,3 +110,8 @@ CRollUntouched =
     → (put 0 (rollNumbers (rollCall (readText s) p (length list) (length store))) numbers ≡ numbers)
     × (laid (rollReads (readText s) p (length list) (length store)) list ≡ list)
     × (recorded (rollStore (readText s) p (length list) (length store)) store ≡ store)
+
+abbrev pub CReportUntouched : Type 0
+CReportUntouched =
+    (file kinds : List ℕ) (losses numbers : List ℤ) → Refuses (reportCode (reportCall file (length kinds) (length losses)))
+    → (put 0 (reportNumbers (reportCall file (length kinds) (length losses))) numbers ≡ numbers) × ListsKept file kinds losses

@@ -33,7 +33,7 @@ loop-less : tie.Need-loop-less Inv-loop μ-loop
 loop-less c = omega arith
 
 loop-again : tie.Need-loop-again Inv-loop μ-loop
-loop-again c = copying-more _ _ _ _ _ (c .before .before .loop .inv) (omega arith) (omega arith)
+loop-again c = copying-more _ _ _ _ _ (c .before .before .loop .inv) 0 (omega arith) (omega arith)
 
 same-length : tie.Need-same-length Inv-loop μ-loop
 same-length c = c .before .loop .inv .kept

@@ -1,0 +1,64 @@
+-- What holds of every match report. Document 02, Item 1; over files, at the public call. proofs/Matches.antt has the theorems.
+use Prim.Native.Nat.{ℕ, suc, _+_, _≤_, _<_}
+use mathlib.Core.Path.{_≡_}
+use mathlib.Core.List.{List, _++_}
+use lib.ListN.{length}
+use Rattle.line.specs.declared.Refusal.{Refusal}
+use Rattle.line.specs.declared.Refusal.the-variants.{TooMany}
+use Rattle.line.specs.Refusal.{refused, numberOf}
+use Rattle.report.specs.declared.Row.{Row}
+use Rattle.report.specs.declared.Totals.{Totals}
+use Rattle.report.specs.Report.{positionOf, kindsIn, lossesIn}
+use Rattle.report.specs.Files.{EachAlone, Whole, listedTotal}
+use Rattle.report_call.specs.declared.Reported.the-variants.{Done, Refused}
+use Rattle.report_call.specs.Call.{reportCall, reportKinds, reportLosses}
+
+-- "1 is not given here"
+abbrev pub NeverOne : Type 0
+NeverOne = (file : List ℕ) (kinds losses : ℕ) (r : Refusal) (k : ℕ) → reportCall file kinds losses ≡ Refused r k → numberOf r ≡ 1 → ⊥
+
+-- The entries are as many as the positions, and each is what `judge_play` says of that position alone.
+pub record Entries (file : List ℕ) (kinds losses : ℕ) (t : Totals) : Type 0 where
+  pub rows : List Row
+  pub positions : t .positions ≡ length rows
+  pub alone : EachAlone file rows
+  pub in-kinds : reportKinds file kinds losses ≡ kindsIn rows
+  pub in-losses : reportLosses file kinds losses ≡ lossesIn rows
+
+abbrev pub EntriesAlone : Type 0
+EntriesAlone = (file : List ℕ) (kinds losses : ℕ) (t : Totals) → reportCall file kinds losses ≡ Done t → Entries file kinds losses t
+
+-- "for M and N the number of decisions and the sum of the listed losses": by what stands in the two lists
+abbrev pub ListsSum : Type 0
+ListsSum =
+    (file : List ℕ) (kinds losses : ℕ) (t : Totals) → reportCall file kinds losses ≡ Done t
+    → let K = reportKinds file kinds losses in
+    let L = reportLosses file kinds losses in
+    (t .max .decisions ≡ listedTotal 1 (λ x. 1) K L)
+    × (t .max .sum ≡ listedTotal 1 (λ x. x) K L)
+    × (t .min .decisions ≡ listedTotal 2 (λ x. 1) K L)
+    × (t .min .sum ≡ listedTotal 2 (λ x. x) K L)
+
+-- A file made of two has the entries of both, where neither is refused, they are at most 500 together, and there is room for them.
+abbrev pub TwoFiles : Type 0
+TwoFiles =
+    (a b : List ℕ) (kinds losses : ℕ) (t u : Totals) → reportCall a kinds losses ≡ Done t → reportCall b kinds losses ≡ Done u
+    → t .positions + u .positions ≤ 500 → t .positions + u .positions ≤ kinds → t .positions + u .positions ≤ losses
+    → (v : Totals)
+    × (reportCall (a ++ b) kinds losses ≡ Done v)
+    × (v .positions ≡ t .positions + u .positions)
+    × (reportKinds (a ++ b) kinds losses ≡ reportKinds a kinds losses ++ reportKinds b kinds losses)
+    × (reportLosses (a ++ b) kinds losses ≡ reportLosses a kinds losses ++ reportLosses b kinds losses)
+
+-- "A position refused stops the report, which returns that refusal with the position's number": b after a file that is not refused, whatever
+-- follows it
+abbrev pub RefusedStops : Type 0
+RefusedStops =
+    (a b : List ℕ) (kinds losses : ℕ) (t : Totals) (r : Refusal) → reportCall a kinds losses ≡ Done t → t .positions < 500 → Whole b
+    → positionOf b ≡ refused r → (x : List ℕ) → reportCall (a ++ (b ++ x)) kinds losses ≡ Refused r (suc (t .positions))
+
+-- "15, more than 500 positions, found when the next one begins"
+abbrev pub TooManyStops : Type 0
+TooManyStops =
+    (a b : List ℕ) (kinds losses : ℕ) (t : Totals) → reportCall a kinds losses ≡ Done t → t .positions ≡ 500 → 0 < length b
+    → reportCall (a ++ b) kinds losses ≡ Refused TooMany 501

@@ -1,0 +1,5 @@
+pub mod Cases
+pub mod Small
+pub mod Rows
+pub mod Refusals
+pub mod Files

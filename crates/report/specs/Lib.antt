@@ -1,0 +1,3 @@
+pub mod Report
+pub mod Files
+pub mod Inside

@@ -1,0 +1,28 @@
+// No code: specs has what a match file is and what its report lists and adds up, proofs what holds of it. The crate `scoring` has the code for
+// one position, `report_call` the call.
+
+// What is listed of a play: no decision, or the loss in thousandths of a point.
+pub enum Loss {
+    NoDecision,
+    Thousandths(u64),
+}
+
+// An entry: the root's kind as a number, the loss, and how many bytes of the file the position takes.
+pub struct Row {
+    pub kind: u8,
+    pub loss: Loss,
+    pub size: usize,
+}
+
+// The number of a side's decisions, and the sum of their listed losses.
+pub struct Tally {
+    pub decisions: u64,
+    pub sum: u64,
+}
+
+// The number of positions, and the tallies of M and N.
+pub struct Totals {
+    pub positions: usize,
+    pub max: Tally,
+    pub min: Tally,
+}

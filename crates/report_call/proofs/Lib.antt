@@ -1,0 +1,4 @@
+pub mod Sums
+pub mod Going
+pub mod Written
+pub mod Answered

@@ -1,0 +1,26 @@
+-- What the contracts of internal functions cite; no promise of a public call names these.
+use Prim.Native.Nat.{ℕ, _+_}
+use mathlib.Core.Path.{_≡_}
+use mathlib.Core.List.{List}
+use lib.IntN.{ℤ}
+use Rattle.table.specs.Slices.{laid}
+use Rattle.report.specs.declared.Loss.{Loss}
+use Rattle.report.specs.declared.Row.{Row}
+use Rattle.report.specs.declared.Tally.{Tally}
+use Rattle.report.specs.declared.Totals.{Totals}
+use Rattle.report.specs.Report.{Outcome, stopped, rows, counts, listed, totalsOf, kindsIn, lossesIn}
+use Rattle.report_call.specs.declared.Reported.{Reported}
+use Rattle.report_call.specs.declared.Reported.the-variants.{Done, Refused}
+
+-- a tally, and the totals, with one entry more
+abbrev pub withLoss : Tally → (side kind : ℕ) → Loss → Tally
+withLoss t side kind l = record { decisions = t .decisions + counts side kind 1 l; sum = t .sum + counts side kind (listed l) l }
+
+abbrev pub withRow : Totals → Row → Totals
+withRow t r =
+    record { positions = t .positions + 1; max = withLoss (t .max) 1 (r .kind) (r .loss); min = withLoss (t .min) 2 (r .kind) (r .loss) }
+
+-- the match o, read into two lists: k and l as they came, then as they are
+abbrev pub Reads : Outcome → Reported → (k : List ℕ) (l : List ℤ) (k′ : List ℕ) (l′ : List ℤ) → Type 0
+Reads (stopped q n) r k l k′ l′ = r ≡ Refused q n
+Reads (rows rs) r k l k′ l′ = (r ≡ Done (totalsOf rs)) × (k′ ≡ laid (kindsIn rs) k) × (l′ ≡ laid (lossesIn rs) l)

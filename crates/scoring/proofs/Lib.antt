@@ -1,0 +1,3 @@
+pub mod Claims
+pub mod Scores
+pub mod Said
