@@ -1,6 +1,6 @@
 // The calls for programs in C and Rust. Each writes its answer's numbers into a slice of the caller's, as many as it has room for (turning
 // has none), and returns 0; where it refuses, it writes nothing and returns the refusal's line and number as one, so that 309 is refusal 9 at line 3.
-// The report has the position before them: 3000309 is the same in position 3.
+// The report has the position before them: 2000309 is the same in position 2.
 ghost use mathlib.Core.Path.{_≡_};
 ghost use lib.ListN.{length};
 ghost use Rattle.table.specs.Table.{readText, answer};
@@ -98,8 +98,8 @@ pub extern "C" fn margin_rollout(
     codes::put_rolled(rollout_call::rollouts(text, policy, store, leaves), numbers)
 }
 
-// The report of a match file: the number of positions, and of M and of N the number of decisions and the sum of their losses go to `numbers`;
-// each position's kind of root to `kinds`, and to `losses` its loss in thousandths of a point, -1 for no decision. Where the report is
+// The report of a match file: the number of positions, and of M and of N the number of decisions and the sum of their listed losses go to
+// `numbers`; each position's kind of root to `kinds`, and to `losses` its loss in thousandths of a point, -1 for no decision. Where the report is
 // refused, nothing is written.
 #[no_mangle]
 pub extern "C" fn margin_report(

@@ -88,11 +88,11 @@ rollNumbers (Rolled.the-variants.Refused r) = []
 abbrev pub turnedCode : Turned → ℕ
 turnedCode t = 100 * turnedLine t + turnedNumber t
 
--- the same of a report, with the position before the line, so that 3000309 is refusal 9 at line 3 of position 3: the number of positions, and
--- of M and of N the number of decisions and the sum of the listed losses
+-- the same of a report, with the position before the line, so that 2000309 is refusal 9 at line 3 of position 2
 abbrev pub reportCode : Reported → ℕ
 reportCode r = 1000000 * reportPosition r + (100 * reportLine r + reportNumber r)
 
+-- the number of positions, then of M and of N the number of decisions and the sum of the listed losses
 abbrev pub totalsNumbers : Totals → List ℤ
 totalsNumbers t =
     pos (t .positions) ∷ pos (t .max .decisions) ∷ pos (t .max .sum) ∷ pos (t .min .decisions) ∷ pos (t .min .sum) ∷ []

@@ -12,12 +12,12 @@ use Rattle.report.specs.declared.Row.{Row}
 use Rattle.report.specs.declared.Totals.{Totals}
 use Rattle.report.specs.Report.{Outcome, stopped, rows, matchOf, totalsOf, lossCode, kindsIn, lossesIn}
 use Rattle.report.specs.Files.{listedTotal}
-use Rattle.report.proofs.Rows.{decisions-listed, sums-listed}
-use Rattle.report.proofs.Files.{judged-alone, two-files, stops-whatever, too-many}
+use Rattle.report.proofs.Rows.{totals-listed}
+use Rattle.report.proofs.Files.{judged-alone, two-files, position-more, stops-at, too-many}
 use Rattle.report_call.specs.declared.Reported.the-variants.{Done, Refused}
 use Rattle.report_call.specs.Call.{fit, reportAnswer, filled, reportCall, reportKinds, reportLosses}
 use Rattle.report_call.proofs.Answered.{report-refused}
-use Rattle.demands.specs.Matches.{NeverOne, Entries, EntriesAlone, ListsSum, TwoFiles, RefusedStops, TooManyStops}
+use Rattle.demands.specs.Matches.{NeverOne, Entries, EntriesAlone, ListsSum, TwoFiles, RefusedStops, OwnBytes, TooManyStops}
 
 pub never-one : NeverOne
 never-one file kinds losses r k e z = omega (arith, z, report-refused file kinds losses r k e .1 .0)
@@ -71,10 +71,10 @@ lists-sum file kinds losses t e =
     let by : (side : ℕ) (n : ℕ → ℕ) → listedTotal side n (kindsIn (G .all)) (lossesIn (G .all)) ≡ listedTotal side n (reportKinds file kinds losses) (reportLosses file kinds losses) =
     λ side n. λ i. listedTotal side n (sym (listed-kinds file kinds losses t G) i) (sym (listed-losses file kinds losses t G) i) in
     let of : (f : Totals → ℕ) → f t ≡ f (totalsOf (G .all)) = λ f. ap f (sym (G .totals)) in (
-      of (λ (x : Totals). x .max .decisions) ∙ sym (decisions-listed 1 (G .all)) ∙ by 1 (λ x. 1),
-      of (λ (x : Totals). x .max .sum) ∙ sym (sums-listed 1 (G .all)) ∙ by 1 (λ x. x),
-      of (λ (x : Totals). x .min .decisions) ∙ sym (decisions-listed 2 (G .all)) ∙ by 2 (λ x. 1),
-      of (λ (x : Totals). x .min .sum) ∙ sym (sums-listed 2 (G .all)) ∙ by 2 (λ x. x),
+      of (λ (x : Totals). x .max .decisions) ∙ sym (totals-listed 1 (λ x. 1) (G .all)) ∙ by 1 (λ x. 1),
+      of (λ (x : Totals). x .max .sum) ∙ sym (totals-listed 1 (λ x. x) (G .all)) ∙ by 1 (λ x. x),
+      of (λ (x : Totals). x .min .decisions) ∙ sym (totals-listed 2 (λ x. 1) (G .all)) ∙ by 2 (λ x. 1),
+      of (λ (x : Totals). x .min .sum) ∙ sym (totals-listed 2 (λ x. x) (G .all)) ∙ by 2 (λ x. x),
     )
 
 -- ---- files put together
@@ -105,13 +105,16 @@ two-reports a b kinds losses t u e f n p q =
     )
 
 pub refused-stops : RefusedStops
-refused-stops a b kinds losses t r e n w p x =
-    let G = given a kinds losses t e in
-    let c = count-is a kinds losses t G in
-    ap (λ (o : Outcome). reportAnswer (fit kinds losses o)) (stops-whatever a b (G .all) (G .is) (omega (arith, c, n)) w r p x)
-    ∙ ap (λ (k : ℕ). Refused r (suc k)) (sym c)
+refused-stops a s k l kinds losses t r e n h p =
+    let G = given a k l t e in
+    let c = count-is a k l t G in
+    ap (λ (o : Outcome). reportAnswer (fit kinds losses o)) (stops-at a s (G .all) (G .is) (omega (arith, c, n)) h r p)
+    ∙ ap (λ (m : ℕ). Refused r (suc m)) (sym c)
+
+pub own-bytes : OwnBytes
+own-bytes s x w = position-more s x w
 
 pub too-many-stops : TooManyStops
-too-many-stops a b kinds losses t e n h =
-    let G = given a kinds losses t e in
-    ap (λ (o : Outcome). reportAnswer (fit kinds losses o)) (too-many a b (G .all) (G .is) (omega (arith, count-is a kinds losses t G, n)) h)
+too-many-stops a s k l kinds losses t e n h =
+    let G = given a k l t e in
+    ap (λ (o : Outcome). reportAnswer (fit kinds losses o)) (too-many a s (G .all) (G .is) (omega (arith, count-is a k l t G, n)) h)

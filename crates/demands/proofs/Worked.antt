@@ -9,12 +9,12 @@ use Rattle.line.specs.Refusal.{unless, unlessAt}
 use Rattle.line.specs.declared.Refusal.the-variants.{NoRoom, NoChild, NoPosition}
 use Rattle.line.specs.Line.{climb}
 use Rattle.table.specs.Tree.{run, after, forest, weigh, nodesWhere}
-use Rattle.table.specs.Examples.{table-a, table-b, turned-b, lone-leaf}
+use Rattle.table.specs.Examples.{max-root, chance, table-a, table-b, turned-b, lone-leaf}
 use Rattle.table.specs.Table.{nodeLines, complete, readText, greatest}
 use Rattle.numbers.specs.Integers.{maxZ, minZ, floorZ}
 use Rattle.worth.specs.Worth.{largest, smallest, weighted, total, value, shares}
 use Rattle.judge.specs.Judge.{levels}
-use Rattle.report.specs.Report.{positionOf, matchFrom, decisionsOf, sumOf}
+use Rattle.report.specs.Report.{positionOf, matchFrom, totalOf}
 use Rattle.report_call.specs.declared.Reported.{Reported}
 use Rattle.report_call.specs.declared.Reported.the-variants.{Done, Refused}
 use Rattle.report_call.specs.Call.{reportCall, reportKinds, reportLosses}
@@ -23,9 +23,49 @@ use Rattle.report_call.specs.Call.{reportCall, reportKinds, reportLosses}
 position : ℕ → List ℕ → List ℕ
 position digit table = 32 ∷ 32 ∷ 32 ∷ digit ∷ 10 ∷ table
 
--- plays 2, 2 and 1 of tables A, B and B turned, and a lone leaf
+-- "   5   3       0       1"
+thirds-head : List ℕ
+thirds-head = 32 ∷ 32 ∷ 32 ∷ 53 ∷ 32 ∷ 32 ∷ 32 ∷ 51 ∷ 32 ∷ 32 ∷ 32 ∷ 32 ∷ 32 ∷ 32 ∷ 32 ∷ 48 ∷ 32 ∷ 32 ∷ 32 ∷ 32 ∷ 32 ∷ 32 ∷ 32 ∷ 49 ∷ 10 ∷ []
+
+-- "   1 L    0            1"
+thirds1 : List ℕ
+thirds1 = 32 ∷ 32 ∷ 32 ∷ 49 ∷ 32 ∷ 76 ∷ 32 ∷ 32 ∷ 32 ∷ 32 ∷ 48 ∷ 32 ∷ 32 ∷ 32 ∷ 32 ∷ 32 ∷ 32 ∷ 32 ∷ 32 ∷ 32 ∷ 32 ∷ 32 ∷ 32 ∷ 49 ∷ 10 ∷ []
+
+-- "   3 L    2    1       1"
+thirds3 : List ℕ
+thirds3 = 32 ∷ 32 ∷ 32 ∷ 51 ∷ 32 ∷ 76 ∷ 32 ∷ 32 ∷ 32 ∷ 32 ∷ 50 ∷ 32 ∷ 32 ∷ 32 ∷ 32 ∷ 49 ∷ 32 ∷ 32 ∷ 32 ∷ 32 ∷ 32 ∷ 32 ∷ 32 ∷ 49 ∷ 10 ∷ []
+
+-- "   4 L    2    2       0"
+thirds4 : List ℕ
+thirds4 = 32 ∷ 32 ∷ 32 ∷ 52 ∷ 32 ∷ 76 ∷ 32 ∷ 32 ∷ 32 ∷ 32 ∷ 50 ∷ 32 ∷ 32 ∷ 32 ∷ 32 ∷ 50 ∷ 32 ∷ 32 ∷ 32 ∷ 32 ∷ 32 ∷ 32 ∷ 32 ∷ 48 ∷ 10 ∷ []
+
+-- "   3   4       0       8"
+toss-head : List ℕ
+toss-head = 32 ∷ 32 ∷ 32 ∷ 51 ∷ 32 ∷ 32 ∷ 32 ∷ 52 ∷ 32 ∷ 32 ∷ 32 ∷ 32 ∷ 32 ∷ 32 ∷ 32 ∷ 48 ∷ 32 ∷ 32 ∷ 32 ∷ 32 ∷ 32 ∷ 32 ∷ 32 ∷ 56 ∷ 10 ∷ []
+
+-- "   0 C                  "
+toss-root : List ℕ
+toss-root = 32 ∷ 32 ∷ 32 ∷ 48 ∷ 32 ∷ 67 ∷ 32 ∷ 32 ∷ 32 ∷ 32 ∷ 32 ∷ 32 ∷ 32 ∷ 32 ∷ 32 ∷ 32 ∷ 32 ∷ 32 ∷ 32 ∷ 32 ∷ 32 ∷ 32 ∷ 32 ∷ 32 ∷ 10 ∷ []
+
+-- "   1 L    0    3       2"
+toss1 : List ℕ
+toss1 = 32 ∷ 32 ∷ 32 ∷ 49 ∷ 32 ∷ 76 ∷ 32 ∷ 32 ∷ 32 ∷ 32 ∷ 48 ∷ 32 ∷ 32 ∷ 32 ∷ 32 ∷ 51 ∷ 32 ∷ 32 ∷ 32 ∷ 32 ∷ 32 ∷ 32 ∷ 32 ∷ 50 ∷ 10 ∷ []
+
+-- "   2 L    0    1       8"
+toss2 : List ℕ
+toss2 = 32 ∷ 32 ∷ 32 ∷ 50 ∷ 32 ∷ 76 ∷ 32 ∷ 32 ∷ 32 ∷ 32 ∷ 48 ∷ 32 ∷ 32 ∷ 32 ∷ 32 ∷ 49 ∷ 32 ∷ 32 ∷ 32 ∷ 32 ∷ 32 ∷ 32 ∷ 32 ∷ 56 ∷ 10 ∷ []
+
+-- a third of a point is a grain, and play 2 loses two of them
+thirds : List ℕ
+thirds = thirds-head ++ (max-root ++ (thirds1 ++ (chance ++ (thirds3 ++ thirds4))))
+
+toss : List ℕ
+toss = toss-head ++ (toss-root ++ (toss1 ++ toss2))
+
+-- play 2 of tables A, B, B turned and the one of thirds, and any number of a C and of a lone leaf
 match : List ℕ
-match = position 50 table-a ++ (position 50 table-b ++ (position 49 turned-b ++ position 49 lone-leaf))
+match =
+    position 50 table-a ++ (position 50 table-b ++ (position 50 turned-b ++ (position 50 thirds ++ (position 57 toss ++ position 48 lone-leaf))))
 
 -- the answer and both lists, for lists of so many entries
 record Answer : Type 0 where
@@ -40,16 +80,16 @@ refusal : Reported → Answer
 refusal r = record { answer = r; kinds = []; losses = [] }
 
 -- an empty file; the match; the match with a list too short; a second position without such a child; the match cut short
-known : (answered [] 0 ∷ answered match 4 ∷ answered match 3 ∷ answered (position 50 table-b ++ position 51 table-b) 4 ∷ answered (take 270 match) 4 ∷ [])
+known : (answered [] 0 ∷ answered match 6 ∷ answered match 5 ∷ answered (position 50 table-b ++ position 51 table-b) 4 ∷ answered (take 270 match) 4 ∷ [])
     ≡ record { answer = Done (record { positions = 0; max = record { decisions = 0; sum = 0 }; min = record { decisions = 0; sum = 0 } }); kinds = []; losses = [] }
     ∷ record {
-      answer = Done (record { positions = 4; max = record { decisions = 2; sum = 2500 }; min = record { decisions = 1; sum = 0 } });
-      kinds = 1 ∷ 1 ∷ 2 ∷ 0 ∷ [];
-      losses = pos 1000 ∷ pos 1500 ∷ pos 0 ∷ negsuc 0 ∷ [];
+      answer = Done (record { positions = 6; max = record { decisions = 3; sum = 3166 }; min = record { decisions = 1; sum = 1500 } });
+      kinds = 1 ∷ 1 ∷ 2 ∷ 1 ∷ 3 ∷ 0 ∷ [];
+      losses = pos 1000 ∷ pos 1500 ∷ pos 1500 ∷ pos 666 ∷ negsuc 0 ∷ negsuc 0 ∷ [];
     }
     ∷ refusal (Refused NoRoom 0)
     ∷ refusal (Refused NoChild 2)
     ∷ refusal (Refused NoPosition 2)
     ∷ []
-unfolding refusal position match answered maxZ minZ floorZ largest smallest weighted total value shares levels strip digits whole signed unless unlessAt climb run after forest weigh nodesWhere nodeLines complete readText greatest positionOf matchFrom decisionsOf sumOf
+unfolding refusal position thirds-head thirds1 thirds3 thirds4 toss-head toss-root toss1 toss2 thirds toss match answered maxZ minZ floorZ largest smallest weighted total value shares levels strip digits whole signed unless unlessAt climb run after forest weigh nodesWhere nodeLines complete readText greatest positionOf matchFrom totalOf
 known = refl

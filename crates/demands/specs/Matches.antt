@@ -50,15 +50,19 @@ TwoFiles =
     × (reportKinds (a ++ b) kinds losses ≡ reportKinds a kinds losses ++ reportKinds b kinds losses)
     × (reportLosses (a ++ b) kinds losses ≡ reportLosses a kinds losses ++ reportLosses b kinds losses)
 
--- "A position refused stops the report, which returns that refusal with the position's number": b after a file that is not refused, whatever
--- follows it
+-- "A position refused stops the report, which returns that refusal with the position's number, from 1": a file a whose report has fewer than
+-- 500 positions, and then s, where a refused position begins; for lists of any length, as 11 "comes last"
 abbrev pub RefusedStops : Type 0
 RefusedStops =
-    (a b : List ℕ) (kinds losses : ℕ) (t : Totals) (r : Refusal) → reportCall a kinds losses ≡ Done t → t .positions < 500 → Whole b
-    → positionOf b ≡ refused r → (x : List ℕ) → reportCall (a ++ (b ++ x)) kinds losses ≡ Refused r (suc (t .positions))
+    (a s : List ℕ) (k l kinds losses : ℕ) (t : Totals) (r : Refusal) → reportCall a k l ≡ Done t → t .positions < 500 → 0 < length s
+    → positionOf s ≡ refused r → reportCall (a ++ s) kinds losses ≡ Refused r (suc (t .positions))
 
--- "15, more than 500 positions, found when the next one begins"
+-- whatever follows it: what comes after a position of which no byte is missing does not matter to it
+abbrev pub OwnBytes : Type 0
+OwnBytes = (s x : List ℕ) → Whole s → positionOf (s ++ x) ≡ positionOf s
+
+-- "15, more than 500 positions, found when the next one begins", "and 15 has position 501"
 abbrev pub TooManyStops : Type 0
 TooManyStops =
-    (a b : List ℕ) (kinds losses : ℕ) (t : Totals) → reportCall a kinds losses ≡ Done t → t .positions ≡ 500 → 0 < length b
-    → reportCall (a ++ b) kinds losses ≡ Refused TooMany 501
+    (a s : List ℕ) (k l kinds losses : ℕ) (t : Totals) → reportCall a k l ≡ Done t → t .positions ≡ 500 → 0 < length s
+    → reportCall (a ++ s) kinds losses ≡ Refused TooMany 501

@@ -55,7 +55,7 @@ RollUntouched =
     → (laid (rollReads (readText s) p (length list) (length store)) list ≡ list)
     × (recorded (rollStore (readText s) p (length list) (length store)) store ≡ store)
 
--- document 02, Item 1: both lists, and from a file in place of a text
+-- the two lists of a match report (document 02, Item 1)
 abbrev pub ListsKept : List ℕ → List ℕ → List ℤ → Type 0
 ListsKept file kinds losses =
     (laid (reportKinds file (length kinds) (length losses)) kinds ≡ kinds) × (laid (reportLosses file (length kinds) (length losses)) losses ≡ losses)
@@ -71,11 +71,11 @@ ReportUntouched =
 abbrev pub Refuses : ℕ → Type 0
 Refuses code = code ≡ 0 → ⊥
 
--- that is every refused call: each call returns this number of its refusal
+-- that is every refused call: each but the report returns this number of its refusal
 abbrev pub CodesRefuse : Type 0
 CodesRefuse = (r : Refusal) → Refuses (100 * lineOf r + numberOf r)
 
--- the report's has the position k before it
+-- and the report this
 abbrev pub ReportCodesRefuse : Type 0
 ReportCodesRefuse = (r : Refusal) (k : ℕ) → Refuses (reportCode (Reported.the-variants.Refused r k))
 

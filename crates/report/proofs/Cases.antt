@@ -19,7 +19,7 @@ use Rattle.line.proofs.Signs.{true-ne-false}
 use Rattle.line.proofs.Checks.{or-left, or-right}
 use Rattle.line.proofs.Fine.{nor9, unless-fine}
 use Rattle.report.specs.declared.Row.{Row}
-use Rattle.report.specs.Report.{playIn, headIn, nodesIn, sizeOf, tableIn, illPlay, headChecks, positionChecks, scored, positionOf}
+use Rattle.report.specs.Report.{playIn, headIn, nodesIn, sizeOf, tableIn, badStart, headChecks, positionChecks, scored, positionOf}
 use Rattle.report.specs.Files.{headIs}
 
 -- ---- a list of checks
@@ -63,10 +63,10 @@ count-range (Number (pos m)) i b o =
 count-range (Number (negsuc m)) i b o = absurd (true-ne-false o)
 
 -- a number of nodes that is given
-pub nodes-range : (s : List ℕ) (n : ℕ) → headIs s ≡ fine n → (nodesIn (headIn s) ≡ n) × (0 < n) × (n ≤ 1024)
+pub nodes-range : (s : List ℕ) (n : ℕ) → headIs s ≡ fine n → (nodesIn s ≡ n) × (0 < n) × (n ≤ 1024)
 nodes-range s n e =
     let g = headingOf (headIn s) in
-    let r = unless-fine (headChecks (headIn s)) (nodesIn (headIn s)) n e in
+    let r = unless-fine (headChecks (headIn s)) (nodesIn s) n e in
     let z = count-well (getD (headIn s) 24 0) g (r .0 .0) in
     let c = rw (r .1) at (count-range (g .count) (z .0) (z .1) (r .0 .1 .1 .0)) in
     (r .1, c .0, c .1)
@@ -82,56 +82,56 @@ module _ (s : List ℕ) where
   later = headChecks (headIn s) ++ last
 
   abbrev goes : Verdict (List ℕ) → Verdict Row
-  goes v = next v (scored (sizeOf s) (valueOf (playIn s)))
+  goes v = next v (scored (valueOf (playIn s)))
 
-  begun : (b : Bool) → illPlay s ≡ b → positionOf s ≡ goes (cond b (refused NoPosition) (unless later (tableIn s)))
+  begun : (b : Bool) → badStart s ≡ b → positionOf s ≡ goes (cond b (refused NoPosition) (unless later (tableIn s)))
   unfolding positionOf unless
   begun b e = ap (λ (t : Bool). goes (cond t (refused NoPosition) (unless later (tableIn s)))) e
 
-  pub ill-stops : illPlay s ≡ true → positionOf s ≡ refused NoPosition
-  ill-stops h = begun true h
+  pub start-stops : badStart s ≡ true → positionOf s ≡ refused NoPosition
+  start-stops h = begun true h
 
-  module _ (well : illPlay s ≡ false) where
+  module _ (well : badStart s ≡ false) where
     pub long-enough : 30 ≤ length s
     long-enough =
         ltb-false (length s) 30
         (nor9 false false false false false (ltb (length s) 30) (not (eqb (getD s 4 0) 10)) (isIll (playIn s)) (isBlank (playIn s)) well .5)
 
     pub head-stops : (r : Refusal) → headIs s ≡ refused r → positionOf s ≡ refused r
-    head-stops r e = begun false well ∙ ap goes (refused-before (headChecks (headIn s)) last (nodesIn (headIn s)) (tableIn s) r e)
+    head-stops r e = begun false well ∙ ap goes (refused-before (headChecks (headIn s)) last (nodesIn s) (tableIn s) r e)
 
     module _ (n : ℕ) (e : headIs s ≡ fine n) where
       past-head : (b : Bool) → ltb (length s) (sizeOf s) ≡ b → positionOf s ≡ goes (cond b (refused NoPosition) (fine (tableIn s)))
       unfolding unless
       past-head b h =
           begun false well
-          ∙ ap goes (fine-before (headChecks (headIn s)) last (nodesIn (headIn s)) n (tableIn s) e)
+          ∙ ap goes (fine-before (headChecks (headIn s)) last (nodesIn s) n (tableIn s) e)
           ∙ ap (λ (t : Bool). goes (cond t (refused NoPosition) (fine (tableIn s)))) h
 
       pub lines-missing : length s < sizeOf s → positionOf s ≡ refused NoPosition
       lines-missing l = past-head true (lt-ltb (length s) (sizeOf s) l)
 
-      pub lines-there : sizeOf s ≤ length s → positionOf s ≡ scored (sizeOf s) (valueOf (playIn s)) (tableIn s)
+      pub lines-there : sizeOf s ≤ length s → positionOf s ≡ scored (valueOf (playIn s)) (tableIn s)
       lines-there l = past-head false (le-ltb (length s) (sizeOf s) l)
 
 -- what is said of each of these cases holds of every position
 module _ (s : List ℕ) (P : Verdict Row → Type 0) where
-  lines-cases : P (refused NoPosition) → ((n : ℕ) → headIs s ≡ fine n → sizeOf s ≤ length s → P (scored (sizeOf s) (valueOf (playIn s)) (tableIn s)))
-      → illPlay s ≡ false → (n : ℕ) → headIs s ≡ fine n → (b : Bool) → ltb (length s) (sizeOf s) ≡ b → P (positionOf s)
+  lines-cases : P (refused NoPosition) → ((n : ℕ) → headIs s ≡ fine n → sizeOf s ≤ length s → P (scored (valueOf (playIn s)) (tableIn s)))
+      → badStart s ≡ false → (n : ℕ) → headIs s ≡ fine n → (b : Bool) → ltb (length s) (sizeOf s) ≡ b → P (positionOf s)
   lines-cases none some w n e true h = rw (past-head s w n e true h) none
   lines-cases none some w n e false h = rw (past-head s w n e false h) (some n e (ltb-false (length s) (sizeOf s) h))
 
   head-cases : P (refused NoPosition) → ((r : Refusal) → headIs s ≡ refused r → P (refused r))
-      → ((n : ℕ) → headIs s ≡ fine n → sizeOf s ≤ length s → P (scored (sizeOf s) (valueOf (playIn s)) (tableIn s)))
-      → illPlay s ≡ false → (v : Verdict ℕ) → headIs s ≡ v → P (positionOf s)
+      → ((n : ℕ) → headIs s ≡ fine n → sizeOf s ≤ length s → P (scored (valueOf (playIn s)) (tableIn s)))
+      → badStart s ≡ false → (v : Verdict ℕ) → headIs s ≡ v → P (positionOf s)
   head-cases none head some w (refused r) e = rw (head-stops s w r e) (head r e)
   head-cases none head some w (fine n) e = lines-cases none some w n e (ltb (length s) (sizeOf s)) refl
 
   pub by-cases : P (refused NoPosition) → ((r : Refusal) → headIs s ≡ refused r → P (refused r))
-      → ((n : ℕ) → headIs s ≡ fine n → sizeOf s ≤ length s → P (scored (sizeOf s) (valueOf (playIn s)) (tableIn s)))
+      → ((n : ℕ) → headIs s ≡ fine n → sizeOf s ≤ length s → P (scored (valueOf (playIn s)) (tableIn s)))
       → P (positionOf s)
-  by-cases none head some = go (illPlay s) refl
+  by-cases none head some = go (badStart s) refl
     where
-      go : (b : Bool) → illPlay s ≡ b → P (positionOf s)
-      go true e = rw (ill-stops s e) none
+      go : (b : Bool) → badStart s ≡ b → P (positionOf s)
+      go true e = rw (start-stops s e) none
       go false e = head-cases none head some e (headIs s) refl

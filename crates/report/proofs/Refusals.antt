@@ -22,7 +22,7 @@ use Rattle.report.specs.Report.{playIn, headIn, nodesIn, sizeOf, tableIn
 use Rattle.report.specs.Inside.{SmallLoss}
 use Rattle.report.specs.Files.{headIs}
 use Rattle.report.proofs.Cases.{by-cases, nodes-range}
-use Rattle.report.proofs.Rows.{row-fits, AllSmall}
+use Rattle.report.proofs.Rows.{row-small, AllSmall}
 
 -- ---- a position
 
@@ -42,27 +42,27 @@ judge-upto : (t : Table) (i : ℤ) (v : Verdict Judgement) → judge t i ≡ v �
 judge-upto t i (refused r) e = subst (Named 1024) (judge-refused t i r e) (omega arith, omega arith)
 judge-upto t i (fine j) e = tt
 
-scored-upto : (size : ℕ) (i : ℤ) (text : List ℕ) → badLength (length text) ≡ false → Upto 1024 (scored size i text)
-scored-upto size i text g =
+scored-upto : (i : ℤ) (text : List ℕ) → badLength (length text) ≡ false → Upto 1024 (scored i text)
+scored-upto i text g =
     next-upto 1024 (readText text) _ (read-upto text g (readText text) refl)
-    (λ (t : Table) p. next-upto 1024 (judge t i) (λ (j : Judgement). fine (rowOf size t j)) (judge-upto t i (judge t i) refl) (λ j q. tt))
+    (λ (t : Table) p. next-upto 1024 (judge t i) (λ (j : Judgement). fine (rowOf t j)) (judge-upto t i (judge t i) refl) (λ j q. tt))
 
 module _ (s : List ℕ) where
   head-upto : Upto 1024 (headIs s)
   head-upto =
-      unless-upto 1024 (headChecks (headIn s)) (nodesIn (headIn s)) ((omega arith, omega arith), ((omega arith, omega arith), ((omega arith, omega arith), tt)))
+      unless-upto 1024 (headChecks (headIn s)) (nodesIn s) ((omega arith, omega arith), ((omega arith, omega arith), ((omega arith, omega arith), tt)))
 
   -- the table's text is as long as its count says
   table-good : (n : ℕ) → headIs s ≡ fine n → sizeOf s ≤ length s → badLength (length (tableIn s)) ≡ false
   table-good n e l =
       let r = nodes-range s n e in
-      ap badLength (length-take-le (25 + 25 * nodesIn (headIn s)) (drop 5 s) (omega (arith, length-drop 5 s)))
-      ∙ good-length (nodesIn (headIn s)) (omega (arith, r .0, r .1)) (omega (arith, r .0, r .2))
+      ap badLength (length-take-le (25 + 25 * nodesIn s) (drop 5 s) (omega (arith, length-drop 5 s)))
+      ∙ good-length (nodesIn s) (omega (arith, r .0, r .1)) (omega (arith, r .0, r .2))
 
   position-upto : Upto 1024 (positionOf s)
   position-upto =
       by-cases s (Upto 1024) (omega arith, omega arith) (λ r e. subst (Upto 1024) e head-upto)
-      (λ n e l. scored-upto (sizeOf s) (valueOf (playIn s)) (tableIn s) (table-good n e l))
+      (λ n e l. scored-upto (valueOf (playIn s)) (tableIn s) (table-good n e l))
 
   -- "1 is not given here"
   pub position-named : (r : Refusal) → positionOf s ≡ refused r → Named 1024 r
@@ -83,18 +83,19 @@ begins-within : (left k : ℕ) (s : List ℕ) (o : Outcome) → Within left k o 
 begins-within left k [] o h = (omega arith, tt)
 begins-within left k (b ∷ s) o h = h
 
--- f is what comes after a position of so many bytes
-reached-within : (left k : ℕ) (s : List ℕ) (f : ℕ → Outcome) → ((size : ℕ) → Within left (suc k) (f size)) → (v : Verdict Row) → positionOf s ≡ v
-    → Within (suc left) k (reached k f v)
-reached-within left k s f h (refused r) e = (omega arith, omega arith, position-named s r e)
-reached-within left k s f h (fine r) e = after-within left k (f (r .size)) r (row-fits s r e .small) (h (r .size))
+-- o is what the rest of the file gives
+reached-within : (left k : ℕ) (s : List ℕ) (o : Outcome) → Within left (suc k) o → (v : Verdict Row) → positionOf s ≡ v
+    → Within (suc left) k (reached k o v)
+reached-within left k s o h (refused r) e = (omega arith, omega arith, position-named s r e)
+reached-within left k s o h (fine r) e = after-within left k o r (row-small s r e) h
 
 match-within : (left k : ℕ) (s : List ℕ) → Within left k (matchFrom left k s)
 unfolding matchFrom
 match-within zero k s = begins-within zero k s (stopped TooMany k) (omega arith, omega arith, (omega arith, omega arith))
 match-within (suc left) k s =
-    let f : ℕ → Outcome = λ (size : ℕ). matchFrom left (suc k) (drop size s) in
-    begins-within (suc left) k s (reached k f (positionOf s)) (reached-within left k s f (λ size. match-within left (suc k) (drop size s)) (positionOf s) refl)
+    let rest : List ℕ = drop (sizeOf s) s in
+    begins-within (suc left) k s (reached k (matchFrom left (suc k) rest) (positionOf s))
+    (reached-within left k s (matchFrom left (suc k) rest) (match-within left (suc k) rest) (positionOf s) refl)
 
 module _ (file : List ℕ) where
   -- a refusal of the match has another number than 1, and a position from 1 to 501

@@ -23,30 +23,31 @@ use Rattle.report.specs.declared.Totals.{Totals}
 
 -- ---- what a position holds; s is the file from its first byte on
 
--- "a play number in 4 columns and a newline"
+-- "a play number in 4 columns"
 abbrev pub playIn : List ℕ → Field
 playIn s = fieldOf s 0 4
 
--- the header of the table, a line of 25 bytes
+-- "then a table": its header is a line of 25 bytes
 abbrev pub headIn : List ℕ → List ℕ
 headIn s = take 25 (drop 5 s)
 
--- the number of nodes in such a line
+-- the number of nodes by its header
 abbrev pub nodesIn : List ℕ → ℕ
-nodesIn line = countOf (headingOf line .count)
+nodesIn s = countOf (headingOf (headIn s) .count)
 
--- "then a table whose length its header count gives": of the whole position, and the table's text
-abbrev pub sizeOf : List ℕ → ℕ
-sizeOf s = 30 + 25 * nodesIn (headIn s)
-
+-- "a table whose length its header count gives"
 abbrev pub tableIn : List ℕ → List ℕ
-tableIn s = take (25 + 25 * nodesIn (headIn s)) (drop 5 s)
+tableIn s = take (25 + 25 * nodesIn s) (drop 5 s)
+
+-- the bytes of the whole position
+abbrev pub sizeOf : List ℕ → ℕ
+sizeOf s = 30 + 25 * nodesIn s
 
 -- ---- its refusals
 
--- 16: "an ill-written play-number line or fewer than 30 bytes left"; a blank number is ill-written
-abbrev pub illPlay : List ℕ → Bool
-illPlay s = ltb (length s) 30 || not (eqb (getD s 4 0) 10) || isIll (playIn s) || isBlank (playIn s)
+-- 16: "an ill-written play-number line or fewer than 30 bytes left"; the newline is byte 5, and a blank number is ill-written
+abbrev pub badStart : List ℕ → Bool
+badStart s = ltb (length s) 30 || not (eqb (getD s 4 0) 10) || isIll (playIn s) || isBlank (playIn s)
 
 -- "Then the header is checked by 2 and 3, a count outside 1 to 1,024 is 4"
 abbrev pub headChecks : List ℕ → List Check
@@ -57,36 +58,37 @@ headChecks line =
     ∷ []
 
 -- "16, .. Then the header .., and missing node lines are 16; 1 is not given here": that 1 is never given is a theorem
--- (proofs/Refusals.position-named)
+-- (demands/Matches.NeverOne)
 abbrev pub positionChecks : List ℕ → List Check
 positionChecks s =
-    record { holds = illPlay s; gives = NoPosition }
+    record { holds = badStart s; gives = NoPosition }
     ∷ (headChecks (headIn s) ++ (record { holds = ltb (length s) (sizeOf s); gives = NoPosition } ∷ []))
 
 -- ---- its entry
 
 -- "the loss in thousandths of a point (loss × 1,000 divided by the grain, rounded down)"
 abbrev pub thousandths : (loss G : ℕ) → ℕ
-thousandths loss G = loss * 1000 / G
+thousandths loss G = (loss * 1000) / G
 
+-- ""no decision" or the loss"; that a loss is never below zero is a theorem (judge/proofs/Judge.loss-natural)
 abbrev pub lossOf : (G : ℕ) → Judgement → Loss
 lossOf G noDecision = NoDecision
 lossOf G (judged loss level) = Thousandths (thousandths (toNat loss) G)
 
 -- "for each position the root's kind, and "no decision" or the loss": the kind is 0 for L, 1 for M, 2 for N, 3 for C
-abbrev pub rowOf : (size : ℕ) → Table → Judgement → Row
-rowOf size t j = record { kind = getD (kindsOf t) 0 0; loss = lossOf (grain t) j; size = size }
+abbrev pub rowOf : Table → Judgement → Row
+rowOf t j = record { kind = getD (kindsOf t) 0 0; loss = lossOf (grain t) j }
 
 -- the play i of a table's text, judged: the table's own refusals, then 14
-abbrev pub scored : (size : ℕ) → ℤ → List ℕ → Verdict Row
-scored size i text = next (readText text) (λ (t : Table). next (judge t i) (λ (j : Judgement). fine (rowOf size t j)))
+abbrev pub scored : ℤ → List ℕ → Verdict Row
+scored i text = next (readText text) (λ (t : Table). next (judge t i) (λ (j : Judgement). fine (rowOf t j)))
 
 unfoldable pub positionOf : List ℕ → Verdict Row
-positionOf s = next (unless (positionChecks s) (tableIn s)) (scored (sizeOf s) (valueOf (playIn s)))
+positionOf s = next (unless (positionChecks s) (tableIn s)) (scored (valueOf (playIn s)))
 
 -- ---- the match
 
--- what the file gives: its entries, or "that refusal with the position's number, from 1"
+-- the entries, or a refusal with its position
 pub data Outcome : Type 0 where
   stopped : Refusal → (position : ℕ) → Outcome
   rows : List Row → Outcome
@@ -96,22 +98,23 @@ abbrev pub after : List Row → Outcome → Outcome
 after done (stopped r k) = stopped r k
 after done (rows rs) = rows (done ++ rs)
 
--- "A position refused stops the report": the k-th position, and what comes after so many bytes
-abbrev pub reached : (k : ℕ) → (ℕ → Outcome) → Verdict Row → Outcome
-reached k then (refused r) = stopped r k
-reached k then (fine r) = after (r ∷ []) (then (r .size))
+-- the k-th position, and what the rest of the file gives: "A position refused stops the report, which returns that refusal with the
+-- position's number"
+abbrev pub reached : (k : ℕ) (rest : Outcome) → Verdict Row → Outcome
+reached k rest (refused r) = stopped r k
+reached k rest (fine r) = after (r ∷ []) rest
 
--- where nothing is left of the file, no position begins
+-- where nothing is left of the file, no position begins: "An empty file gives zeros"
 abbrev pub begins : List ℕ → Outcome → Outcome
 begins [] o = rows []
 begins (b ∷ s) o = o
 
--- "positions one after another", from the k-th on, where `left` of 500 are left: "15, more than 500 positions, found when the next one
--- begins"
+-- "positions one after another", from the k-th on, with room for `left` more: "15, more than 500 positions, found when the next one begins"
 unfoldable pub matchFrom : (left k : ℕ) → List ℕ → Outcome
 matchFrom zero k s = begins s (stopped TooMany k)
-matchFrom (suc left) k s = begins s (reached k (λ (size : ℕ). matchFrom left (suc k) (drop size s)) (positionOf s))
+matchFrom (suc left) k s = begins s (reached k (matchFrom left (suc k) (drop (sizeOf s) s)) (positionOf s))
 
+-- positions count "from 1", and so "15 has position 501"
 abbrev pub matchOf : List ℕ → Outcome
 matchOf file = matchFrom 500 1 file
 
@@ -128,27 +131,19 @@ lossCode (Thousandths n) = pos n
 abbrev pub lossesIn : List Row → List ℤ
 lossesIn rs = map (λ (r : Row). lossCode (r .loss)) rs
 
--- ""No decision" positions count for neither side": n where a decision is of the side's kind
-abbrev pub counts : (side kind n : ℕ) → Loss → ℕ
-counts side kind n NoDecision = 0
-counts side kind n (Thousandths l) = cond (eqb kind side) n 0
+-- ""No decision" positions count for neither side": n of the listed loss, where the decision is of the side's kind
+abbrev pub counts : (side : ℕ) → (ℕ → ℕ) → (kind : ℕ) → Loss → ℕ
+counts side n kind NoDecision = 0
+counts side n kind (Thousandths l) = cond (eqb kind side) (n l) 0
 
--- the listed loss, 0 where there is none
-abbrev pub listed : Loss → ℕ
-listed NoDecision = 0
-listed (Thousandths l) = l
+unfoldable pub totalOf : (side : ℕ) → (ℕ → ℕ) → List Row → ℕ
+totalOf side n [] = 0
+totalOf side n (r ∷ rs) = counts side n (r .kind) (r .loss) + totalOf side n rs
 
-unfoldable pub decisionsOf : (side : ℕ) → List Row → ℕ
-decisionsOf side [] = 0
-decisionsOf side (r ∷ rs) = counts side (r .kind) 1 (r .loss) + decisionsOf side rs
-
-unfoldable pub sumOf : (side : ℕ) → List Row → ℕ
-sumOf side [] = 0
-sumOf side (r ∷ rs) = counts side (r .kind) (listed (r .loss)) (r .loss) + sumOf side rs
+-- "the number of decisions and the sum of the listed losses" of a side
+abbrev pub tallyOf : (side : ℕ) → List Row → Tally
+tallyOf side rs = record { decisions = totalOf side (λ x. 1) rs; sum = totalOf side (λ x. x) rs }
 
 -- "It returns the number of positions, and for M and N the number of decisions and the sum of the listed losses": M is 1, N is 2
-abbrev pub tallyOf : (side : ℕ) → List Row → Tally
-tallyOf side rs = record { decisions = decisionsOf side rs; sum = sumOf side rs }
-
 abbrev pub totalsOf : List Row → Totals
 totalsOf rs = record { positions = length rs; max = tallyOf 1 rs; min = tallyOf 2 rs }

@@ -7,11 +7,10 @@ pub enum Loss {
     Thousandths(u64),
 }
 
-// An entry: the root's kind as a number, the loss, and how many bytes of the file the position takes.
+// An entry: the root's kind as a number, and the loss.
 pub struct Row {
     pub kind: u8,
     pub loss: Loss,
-    pub size: usize,
 }
 
 // The number of a side's decisions, and the sum of their listed losses.
@@ -20,7 +19,7 @@ pub struct Tally {
     pub sum: u64,
 }
 
-// The number of positions, and the tallies of M and N.
+// The number of positions, and the tallies of MAX, at M, and of MIN, at N.
 pub struct Totals {
     pub positions: usize,
     pub max: Tally,

@@ -15,10 +15,10 @@ use Rattle.table.proofs.Laid.{laid-more}
 use Rattle.report.specs.declared.Row.{Row}
 use Rattle.report.specs.declared.Totals.{Totals}
 use Rattle.report_call.specs.declared.Reported.the-variants.{Done, Refused}
-use Rattle.report.specs.Report.{lossCode, positionOf, Outcome, stopped, rows, after, reached, matchFrom, matchOf, totalsOf, kindsIn, lossesIn}
+use Rattle.report.specs.Report.{sizeOf, lossCode, positionOf, Outcome, stopped, rows, after, reached, matchFrom, matchOf, totalsOf, kindsIn, lossesIn}
 use Rattle.report.specs.Inside.{SmallLoss, SmallTotals}
-use Rattle.report.proofs.Rows.{Fits, row-fits, AllSmall, totals-small}
-use Rattle.report.proofs.Files.{after-none, after-after, match-end, match-full, match-on}
+use Rattle.report.proofs.Rows.{row-small, AllSmall, totals-small}
+use Rattle.report.proofs.Files.{row-within, after-none, after-after, match-end, match-full, match-on}
 use Rattle.report_call.specs.Inside.{withRow, Reads}
 use Rattle.report_call.proofs.Sums.{totals-more}
 
@@ -107,7 +107,7 @@ module _ (file k₀ : List ℕ) (l₀ : List ℤ) (k : List ℕ) (l : List ℤ) 
       less : n < 500
       less = omega (arith, G .few, room, count-is)
 
-      next-from : matchOf file ≡ after (G .done) (reached (suc n) (λ (size : ℕ). matchFrom (500 - suc n) (suc (suc n)) (drop size left)) (positionOf left))
+      next-from : matchOf file ≡ after (G .done) (reached (suc n) (matchFrom (500 - suc n) (suc (suc n)) (drop (sizeOf left) left)) (positionOf left))
       next-from =
           let m : 500 - n ≡ suc (500 - suc n) = omega (arith, less) in
           G .from
@@ -116,29 +116,26 @@ module _ (file k₀ : List ℕ) (l₀ : List ℤ) (k : List ℕ) (l : List ℤ) 
 
       -- the position that begins is v
       abbrev reaches : Verdict Row → Outcome
-      reaches v = after (G .done) (reached (suc n) (λ (size : ℕ). matchFrom (500 - suc n) (suc (suc n)) (drop size left)) v)
+      reaches v = after (G .done) (reached (suc n) (matchFrom (500 - suc n) (suc (suc n)) (drop (sizeOf left) left)) v)
 
       pub going-stopped : (q : Refusal) → positionOf left ≡ refused q → Reads (matchOf file) (Refused q (t .positions + 1)) k₀ l₀ k l
       going-stopped q e =
           refused-by q (t .positions + 1) (next-from ∙ ap reaches e ∙ ap (stopped q) (ap suc (sym count-is) ∙ sym (add-one (t .positions))))
 
       module _ (r : Row) (e : positionOf left ≡ fine r) where
-        pub row-here : Fits (length left) r
-        row-here = row-fits left r e
-
-        pub row-end : at + r .size ≤ length file
-        row-end = omega (arith, row-here .within, length-drop at file)
+        pub row-end : at + sizeOf left ≤ length file
+        row-end = omega (arith, row-within left r e, length-drop at file)
 
         long : length (G .done ++ (r ∷ [])) ≡ suc n
         long = length-append (G .done) (r ∷ []) ∙ add-one n
 
-        pub going-on : Going file k₀ l₀ (set k (t .positions) (r .kind)) (set l (t .positions) (lossCode (r .loss))) (withRow t r) (at + r .size)
+        pub going-on : Going file k₀ l₀ (set k (t .positions) (r .kind)) (set l (t .positions) (lossCode (r .loss))) (withRow t r) (at + sizeOf left)
         going-on =
             record {
               done = G .done ++ (r ∷ []);
               totals = ap (λ (x : Totals). withRow x r) (G .totals) ∙ totals-more (G .done) r;
               few = omega (arith, long, less);
-              small = all-more (G .done) r (G .small) (row-here .small);
+              small = all-more (G .done) r (G .small) (row-small left r e);
               place = row-end;
               kinds = ap (λ (y : List ℕ). set y (t .positions) (r .kind)) (G .kinds)
                   ∙ laid-at (kindsIn (G .done)) k₀ (t .positions) (r .kind) (length-map (G .done) (λ (r : Row). r .kind) ∙ sym count-is) (omega (arith, count-is, less, G .room-k))
@@ -152,7 +149,12 @@ module _ (file k₀ : List ℕ) (l₀ : List ℤ) (k : List ℕ) (l : List ℤ) 
               kept-l = length-set l (t .positions) (lossCode (r .loss)) ∙ G .kept-l;
               from = next-from
                   ∙ ap reaches e
-                  ∙ after-after (G .done) (r ∷ []) (matchFrom (500 - suc n) (suc (suc n)) (drop (r .size) left))
-                  ∙ ap (λ (s : List ℕ). after (G .done ++ (r ∷ [])) (matchFrom (500 - suc n) (suc (suc n)) s)) (drop-drop (r .size) at file)
-                  ∙ ap (λ (m : ℕ). after (G .done ++ (r ∷ [])) (matchFrom (500 - m) (suc m) (drop (at + r .size) file))) (sym long);
+                  ∙ after-after (G .done) (r ∷ []) (matchFrom (500 - suc n) (suc (suc n)) (drop (sizeOf left) left))
+                  ∙ ap (λ (s : List ℕ). after (G .done ++ (r ∷ [])) (matchFrom (500 - suc n) (suc (suc n)) s)) (drop-drop (sizeOf left) at file)
+                  ∙ ap (λ (m : ℕ). after (G .done ++ (r ∷ [])) (matchFrom (500 - m) (suc m) (drop (at + sizeOf left) file))) (sym long);
             }
+
+-- the same of what the code computes: a listed loss, the totals and the place
+pub going-as : (file k₀ : List ℕ) (l₀ : List ℤ) (k : List ℕ) (l : List ℤ) (n : ℕ) {z z′ : ℤ} {t t′ : Totals} {at at′ : ℕ} → z ≡ z′ → t ≡ t′ → at ≡ at′
+    → Going file k₀ l₀ k (set l n z) t at → Going file k₀ l₀ k (set l n z′) t′ at′
+going-as file k₀ l₀ k l n p q r G = subst (λ (X : Type 0). X) (λ i. Going file k₀ l₀ k (set l n (p i)) (q i) (r i)) G

@@ -11,22 +11,18 @@ use Rattle.report.specs.declared.Loss.{Loss}
 use Rattle.report.specs.declared.Loss.the-variants.{NoDecision, Thousandths}
 use Rattle.report.specs.declared.Row.{Row}
 use Rattle.report.specs.declared.Tally.{Tally}
-use Rattle.report.specs.Report.{counts, listed, decisionsOf, sumOf, tallyOf, totalsOf}
+use Rattle.report.specs.Report.{counts, totalOf, tallyOf, totalsOf}
 use Rattle.report_call.specs.Inside.{withLoss, withRow}
 
 module _ (side : ℕ) (r : Row) where
-  decisions-more : (rs : List Row) → decisionsOf side (rs ++ (r ∷ [])) ≡ decisionsOf side rs + counts side (r .kind) 1 (r .loss)
-  unfolding decisionsOf
-  decisions-more [] = omega arith
-  decisions-more (x ∷ xs) = omega (arith, decisions-more xs)
-
-  sum-more : (rs : List Row) → sumOf side (rs ++ (r ∷ [])) ≡ sumOf side rs + counts side (r .kind) (listed (r .loss)) (r .loss)
-  unfolding sumOf
-  sum-more [] = omega arith
-  sum-more (x ∷ xs) = omega (arith, sum-more xs)
+  total-more : (n : ℕ → ℕ) (rs : List Row) → totalOf side n (rs ++ (r ∷ [])) ≡ totalOf side n rs + counts side n (r .kind) (r .loss)
+  unfolding totalOf
+  total-more n [] = omega arith
+  total-more n (x ∷ xs) = omega (arith, total-more n xs)
 
   tally-more : (rs : List Row) → withLoss (tallyOf side rs) side (r .kind) (r .loss) ≡ tallyOf side (rs ++ (r ∷ []))
-  tally-more rs = ap₂ (λ (x y : ℕ). record { decisions = x; sum = y }) (sym (decisions-more rs)) (sym (sum-more rs))
+  tally-more rs =
+      ap₂ (λ (x y : ℕ). record { decisions = x; sum = y }) (sym (total-more (λ x. 1) rs)) (sym (total-more (λ x. x) rs))
 
 pub totals-more : (rs : List Row) (r : Row) → withRow (totalsOf rs) r ≡ totalsOf (rs ++ (r ∷ []))
 totals-more rs r =

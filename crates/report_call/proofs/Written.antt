@@ -101,8 +101,7 @@ module _ (file K : List ℕ) (L : List ℤ) where
         → Told (Done t) K′ L′
     told-done e K′ L′ p q =
         let d = told-by (rows (R .all)) (fit-is false e) in
-        let room = room-enough e in
-        (
+        let room = room-enough e in (
           ap Done (R .totals) ∙ d .0,
           (
             kept (kindsIn (R .all)) K k′ K′ (length-map (R .all) (λ (r : Row). r .kind) ∙ count-is) kinds-front (room .0) p ∙ d .1 .0,

@@ -22,19 +22,23 @@ abbrev pub reportAnswer : Outcome → Reported
 reportAnswer (stopped r k) = Refused r k
 reportAnswer (rows rs) = Done (totalsOf rs)
 
--- "The report fills a lent list"; nothing is written where it is refused
+-- "The report fills a lent list"; where it is refused, document 01: "A refused call leaves every lent list, store and text unchanged"
 abbrev pub filled : Outcome → List Row
 filled (stopped r k) = []
 filled (rows rs) = rs
 
+-- what a file gives for two such lists
+abbrev pub reported : List ℕ → (kinds losses : ℕ) → Outcome
+reported file kinds losses = fit kinds losses (matchOf file)
+
 abbrev pub reportCall : List ℕ → (kinds losses : ℕ) → Reported
-reportCall file kinds losses = reportAnswer (fit kinds losses (matchOf file))
+reportCall file kinds losses = reportAnswer (reported file kinds losses)
 
 abbrev pub reportKinds : List ℕ → (kinds losses : ℕ) → List ℕ
-reportKinds file kinds losses = kindsIn (filled (fit kinds losses (matchOf file)))
+reportKinds file kinds losses = kindsIn (filled (reported file kinds losses))
 
 abbrev pub reportLosses : List ℕ → (kinds losses : ℕ) → List ℤ
-reportLosses file kinds losses = lossesIn (filled (fit kinds losses (matchOf file)))
+reportLosses file kinds losses = lossesIn (filled (reported file kinds losses))
 
 -- the number, the line and the position of every answer, 0 where there is no refusal
 abbrev pub reportNumber : Reported → ℕ

@@ -8,13 +8,14 @@ use Rattle.report.specs.declared.Loss.{Loss}
 use Rattle.report.specs.declared.Row.{Row}
 use Rattle.report.specs.declared.Tally.{Tally}
 use Rattle.report.specs.declared.Totals.{Totals}
-use Rattle.report.specs.Report.{Outcome, stopped, rows, counts, listed, totalsOf, kindsIn, lossesIn}
+use Rattle.report.specs.Report.{Outcome, stopped, rows, counts, totalsOf, kindsIn, lossesIn}
 use Rattle.report_call.specs.declared.Reported.{Reported}
 use Rattle.report_call.specs.declared.Reported.the-variants.{Done, Refused}
 
 -- a tally, and the totals, with one entry more
 abbrev pub withLoss : Tally → (side kind : ℕ) → Loss → Tally
-withLoss t side kind l = record { decisions = t .decisions + counts side kind 1 l; sum = t .sum + counts side kind (listed l) l }
+withLoss t side kind l =
+    record { decisions = t .decisions + counts side (λ x. 1) kind l; sum = t .sum + counts side (λ x. x) kind l }
 
 abbrev pub withRow : Totals → Row → Totals
 withRow t r =

@@ -67,7 +67,8 @@ fn with_row(t: Totals, r: Row) -> Totals
     }
 }
 
-fn no_totals() -> Totals
+// "An empty file gives zeros".
+fn zero_totals() -> Totals
     ensures { λ r. ⌜ r ≡ totalsOf [] ⌝ }
 {
     let none = Tally {
@@ -81,13 +82,13 @@ fn no_totals() -> Totals
     }
 }
 
-// The positions one after another. Their kinds and losses go to two lists of 500 entries, for a caller to whom they are its own: a refused
-// match may leave something in them.
+// The positions one after another. Their kinds and losses go to two lists of 500 entries, which are the caller's own: a refused match may leave
+// something in them.
 fn read_all(file: &[u8], kinds: &mut [u8], losses: &mut [i64]) -> Reported
     requires { ⌜ (length (now kinds) ≡ 500) × (length (now losses) ≡ 500) ⌝ }
     ensures { λ r. ⌜ Reads (matchOf (now (file .entry))) r (now (kinds .entry)) (now (losses .entry)) (now (kinds .exit)) (now (losses .exit)) ⌝ }
 {
-    let mut t = no_totals();
+    let mut t = zero_totals();
     let mut at: usize = 0;
     while at < file.len() {
         let n = t.positions;
@@ -99,11 +100,11 @@ fn read_all(file: &[u8], kinds: &mut [u8], losses: &mut [i64]) -> Reported
                 let k = n + 1;
                 return Reported::Refused(r, k);
             }
-            Position::Judged(r) => {
+            Position::Entry(r, size) => {
                 let l = r.loss;
                 kinds[n] = r.kind;
                 losses[n] = loss_code(l);
-                at = at + r.size;
+                at = at + size;
                 t = with_row(t, r);
             }
         }
@@ -132,17 +133,17 @@ pub fn report(file: &[u8], kinds: &mut [u8], losses: &mut [i64]) -> Reported
     ensures kinds { λ _. ⌜ now (kinds .exit) ≡ laid (reportKinds (now (file .entry)) (length (now (kinds .entry))) (length (now (losses .entry)))) (now (kinds .entry)) ⌝ }
     ensures losses { λ _. ⌜ now (losses .exit) ≡ laid (reportLosses (now (file .entry)) (length (now (kinds .entry))) (length (now (losses .entry)))) (now (losses .entry)) ⌝ }
 {
-    let mut kind = [0u8; 500];
-    let mut loss = [0i64; 500];
-    match read_all(file, &mut kind, &mut loss) {
+    let mut own_kinds = [0u8; 500];
+    let mut own_losses = [0i64; 500];
+    match read_all(file, &mut own_kinds, &mut own_losses) {
         Reported::Refused(r, k) => Reported::Refused(r, k),
         Reported::Done(t) => {
             let n = t.positions;
             if (kinds.len() < n) | (losses.len() < n) {
                 return Reported::Refused(Refusal::NoRoom, 0);
             }
-            reading::keep8(n, &kind, kinds);
-            keep_losses(n, &loss, losses);
+            reading::keep8(n, &own_kinds, kinds);
+            keep_losses(n, &own_losses, losses);
             Reported::Done(t)
         }
     }

@@ -16,7 +16,7 @@ use Rattle.line.specs.declared.Refusal.the-variants.{IllWritten, OutOfRange, Mi
 use Rattle.line.specs.Refusal.{Verdict, refused, fine, unless}
 use Rattle.line.specs.Line.{isIll, isBlank, hasNumber, outside, countOf, headingOf, illHeading, wideHeading, headOf, header}
 use Rattle.line.proofs.Signs.{true-ne-false}
-use Rattle.report.specs.Report.{playIn, illPlay, headChecks, nodesIn}
+use Rattle.report.specs.Report.{playIn, badStart, headChecks}
 use Rattle.report.proofs.Cases.{count-well, count-range}
 use Rattle.scoring.specs.Inside.{claimOf}
 
@@ -66,7 +66,7 @@ retold-checks false false true false n m h p q = absurd (true-ne-false (p refl))
 retold-checks false false false true n m h p q = absurd (true-ne-false (sym (p refl)))
 retold-checks false false false false n m h p q = ap fine (q refl refl)
 
-pub nodes-told : (line : List ℕ) → retold (claimOf (fieldOf line 0 4)) (header (claimOf (fieldOf line 0 4)) line) ≡ unless (headChecks line) (nodesIn line)
+pub nodes-told : (line : List ℕ) → retold (claimOf (fieldOf line 0 4)) (header (claimOf (fieldOf line 0 4)) line) ≡ unless (headChecks line) (countOf (headingOf line .count))
 nodes-told line =
     let g = headingOf line in
     let last = getD line 24 0 in
@@ -78,17 +78,17 @@ nodes-told line =
 -- ---- the line of the play number
 
 module _ (s : List ℕ) where
-  pub play-short : length s < 30 → true ≡ illPlay s
+  pub play-short : length s < 30 → true ≡ badStart s
   play-short h = ap (λ (b : Bool). b || not (eqb (getD s 4 0) 10) || isIll (playIn s) || isBlank (playIn s)) (sym (lt-ltb (length s) 30 h))
 
   module _ (long : 30 ≤ length s) where
-    past-short : (not (eqb (getD s 4 0) 10) || isIll (playIn s) || isBlank (playIn s)) ≡ illPlay s
+    past-short : (not (eqb (getD s 4 0) 10) || isIll (playIn s) || isBlank (playIn s)) ≡ badStart s
     past-short = ap (λ (b : Bool). b || not (eqb (getD s 4 0) 10) || isIll (playIn s) || isBlank (playIn s)) (sym (le-ltb (length s) 30 long))
 
-    pub play-newline : (getD s 4 0 ≡ 10 → ⊥) → true ≡ illPlay s
+    pub play-newline : (getD s 4 0 ≡ 10 → ⊥) → true ≡ badStart s
     play-newline h = ap (λ (b : Bool). not b || isIll (playIn s) || isBlank (playIn s)) (sym (ne-eqb (getD s 4 0) 10 h)) ∙ past-short
 
-    pub play-field : getD s 4 0 ≡ 10 → (f : Field) → playIn s ≡ f → (isIll f || isBlank f) ≡ illPlay s
+    pub play-field : getD s 4 0 ≡ 10 → (f : Field) → playIn s ≡ f → (isIll f || isBlank f) ≡ badStart s
     play-field h f e =
         ap (λ (f : Field). isIll f || isBlank f) (sym e)
         ∙ ap (λ (b : Bool). not b || isIll (playIn s) || isBlank (playIn s)) (sym (eq-eqb (getD s 4 0) 10 h))

@@ -24,7 +24,7 @@ use Rattle.report.specs.declared.Row.{Row}
 use Rattle.report.specs.Report.{lossOf, rowOf, scored}
 use Rattle.report.specs.Inside.{SmallJudgement}
 use Rattle.report.proofs.Small.{judgement-small}
-use Rattle.scoring.specs.Inside.{SmallJudged, SmallOpinion, rowAs, said}
+use Rattle.scoring.specs.Inside.{SmallJudged, SmallOpinion, entryAs, said}
 
 -- ---- a judgement as the call tells it
 
@@ -37,11 +37,11 @@ answer-small G (refused r) h = tt
 answer-small G (fine j) h = told-small G j (h j refl)
 
 module _ (t : Table) (size : ℕ) where
-  told-row : (j : Judgement) → rowAs (getD (kindsOf t) 0 0) (grain t) size (Given (told j)) ≡ said (fine (rowOf size t j))
+  told-row : (j : Judgement) → entryAs (getD (kindsOf t) 0 0) (grain t) size (Given (told j)) ≡ said size (fine (rowOf t j))
   told-row noDecision = refl
   told-row (judged loss level) = refl
 
-  answer-row : (v : Verdict Judgement) → rowAs (getD (kindsOf t) 0 0) (grain t) size (judgeAnswer v) ≡ said (next v (λ (j : Judgement). fine (rowOf size t j)))
+  answer-row : (v : Verdict Judgement) → entryAs (getD (kindsOf t) 0 0) (grain t) size (judgeAnswer v) ≡ said size (next v (λ (j : Judgement). fine (rowOf t j)))
   answer-row (refused r) = refl
   answer-row (fine j) = told-row j
 
@@ -61,9 +61,9 @@ module _ {s : List ℕ} {t : Summary} {K S W H : List ℕ} (G : Taken s t K S W 
       of-table G (λ t K S W H. SmallOpinion (t .grain) o) (λ T p.
       subst (SmallOpinion (grain T)) (sym (same-opinion T p)) (answer-small (grain T) (judge T i) (λ j e. judgement-small s T p i j e)))
 
-  pub row-at : (size : ℕ) → rowAs (getD K 0 0) (t .grain) size o ≡ said (scored size i s)
+  pub row-at : (size : ℕ) → entryAs (getD K 0 0) (t .grain) size o ≡ said size (scored i s)
   row-at size =
-      of-table G (λ t K S W H. rowAs (getD K 0 0) (t .grain) size o ≡ said (scored size i s)) (λ T p.
-      ap₂ (λ (k : ℕ) (o : Opinion). rowAs k (grain T) size o) (kind-left s T p) (same-opinion T p)
+      of-table G (λ t K S W H. entryAs (getD K 0 0) (t .grain) size o ≡ said size (scored i s)) (λ T p.
+      ap₂ (λ (k : ℕ) (o : Opinion). entryAs k (grain T) size o) (kind-left s T p) (same-opinion T p)
       ∙ answer-row T size (judge T i)
-      ∙ ap (λ (v : Verdict Table). said (next v (λ (t : Table). next (judge t i) (λ (j : Judgement). fine (rowOf size t j))))) (sym p))
+      ∙ ap (λ (v : Verdict Table). said size (next v (λ (t : Table). next (judge t i) (λ (j : Judgement). fine (rowOf t j))))) (sym p))

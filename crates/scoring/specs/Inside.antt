@@ -13,7 +13,7 @@ use Rattle.judge.specs.declared.Opinion.{Opinion}
 use Rattle.judge.specs.declared.Opinion.the-variants.{Given, Refused}
 use Rattle.judge.specs.Inside.{judgedOf}
 use Rattle.report.specs.declared.Row.{Row}
-use Rattle.report.specs.Report.{lossOf, positionOf}
+use Rattle.report.specs.Report.{sizeOf, lossOf, positionOf}
 use Rattle.report.specs.Inside.{Small}
 use Rattle.scoring.specs.declared.Count
 use Rattle.scoring.specs.declared.Count.{Count}
@@ -37,16 +37,19 @@ abbrev pub SmallOpinion : ℕ → Opinion → Type 0
 SmallOpinion G (Refused r) = Unit {0}
 SmallOpinion G (Given j) = SmallJudged G j
 
--- what judging says, as an entry
-abbrev pub rowAs : (kind G size : ℕ) → Opinion → Position
-rowAs kind G size (Refused r) = Position.the-variants.Refused r
-rowAs kind G size (Given j) = Position.the-variants.Judged (record { kind = kind; loss = lossOf G (judgedOf j); size = size })
+-- what judging says, as the entry of a position of so many bytes
+abbrev pub entryAs : (kind G size : ℕ) → Opinion → Position
+entryAs kind G size (Refused r) = Position.the-variants.Refused r
+entryAs kind G size (Given j) = Position.the-variants.Entry (record { kind = kind; loss = lossOf G (judgedOf j) }) size
 
--- the answer for a position of the definition
-abbrev pub said : Verdict Row → Position
-said (refused r) = Position.the-variants.Refused r
-said (fine r) = Position.the-variants.Judged r
+-- the answer for a position of the definition, of so many bytes
+abbrev pub said : (size : ℕ) → Verdict Row → Position
+said size (refused r) = Position.the-variants.Refused r
+said size (fine r) = Position.the-variants.Entry r size
 
--- the position that begins at a byte of the file
+-- the position at the front of s, and the one that begins at a byte of the file
+abbrev pub saidOf : List ℕ → Position
+saidOf s = said (sizeOf s) (positionOf s)
+
 abbrev pub saidAt : List ℕ → ℕ → Position
-saidAt file at = said (positionOf (drop at file))
+saidAt file at = saidOf (drop at file)

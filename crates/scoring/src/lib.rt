@@ -2,10 +2,11 @@
 ghost use mathlib.Core.Path.{_≡_};
 ghost use lib.ListN.{length};
 ghost use Rattle.line.specs.Refusal.{unless};
-ghost use Rattle.report.specs.Report.{illPlay, headChecks, nodesIn, thousandths, lossOf, scored, positionOf};
+ghost use Rattle.line.specs.Line.{countOf, headingOf};
+ghost use Rattle.report.specs.Report.{badStart, headChecks, thousandths, lossOf, scored};
 ghost use Rattle.report.specs.Inside.{Small};
 ghost use Rattle.judge.specs.Inside.{judgedOf};
-ghost use Rattle.scoring.specs.Inside.{claimOf, countShown, SmallJudged, SmallOpinion, rowAs, said, saidAt};
+ghost use Rattle.scoring.specs.Inside.{claimOf, countShown, SmallJudged, SmallOpinion, entryAs, said, saidOf, saidAt};
 use field::Field;
 use judge::Judged;
 use judge::Opinion;
@@ -15,9 +16,9 @@ use report::Loss;
 use report::Row;
 use table::Reading;
 
-// What stands at a place of the file: a position's entry, or why it is refused.
+// What stands at a place of the file: a position's entry and how many bytes it takes, or why it is refused.
 pub enum Position {
-    Judged(Row),
+    Entry(Row, usize),
     Refused(Refusal),
 }
 
@@ -33,8 +34,9 @@ enum Count {
     Refused(Refusal),
 }
 
-fn is_ill_play(s: &[u8]) -> bool
-    ensures { λ r. ⌜ r ≡ illPlay (now (s .entry)) ⌝ }
+// Whether the play-number line is ill-written, or fewer than 30 bytes are left.
+fn is_bad_start(s: &[u8]) -> bool
+    ensures { λ r. ⌜ r ≡ badStart (now (s .entry)) ⌝ }
 {
     if s.len() < 30 {
         return true;
@@ -65,7 +67,7 @@ fn claim(f: Field) -> usize
 
 fn count_nodes(line: &[u8]) -> Count
     requires { ⌜ length (now line) ≡ 25 ⌝ }
-    ensures { λ r. ⌜ countShown r ≡ unless (headChecks (now (line .entry))) (nodesIn (now (line .entry))) ⌝ }
+    ensures { λ r. ⌜ countShown r ≡ unless (headChecks (now (line .entry))) (countOf (headingOf (now (line .entry)) .count)) ⌝ }
 {
     let n = claim(field::read(line, 0, 4));
     match parsing::header(line, n) {
@@ -92,23 +94,25 @@ fn loss_of(grain: u64, j: Judged) -> Loss
 }
 
 // What judging says of a position of `size` bytes, as its entry.
-fn row_of(kind: u8, grain: u64, size: usize, o: Opinion) -> Position
+fn entry_of(kind: u8, grain: u64, size: usize, o: Opinion) -> Position
     requires { ⌜ SmallOpinion grain o ⌝ }
-    ensures { λ r. ⌜ r ≡ rowAs kind grain size o ⌝ }
+    ensures { λ r. ⌜ r ≡ entryAs kind grain size o ⌝ }
 {
     match o {
         Opinion::Refused(r) => Position::Refused(r),
-        Opinion::Given(j) => Position::Judged(Row {
-            kind: kind,
-            loss: loss_of(grain, j),
-            size: size,
-        }),
+        Opinion::Given(j) => Position::Entry(
+            Row {
+                kind: kind,
+                loss: loss_of(grain, j),
+            },
+            size,
+        ),
     }
 }
 
 // The play of root child `number` of a table, in a position of `size` bytes: for any text and any number.
 fn score(text: &[u8], number: i64, size: usize) -> Position
-    ensures { λ r. ⌜ r ≡ said (scored size number (now (text .entry))) ⌝ }
+    ensures { λ r. ⌜ r ≡ said size (scored number (now (text .entry))) ⌝ }
 {
     let mut kind = [0u8; 1024];
     let mut stop = [0u16; 1024];
@@ -119,16 +123,16 @@ fn score(text: &[u8], number: i64, size: usize) -> Position
         Reading::Accepted(t) => {
             let g = scale::scale_of(t);
             let o = judge::judge_table(&text[25..], &stop, &weight, &height, t.nodes, g, number);
-            row_of(kind[0], t.grain, size, o)
+            entry_of(kind[0], t.grain, size, o)
         }
     }
 }
 
 // The position at the front of a part of the file.
 fn position_of(s: &[u8]) -> Position
-    ensures { λ r. ⌜ r ≡ said (positionOf (now (s .entry))) ⌝ }
+    ensures { λ r. ⌜ r ≡ saidOf (now (s .entry)) ⌝ }
 {
-    if is_ill_play(s) {
+    if is_bad_start(s) {
         return Position::Refused(Refusal::NoPosition);
     }
     match count_nodes(&s[5..30]) {
@@ -154,7 +158,7 @@ pub fn position_at(file: &[u8], at: usize) -> Position
 }
 
 // The position that the reader stands at.
-pub fn next<'a>(m: Match<'a>) -> Position
+pub fn here<'a>(m: Match<'a>) -> Position
     ensures { λ r. ⌜ r ≡ saidAt (now (m .entry .file)) (m .entry .at) ⌝ }
 {
     position_at(m.file, m.at)
@@ -164,5 +168,5 @@ pub fn next<'a>(m: Match<'a>) -> Position
 pub fn read_at(file: &[u8], at: usize) -> Position
     ensures { λ r. ⌜ r ≡ saidAt (now (file .entry)) at ⌝ }
 {
-    next(Match { file, at })
+    here(Match { file, at })
 }

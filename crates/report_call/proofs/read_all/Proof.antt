@@ -1,6 +1,6 @@
 -- `report_call::read_all` meets its contract. Assumes nothing.
 use Prim.Native.Nat.{ℕ, _+_, _-_, _≤_, _<_}
-use mathlib.Core.Path.{_≡_, sym, subst, _∙_}
+use mathlib.Core.Path.{_≡_, sym, ap, _∙_}
 use mathlib.Core.List.{List}
 use native.Mathlib.Omega.{arith}
 use borrow.Author.Needs.{needs}
@@ -13,12 +13,13 @@ use Rattle.report.specs.declared.Row.{Row}
 use Rattle.report.specs.declared.Totals.{Totals}
 use Rattle.line.specs.Refusal.{refused, fine}
 use Rattle.scoring.specs.declared.Position.{Position}
-use Rattle.scoring.specs.declared.Position.the-variants.{Judged, Refused}
+use Rattle.scoring.specs.declared.Position.the-variants.{Entry, Refused}
 use Rattle.scoring.specs.Inside.{saidAt}
 use Rattle.scoring.proofs.Said.{said-fine, said-refused}
-use Rattle.report.specs.Report.{lossCode, positionOf}
-use Rattle.report.proofs.Rows.{Fits}
-use Rattle.report_call.proofs.Going.{Going, going-none, going-small, going-end, going-full, going-stopped, row-here, row-end, going-on}
+use Rattle.report.specs.Report.{sizeOf, lossCode, positionOf}
+use Rattle.report.specs.Inside.{SmallLoss}
+use Rattle.report.proofs.Rows.{row-small}
+use Rattle.report_call.proofs.Going.{Going, going-none, going-small, going-end, going-full, going-stopped, row-end, going-on, going-as}
 use Rattle.report_call.proofs.read_all.Statement.{statement}
 use Rattle.report_call.proofs.read_all.Tie as tie
 
@@ -49,26 +50,35 @@ position-is P p e = sym (P .read-at .ensures) ∙ e
 abbrev read-of : tie.After-known-told2 Inv-loop μ-loop → tie.After-read-at Inv-loop μ-loop
 read-of c = c .before .before .before
 
+-- what is left of the file there
+abbrev left-of : tie.After-read-at Inv-loop μ-loop → List ℕ
+left-of P = drop (loop-of P .loop .at) (file-of (loop-of P))
+
 abbrev row-of : tie.After-known-told2 Inv-loop μ-loop → Row
 row-of c = c .before .r2 .given .0 .0
 
-row-is : (c : tie.After-known-told2 Inv-loop μ-loop) → positionOf (drop (loop-of (read-of c) .loop .at) (file-of (loop-of (read-of c)))) ≡ fine (row-of c)
-row-is c = said-fine _ (row-of c) (position-is (read-of c) (Judged (row-of c)) (c .before .r2 .given .1))
+abbrev size-of : tie.After-known-told2 Inv-loop μ-loop → ℕ
+size-of c = c .before .r2 .given .0 .1 .0
 
-fits : (c : tie.After-known-told2 Inv-loop μ-loop) → Fits (length (drop (loop-of (read-of c) .loop .at) (file-of (loop-of (read-of c))))) (row-of c)
-fits c = let E = read-of c .before in row-here _ _ _ _ _ _ _ (loop-of (read-of c) .loop .inv) (E .before .loop-test .taken) (E .if1 .left) (row-of c) (row-is c)
+entry-is : (c : tie.After-known-told2 Inv-loop μ-loop) → (positionOf (left-of (read-of c)) ≡ fine (row-of c)) × (sizeOf (left-of (read-of c)) ≡ size-of c)
+entry-is c = said-fine _ _ (row-of c) (size-of c) (position-is (read-of c) (Entry (row-of c) (size-of c)) (c .before .r2 .given .1))
 
-ends : (c : tie.After-known-told2 Inv-loop μ-loop) → loop-of (read-of c) .loop .at + row-of c .size ≤ length (file-of (loop-of (read-of c)))
-ends c = let E = read-of c .before in row-end _ _ _ _ _ _ _ (loop-of (read-of c) .loop .inv) (E .before .loop-test .taken) (E .if1 .left) (row-of c) (row-is c)
+small : (c : tie.After-known-told2 Inv-loop μ-loop) → SmallLoss (row-of c .loss)
+small c = row-small (left-of (read-of c)) (row-of c) (entry-is c .0)
 
--- the row's entry is there
+ends : (c : tie.After-known-told2 Inv-loop μ-loop) → loop-of (read-of c) .loop .at + size-of c ≤ length (file-of (loop-of (read-of c)))
+ends c =
+    let E = read-of c .before in
+    omega (arith, entry-is c .1, row-end _ _ _ _ _ _ _ (loop-of (read-of c) .loop .inv) (E .before .loop-test .taken) (E .if1 .left) (row-of c) (entry-is c .0))
+
+-- there is room for its entry
 entry : (c : tie.After-known-told2 Inv-loop μ-loop) → loop-of (read-of c) .loop .t .positions < 500
 entry c = let L = loop-of (read-of c) in omega (arith, going-small _ _ _ _ _ _ _ (L .loop .inv) .positions, read-of c .before .if1 .left)
 
 -- ---- the needs
 
 loop-holds : tie.Need-loop-holds Inv-loop μ-loop
-loop-holds c = let s = c .before .before .before in going-none _ _ _ _ (c .no-totals .ensures) (s .pre .0) (s .pre .1)
+loop-holds c = let s = c .before .before .before in going-none _ _ _ _ (c .zero-totals .ensures) (s .pre .0) (s .pre .1)
 
 returns : tie.Need-returns Inv-loop μ-loop
 returns c = going-full _ _ _ _ _ _ _ (c .before .before .loop .inv) (c .before .loop-test .taken) (c .if1 .taken)
@@ -81,7 +91,7 @@ returns-2 c =
     let P = c .before .before .before in
     let E = P .before in
     let f = c .before .r .given in
-    going-stopped _ _ _ _ _ _ _ (loop-of P .loop .inv) (E .before .loop-test .taken) (E .if1 .left) (f .0 .0) (said-refused _ (f .0 .0) (position-is P (Refused (f .0 .0)) (f .1)))
+    going-stopped _ _ _ _ _ _ _ (loop-of P .loop .inv) (E .before .loop-test .taken) (E .if1 .left) (f .0 .0) (said-refused _ _ (f .0 .0) (position-is P (Refused (f .0 .0)) (f .1)))
 
 slice-write-kinds : tie.Need-slice-write-kinds Inv-loop μ-loop
 slice-write-kinds c =
@@ -89,8 +99,8 @@ slice-write-kinds c =
     let h : L .loop .t .positions < length (L .loop .kinds) = omega (arith, entry c, L .loop .inv .kept-k, L .loop .inv .room-k) in
     h
 
-mul-t17 : tie.Need-mul-t17 Inv-loop μ-loop
-mul-t17 c = record { fits = omega (arith, entry (c .before)) }
+mul-t18 : tie.Need-mul-t18 Inv-loop μ-loop
+mul-t18 c = record { fits = omega (arith, entry (c .before)) }
 
 slice-set-from-losses : tie.Need-slice-set-from-losses Inv-loop μ-loop
 slice-set-from-losses c =
@@ -99,21 +109,21 @@ slice-set-from-losses c =
     h
 
 add-at : tie.Need-add-at Inv-loop μ-loop
-add-at c = record { fits = omega (arith, ends (c .before .before)) }
+add-at c = record { fits = omega (arith, ends (c .before)) }
 
 with-row-requires : tie.Need-with-row-requires Inv-loop μ-loop
 with-row-requires c κs =
-    let K = c .before .before in
-    (going-small _ _ _ _ _ _ _ (loop-of (read-of K) .loop .inv), fits K .small)
+    let K = c .before in
+    (going-small _ _ _ _ _ _ _ (loop-of (read-of K) .loop .inv), small K)
 
 loop-less : tie.Need-loop-less Inv-loop μ-loop
 loop-less c =
-    let K = c .before .before .before in
-    omega (arith, fits K .some, ends K)
+    let K = c .before .before in
+    omega (arith, entry-is K .1, ends K)
 
 loop-again : tie.Need-loop-again Inv-loop μ-loop
 loop-again c =
-    let C = c .before .before in
+    let C = c .before in
     let K = C .before in
     let L = loop-of (read-of K) in
     let E = read-of K .before in
@@ -121,9 +131,8 @@ loop-again c =
     let n : ℕ = L .loop .t .positions in
     let z = C .loss-code in
     let back : toZ w64 (ofZ w64 (z .result)) ≡ z .result = search needs in
-    subst (λ (v : ℤ). Going (file-of L) (now (start L .args .kinds)) (now (start L .args .losses)) (set (L .loop .kinds) n (r .kind)) (set (L .loop .losses) n v) (c .with-row .result) (L .loop .at + r .size)) (sym (back ∙ z .ensures))
-    (subst (λ (t : Totals). Going (file-of L) (now (start L .args .kinds)) (now (start L .args .losses)) (set (L .loop .kinds) n (r .kind)) (set (L .loop .losses) n (lossCode (r .loss))) t (L .loop .at + r .size)) (sym (c .with-row .ensures))
-    (going-on _ _ _ _ _ _ _ (L .loop .inv) (E .before .loop-test .taken) (E .if1 .left) r (row-is K)))
+    going-as _ _ _ _ (L .loop .losses) n (sym (back ∙ z .ensures)) (sym (c .with-row .ensures)) (ap (λ (k : ℕ). L .loop .at + k) (entry-is K .1))
+    (going-on _ _ _ _ _ _ _ (L .loop .inv) (E .before .loop-test .taken) (E .if1 .left) r (entry-is K .0))
 
 returns-3 : tie.Need-returns-3 Inv-loop μ-loop
 returns-3 c = going-end _ _ _ _ _ _ _ (c .before .loop .inv) (c .loop-test .left)
@@ -147,8 +156,8 @@ read-all-spec =
     returns-2
     (λ c. search needs)
     slice-write-kinds
-    (λ c κs. fits c .small)
-    mul-t17
+    (λ c κs. small c)
+    mul-t18
     slice-set-from-losses
     add-at
     with-row-requires

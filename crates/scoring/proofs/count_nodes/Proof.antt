@@ -6,10 +6,10 @@ use denote.Ref.{now}
 use Rattle.field.specs.Field.{fieldOf}
 use Rattle.parsing.specs.declared.HeadRead
 use Rattle.parsing.specs.declared.HeadRead.{HeadRead}
-use Rattle.line.specs.Line.{header}
+use Rattle.line.specs.Line.{countOf, headingOf, header}
 use Rattle.parsing.specs.Inside.{headShown}
 use Rattle.line.specs.Refusal.{unless}
-use Rattle.report.specs.Report.{headChecks, nodesIn}
+use Rattle.report.specs.Report.{headChecks}
 use Rattle.scoring.specs.Inside.{claimOf}
 use Rattle.scoring.proofs.Claims.{retold, nodes-told}
 use borrow.Author.Needs.{needs}
@@ -38,7 +38,7 @@ claimed : (H : tie.After-header) → H .before .claim .result ≡ claimOf (field
 claimed H = H .before .claim .ensures ∙ ap claimOf (H .before .before .read .ensures)
 
 -- the header's answer, retold
-told : (H : tie.After-header) (r : HeadRead) → H .header .result ≡ r → retold (H .before .claim .result) (headShown r) ≡ unless (headChecks (line-of H)) (nodesIn (line-of H))
+told : (H : tie.After-header) (r : HeadRead) → H .header .result ≡ r → retold (H .before .claim .result) (headShown r) ≡ unless (headChecks (line-of H)) (countOf (headingOf (line-of H) .count))
 told H r e =
     ap (λ (x : HeadRead). retold (H .before .claim .result) (headShown x)) (sym e)
     ∙ ap (retold (H .before .claim .result)) (H .header .ensures)

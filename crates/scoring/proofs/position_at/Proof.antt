@@ -6,9 +6,9 @@ use native.Mathlib.Omega.{arith}
 use denote.Ref.{now}
 use lib.ListN.{length, drop, length-drop}
 use lib.Seq.{take-all}
-use Rattle.report.specs.Report.{positionOf}
-use Rattle.report.proofs.Cases.{ill-stops}
-use Rattle.scoring.specs.Inside.{said}
+use Rattle.report.specs.Report.{sizeOf}
+use Rattle.report.proofs.Cases.{start-stops}
+use Rattle.scoring.specs.Inside.{said, saidOf}
 use Rattle.scoring.proofs.Claims.{play-short}
 use borrow.Author.Needs.{needs}
 use Rattle.scoring.proofs.position_at.Statement.{statement}
@@ -18,7 +18,7 @@ returns : tie.Need-returns
 returns c =
     let a = c .before .before .args in
     let rest : List ℕ = drop (a .at) (now (a .file)) in
-    sym (ap said (ill-stops rest (sym (play-short rest (omega (arith, length-drop (a .at) (now (a .file)), c .if1 .taken))))))
+    sym (ap (said (sizeOf rest)) (start-stops rest (sym (play-short rest (omega (arith, length-drop (a .at) (now (a .file)), c .if1 .taken))))))
 
 sub-position-of : tie.Need-sub-position-of
 sub-position-of c = search needs
@@ -36,7 +36,7 @@ returns-2 : tie.Need-returns-2
 returns-2 c =
     let a = c .before .before .before .before .args in
     let rest : List ℕ = drop (a .at) (now (a .file)) in
-    c .position-of .ensures ∙ ap (λ (s : List ℕ). said (positionOf s)) (take-all (length (now (a .file)) - a .at) rest (omega (arith, length-drop (a .at) (now (a .file)))))
+    c .position-of .ensures ∙ ap saidOf (take-all (length (now (a .file)) - a .at) rest (omega (arith, length-drop (a .at) (now (a .file)))))
 
 pub position-at-spec : {M : Type 1} → statement M
 position-at-spec =

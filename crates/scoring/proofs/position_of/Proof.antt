@@ -12,9 +12,9 @@ use mir.Val.{toZ, ofZ}
 use Rattle.line.specs.Refusal.{fine}
 use Rattle.field.specs.Field.{fieldOf}
 use Rattle.line.specs.Line.{valueOf}
-use Rattle.report.specs.Report.{headIn, nodesIn, sizeOf, illPlay, scored}
+use Rattle.report.specs.Report.{nodesIn, sizeOf, badStart, scored}
 use Rattle.report.specs.Files.{headIs}
-use Rattle.report.proofs.Cases.{ill-stops, long-enough, head-stops, lines-missing, lines-there, nodes-range}
+use Rattle.report.proofs.Cases.{start-stops, long-enough, head-stops, lines-missing, lines-there, nodes-range}
 use Rattle.scoring.specs.declared.Count
 use Rattle.scoring.specs.declared.Count.{Count}
 use Rattle.scoring.specs.Inside.{countShown, said}
@@ -22,11 +22,11 @@ use borrow.Author.Needs.{needs}
 use Rattle.scoring.proofs.position_of.Statement.{statement}
 use Rattle.scoring.proofs.position_of.Tie as tie
 
-abbrev part : tie.After-is-ill-play → List ℕ
+abbrev part : tie.After-is-bad-start → List ℕ
 part c = now (c .before .before .args .s)
 
-well : (c : tie.Else1) → illPlay (part (c .before)) ≡ false
-well c = sym (c .before .is-ill-play .ensures) ∙ c .if1 .left
+well : (c : tie.Else1) → badStart (part (c .before)) ≡ false
+well c = sym (c .before .is-bad-start .ensures) ∙ c .if1 .left
 
 long : (c : tie.Else1) → 30 ≤ length (part (c .before))
 long c = long-enough (part (c .before)) (well c)
@@ -52,11 +52,11 @@ few c = nodes-range (part (counted c .before .before .before)) (nodes c) (is-nod
 size-is : (c : tie.After-known-told2) → sizeOf (part (counted c .before .before .before)) ≡ 30 + 25 * nodes c
 size-is c = ap (λ (n : ℕ). 30 + 25 * n) (nodes-range (part (counted c .before .before .before)) (nodes c) (is-nodes c) .0)
 
-is-ill-play-requires : tie.Need-is-ill-play-requires
-is-ill-play-requires c κs = search needs
+is-bad-start-requires : tie.Need-is-bad-start-requires
+is-bad-start-requires c κs = search needs
 
 returns : tie.Need-returns
-returns c = sym (ap said (ill-stops (part (c .before)) (sym (c .before .is-ill-play .ensures) ∙ c .if1 .taken)))
+returns c = sym (ap (said (sizeOf (part (c .before)))) (start-stops (part (c .before)) (sym (c .before .is-bad-start .ensures) ∙ c .if1 .taken)))
 
 sub-count-nodes : tie.Need-sub-count-nodes
 sub-count-nodes c = search needs
@@ -86,7 +86,7 @@ returns-2 : tie.Need-returns-2
 returns-2 c =
     let K = c .before in
     let E = counted K .before .before in
-    sym (ap said (lines-missing (part (E .before)) (well E) (nodes K) (is-nodes K) (omega (arith, c .if2 .taken, size-is K))))
+    sym (ap (said (sizeOf (part (E .before)))) (lines-missing (part (E .before)) (well E) (nodes K) (is-nodes K) (omega (arith, c .if2 .taken, size-is K))))
 
 sub-score : tie.Need-sub-score
 sub-score c = search needs
@@ -111,7 +111,7 @@ returns-3 c =
     let N = c .before .before .before in
     let E = N .before .before in
     let r = c .before .r .given in
-    sym (ap said (head-stops (part (E .before)) (well E) (r .0 .0) (counts N (Count.the-variants.Refused (r .0 .0)) (r .1))))
+    sym (ap (said (sizeOf (part (E .before)))) (head-stops (part (E .before)) (well E) (r .0 .0) (counts N (Count.the-variants.Refused (r .0 .0)) (r .1))))
 
 returns-4 : tie.Need-returns-4
 returns-4 c =
@@ -123,17 +123,17 @@ returns-4 c =
     let back : toZ w64 (ofZ w64 (z .result)) ≡ z .result = search needs in
     let n : ℕ = nodes K in
     let p = nodes-range s n (is-nodes K) .0 in
-    let m : 30 + 25 * n - 5 ≡ 25 + 25 * nodesIn (headIn s) = omega (arith, p) in
+    let m : 30 + 25 * n - 5 ≡ 25 + 25 * nodesIn s = omega (arith, p) in
     c .score .ensures
-    ∙ ap₂ (λ (i : ℤ) (k : ℕ). said (scored (30 + 25 * n) i (take k (drop 5 s)))) (back ∙ z .ensures ∙ ap valueOf (c .before .before .read .ensures)) m
-    ∙ ap (λ (k : ℕ). said (scored k (valueOf (fieldOf s 0 4)) (take (25 + 25 * nodesIn (headIn s)) (drop 5 s)))) (sym (size-is K))
-    ∙ sym (ap said (lines-there s (well E) n (is-nodes K) (omega (arith, F .if2 .left, size-is K))))
+    ∙ ap₂ (λ (i : ℤ) (k : ℕ). said (30 + 25 * n) (scored i (take k (drop 5 s)))) (back ∙ z .ensures ∙ ap valueOf (c .before .before .read .ensures)) m
+    ∙ ap (λ (k : ℕ). said k (scored (valueOf (fieldOf s 0 4)) (take (25 + 25 * nodesIn s) (drop 5 s)))) (sym (size-is K))
+    ∙ sym (ap (said (sizeOf s)) (lines-there s (well E) n (is-nodes K) (omega (arith, F .if2 .left, size-is K))))
 
 pub position-of-spec : {M : Type 1} → statement M
 position-of-spec =
     tie.close
     (tie.spec
-    is-ill-play-requires
+    is-bad-start-requires
     returns
     sub-count-nodes
     part-count-nodes-start

@@ -59,14 +59,14 @@ given c =
     let R = read-of (S .before) in
     given-at (taken (S .before)) (S .scale-of .ensures) (number-of R) (c .judge-table .result) (rw (number-back (start R)) at (c .judge-table .ensures))
 
-row-of-requires : tie.Need-row-of-requires
-row-of-requires c κs = let K = scale-at c .before in small-at (taken K) (number-of (read-of K)) (c .judge-table .result) (given c)
+entry-of-requires : tie.Need-entry-of-requires
+entry-of-requires c κs = let K = scale-at c .before in small-at (taken K) (number-of (read-of K)) (c .judge-table .result) (given c)
 
 returns : tie.Need-returns
 returns c =
     let r = c .before .r .given in
     let R = c .before .before .before .before .before .before .before in
-    ap (λ (v : Verdict Table). said (next v (λ (t : Table). next (judge t (number-of R)) (λ (j : Judgement). fine (rowOf (start R .args .size) t j)))))
+    ap (λ (v : Verdict Table). said (start R .args .size) (next v (λ (t : Table). next (judge t (number-of R)) (λ (j : Judgement). fine (rowOf t j)))))
     (sym (refused-by (text-of R) (R .decode .result) (r .0 .0) _ _ _ _ (R .decode .ensures) (r .1)))
 
 returns-2 : tie.Need-returns-2
@@ -74,7 +74,7 @@ returns-2 c =
     let J = c .before in
     let K = scale-at J .before in
     let R = read-of K in
-    c .row-of .ensures ∙ row-at (taken K) (number-of R) (J .judge-table .result) (given J) (start R .args .size)
+    c .entry-of .ensures ∙ row-at (taken K) (number-of R) (J .judge-table .result) (given J) (start R .args .size)
 
 pub score-spec : {M : Type 1} → statement M
 score-spec =
@@ -96,6 +96,6 @@ score-spec =
     (λ c. search needs)
     judge-table-requires
     (λ c. search needs)
-    row-of-requires
+    entry-of-requires
     returns
     returns-2)

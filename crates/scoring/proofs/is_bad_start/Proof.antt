@@ -1,15 +1,15 @@
--- `scoring::is_ill_play` meets its contract. Assumes nothing.
+-- `scoring::is_bad_start` meets its contract. Assumes nothing.
 use mathlib.Core.Path.{_≡_, sym, _∙_}
 use mathlib.Core.Bool.{_||_}
 use denote.Ref.{now}
 use Rattle.field.specs.declared.Field.{Field}
 use Rattle.field.specs.declared.Field.the-variants.{Blank, Ill, Number}
 use Rattle.line.specs.Line.{isIll, isBlank}
-use Rattle.report.specs.Report.{illPlay}
+use Rattle.report.specs.Report.{badStart}
 use Rattle.scoring.proofs.Claims.{play-short, play-newline, play-field}
 use borrow.Author.Needs.{needs}
-use Rattle.scoring.proofs.is_ill_play.Statement.{statement}
-use Rattle.scoring.proofs.is_ill_play.Tie as tie
+use Rattle.scoring.proofs.is_bad_start.Statement.{statement}
+use Rattle.scoring.proofs.is_bad_start.Tie as tie
 
 returns : tie.Need-returns
 returns c = play-short (now (c .before .before .args .s)) (c .if1 .taken)
@@ -33,7 +33,7 @@ enum-told-3 : tie.Need-enum-told-3
 enum-told-3 c = search needs
 
 -- by the field that was read
-field-told : (R : tie.After-read) (f : Field) → R .read .result ≡ f → (isIll f || isBlank f) ≡ illPlay (now (R .before .before .before .before .before .args .s))
+field-told : (R : tie.After-read) (f : Field) → R .read .result ≡ f → (isIll f || isBlank f) ≡ badStart (now (R .before .before .before .before .before .args .s))
 field-told R f e =
     let E = R .before in
     play-field (now (E .before .before .before .before .args .s)) (E .before .before .if1 .left) (E .if2 .left) f (sym (R .read .ensures) ∙ e)
@@ -47,8 +47,8 @@ returns-4 c = field-told (c .before .before) Ill (c .enum-told2 .given .1)
 returns-5 : tie.Need-returns-5
 returns-5 c = field-told (c .before .before) (Number (c .enum-told3 .given .0 .0)) (c .enum-told3 .given .1)
 
-pub is-ill-play-spec : {M : Type 1} → statement M
-is-ill-play-spec =
+pub is-bad-start-spec : {M : Type 1} → statement M
+is-bad-start-spec =
     tie.close
     (tie.spec
     returns
