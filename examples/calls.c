@@ -124,6 +124,39 @@ static void rollouts(void) {
     SAME(4, leaves, 6, 2, 3, 5);
 }
 
+/* Play 2 of B, at an M root, and play 1 of B turned, at an N root. */
+static void report(void) {
+    static uint8_t match[2 * (5 + MARGIN_MOST_BYTES)];
+    const size_t half = 5 + b_len;
+    int64_t numbers[6], losses[3];
+    uint8_t kinds[3];
+    memcpy(match, "   2\n", 5);
+    memcpy(match + 5, b, b_len);
+    memcpy(match + half, "   1\n", 5);
+    returned("margin_turn for the match", margin_turn(b, b_len, match + half + 5, b_len), 0);
+    memset(numbers, 0xff, sizeof numbers);
+    memset(kinds, 0xff, sizeof kinds);
+    memset(losses, 0xfe, sizeof losses);
+    returned("margin_report in a short list", margin_report(match, 2 * half, kinds, 3, losses, 1, numbers, 6), 11);
+    match[half + 3] = '3';
+    const uint64_t code = margin_report(match, 2 * half, kinds, 3, losses, 3, numbers, 6);
+    returned("margin_report of no child", code, 2000014);
+    returned("its number", MARGIN_NUMBER(code), 14);
+    returned("its line", MARGIN_LINE(code), 0);
+    returned("its position", MARGIN_POSITION(code), 2);
+    SAME(0, numbers, 0);
+    SAME(0, kinds, 0);
+    match[half + 3] = '1';
+    returned("margin_report", margin_report(match, 2 * half, kinds, 3, losses, 3, numbers, 6), 0);
+    SAME(5, numbers, 2, 1, 1500, 1, 0);
+    SAME(2, kinds, 1, 2);
+    const int64_t untouched = -0x0101010101010102;
+    if (losses[0] != 1500 || losses[1] != 0 || losses[2] != untouched) {
+        printf("calls.c: the losses are not 1500 and 0, or the entry after them was written\n");
+        bad = 1;
+    }
+}
+
 int main(int argc, char **argv) {
     if (argc != 3 || (b_len = load(argv[1], b)) == 0 || (a_len = load(argv[2], a)) == 0) {
         fprintf(stderr, "usage: calls B A\n");
@@ -135,5 +168,6 @@ int main(int argc, char **argv) {
     searching();
     turning();
     rollouts();
+    report();
     return bad;
 }

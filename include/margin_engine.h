@@ -7,16 +7,18 @@
  *     0                     the answer was written,
  *     100 * line + number   refused, and nothing was written: 309 is refusal 9 at line 3.
  *
- * docs/REFUSALS.md says what each number means. The header is line 0 and node i is line i + 1; refusals 1 and 11 to 14 have line 0.
+ * margin_report, which takes a match, adds 1000000 * position to it: 2000309 is the same in the second position.
+ *
+ * docs/REFUSALS.md says what each number means. The header is line 0 and node i is line i + 1; refusals 1 and 11 to 16 have line 0.
  *
  * A pointer is followed by its length: the number of entries that it points to, not of bytes. Each pointer must be valid for that many
  * entries and not null, also where the length is 0; the areas that a call may write (pointers without const) must lie apart from each
- * other and from those that it only reads, the text and the policy. This is all that a caller must see to, but for the stack: 64 KB have room
+ * other and from those that it only reads, the text, the policy and the file. This is all that a caller must see to, but for the stack: 64 KB have room
  * for every call, by measurement and not by proof. Nothing is kept between calls.
  *
  * `numbers` gets as many of an answer's numbers as it has room for. Entries past the answer keep what they held, in every area.
  *
- * Worths, bounds, margins and losses are whole numbers of grains; G of them make one point.
+ * Worths, bounds, margins and losses are whole numbers of grains, G of them to a point; in a report losses are thousandths of a point.
  */
 #ifndef MARGIN_ENGINE_H
 #define MARGIN_ENGINE_H
@@ -28,14 +30,16 @@
 extern "C" {
 #endif
 
-/* The largest table, its text and its margin. Areas of these lengths have room for every answer. */
+/* The largest table, its text, the most positions of a match, the greatest margin. Areas of these lengths have room for every answer. */
 #define MARGIN_MOST_NODES 1024
 #define MARGIN_MOST_BYTES 25625
+#define MARGIN_MOST_POSITIONS 500
 #define MARGIN_GREATEST_MARGIN INT64_C(40000000000000)
 
 /* What a refused call returned, taken apart. */
 #define MARGIN_NUMBER(code) ((code) % 100)
-#define MARGIN_LINE(code) ((code) / 100)
+#define MARGIN_LINE(code) ((code) / 100 % 10000)
+#define MARGIN_POSITION(code) ((code) / 1000000)
 
 /*
  * Reads a table. Refuses 1 to 10.
@@ -106,6 +110,19 @@ struct margin_record {
  */
 uint64_t margin_rollout(const uint8_t *text, size_t text_len, const uint8_t *policy, size_t policy_len, struct margin_record *store,
                         size_t store_len, uint16_t *leaves, size_t leaves_len, int64_t *numbers, size_t numbers_len);
+
+/*
+ * The report on a match file: positions one after another, each a play number in 4 columns and a newline, and then a table as long as its
+ * header's count says. Each play is judged as by margin_judge. Refuses with the position's number, from 1: 15 where a position begins after
+ * 500, 16 where a play-number line is ill-written or the file ends in a position, 2 to 10 for its table, 14 where an M or N root has no such
+ * child. At the end 11, with position 0, where `kinds` or `losses` has fewer entries than there are positions.
+ *
+ * kinds: for each position the kind of its root, as in margin_read.
+ * losses: for each position its loss in thousandths of a point, rounded down; -1 at a C or L root, where there is no decision.
+ * numbers (5): the number of positions, the number of decisions at M, the sum of their losses as listed, the same two at N.
+ */
+uint64_t margin_report(const uint8_t *file, size_t file_len, uint8_t *kinds, size_t kinds_len, int64_t *losses, size_t losses_len,
+                       int64_t *numbers, size_t numbers_len);
 
 #ifdef __cplusplus
 }
