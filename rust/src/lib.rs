@@ -25,13 +25,16 @@
 //! ```
 //!
 //! Worths, bounds, losses and margins are whole numbers of grains, of which
-//! `per_point` make one point; [`points`] writes them in points. The README says how
-//! to write a table and which ends and margin to choose.
+//! `per_point` make one point; [`points`] writes them in points. [`report`] takes a
+//! match, many tables with the play made in each, and has losses in thousandths of a
+//! point. The README says how to write a table and a match, and which ends and margin
+//! to choose.
 
 mod judge;
 mod points;
 pub mod raw;
 mod refusal;
+mod report;
 mod rollout;
 mod search;
 mod table;
@@ -42,6 +45,7 @@ pub use judge::{Judgement, judge};
 pub use points::points;
 pub use raw::Record;
 pub use refusal::Refusal;
+pub use report::{Loss, Position, Report, Tally, places, report};
 pub use rollout::{Rolled, rollout};
 pub use search::{Found, Play, search};
 pub use table::{Kind, Node, Table, read};
@@ -56,6 +60,12 @@ pub const LINE: usize = 25;
 
 /// The most bytes that a table has: a header and a line for each node.
 pub const MOST_BYTES: usize = LINE * (1 + MOST_NODES);
+
+/// The most positions that a match file has.
+pub const MOST_POSITIONS: usize = 500;
+
+/// Bytes of a play-number line: 4 columns and a newline.
+pub const PLAY_LINE: usize = 5;
 
 /// The greatest T.
 pub const MOST_TOTAL: i64 = 64;

@@ -2,10 +2,11 @@
 //!
 //! For callers that want no allocation and for tests. Each call takes slices
 //! of any lengths and returns 0, or 100 times the refusal's line plus its
-//! number; a refused call writes nothing. What is written, and where, stands in
+//! number, to which [`report`] adds 1,000,000 times the position; a refused call
+//! writes nothing. What is written, and where, stands in
 //! `include/margin_engine.h`. Entries past an answer keep what they held.
 //!
-//! The only `unsafe` of this package is here. All six blocks are sound for the
+//! The only `unsafe` of this package is here. All seven blocks are sound for the
 //! same reasons: the declarations are those of the header, and `Record` has the
 //! layout of its struct; each pointer stands with the length of what it points to;
 //! it comes from a slice and so is not null; and no slice that a call may write
@@ -85,6 +86,17 @@ mod abi {
             store_len: usize,
             leaves: *mut u16,
             leaves_len: usize,
+            numbers: *mut i64,
+            numbers_len: usize,
+        ) -> u64;
+
+        pub fn margin_report(
+            file: *const u8,
+            file_len: usize,
+            kinds: *mut u8,
+            kinds_len: usize,
+            losses: *mut i64,
+            losses_len: usize,
             numbers: *mut i64,
             numbers_len: usize,
         ) -> u64;
@@ -191,6 +203,25 @@ pub fn rollout(
             store.len(),
             leaves.as_mut_ptr(),
             leaves.len(),
+            numbers.as_mut_ptr(),
+            numbers.len(),
+        )
+    }
+}
+
+/// Reports on a match file. `kinds` and `losses` have an entry for each position:
+/// the kind of its root, as in [`read`], and the loss in thousandths of a point, -1
+/// for no decision. `numbers`: the number of positions, the decisions and the
+/// sum of the losses at M, then at N.
+pub fn report(file: &[u8], kinds: &mut [u8], losses: &mut [i64], numbers: &mut [i64]) -> u64 {
+    unsafe {
+        abi::margin_report(
+            file.as_ptr(),
+            file.len(),
+            kinds.as_mut_ptr(),
+            kinds.len(),
+            losses.as_mut_ptr(),
+            losses.len(),
             numbers.as_mut_ptr(),
             numbers.len(),
         )

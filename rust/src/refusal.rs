@@ -13,11 +13,13 @@ use std::fmt;
 #[derive(Clone, Copy, Debug, PartialEq, Eq)]
 #[non_exhaustive]
 pub struct Refusal {
-    /// Which refusal, from 1 to 14. `docs/REFUSALS.md` says all of each.
+    /// Which refusal, from 1 to 16. `docs/REFUSALS.md` says all of each.
     pub number: u8,
     /// The line at fault: the header is line 0, and node i is line i + 1. It is 0
-    /// for a refusal that no line is to blame for: 1 and 11 to 14.
+    /// for a refusal that no line is to blame for: 1 and 11 to 16.
     pub line: usize,
+    /// The position of a match file at fault, from 1; 0 where there is none.
+    pub position: usize,
 }
 
 impl Refusal {
@@ -57,6 +59,10 @@ impl Refusal {
                 "a number is out of range",
                 "correct the number; T is 1 to 64, an end at most 1,000,000 from 0, a weight 1 to T, a utility between the ends",
             ),
+            4 if self.line == 0 && self.position > 0 => (
+                "the header's count is not 1 to 1,024",
+                "write the number of node lines in columns 1-4",
+            ),
             4 => match self.line {
                 0 => (
                     "the header's count is not the number of node lines",
@@ -93,7 +99,7 @@ impl Refusal {
             ),
             11 => (
                 "what was lent is too short",
-                "lend as many entries as the table has nodes, and a buffer as long as its text",
+                "lend as many entries as the table has nodes or the match positions, and a buffer as long as the text",
             ),
             12 => (
                 "the margin is not 0 to 40,000,000,000,000 grains",
@@ -107,6 +113,14 @@ impl Refusal {
                 "the root has no child of that number",
                 "count the root's children from 1, in the order of their lines",
             ),
+            15 => (
+                "the file has more than 500 positions, and the 501st begins here",
+                "divide the match into files of at most 500 positions",
+            ),
+            16 => (
+                "the play-number line is ill-written, or the file ends in this position",
+                "write the play number right-justified in 4 columns and a newline, then all lines of its table",
+            ),
             _ => ("the engine gave no known number", "report this"),
         }
     }
@@ -115,6 +129,9 @@ impl Refusal {
 impl fmt::Display for Refusal {
     fn fmt(&self, f: &mut fmt::Formatter) -> fmt::Result {
         write!(f, "refused {}", self.number)?;
+        if self.position > 0 {
+            write!(f, " in position {}", self.position)?;
+        }
         if self.has_line() {
             write!(f, " at line {}", self.line)?;
         }
@@ -124,13 +141,36 @@ impl fmt::Display for Refusal {
 
 impl Error for Refusal {}
 
-/// What a C call returned: an answer, or 100 times the line plus the number.
+/// What a C call returned: an answer, or 1,000,000 times the position, plus 100
+/// times the line, plus the number.
 pub(crate) fn answered(code: u64) -> Result<(), Refusal> {
     match code {
         0 => Ok(()),
         _ => Err(Refusal {
             number: (code % 100) as u8,
-            line: (code / 100) as usize,
+            line: (code / 100 % 10_000) as usize,
+            position: (code / 1_000_000) as usize,
         }),
+    }
+}
+
+#[cfg(test)]
+mod tests {
+    use super::answered;
+
+    #[test]
+    fn codes_taken_apart() {
+        assert_eq!(answered(0), Ok(()));
+        for (code, number, line, position) in [
+            (309, 9, 3, 0),
+            (102_403, 3, 1_024, 0),
+            (1_000_016, 16, 0, 1),
+            (501_000_015, 15, 0, 501),
+            (500_102_403, 3, 1_024, 500),
+        ] {
+            let refusal = answered(code).expect_err("refused");
+            let taken = (refusal.number, refusal.line, refusal.position);
+            assert_eq!(taken, (number, line, position), "{code}");
+        }
     }
 }

@@ -54,6 +54,18 @@ pub enum Kind {
     Leaf,
 }
 
+impl Kind {
+    /// The kind that the engine writes as this number.
+    pub(crate) fn of(number: u8) -> Kind {
+        match number {
+            0 => Kind::Leaf,
+            1 => Kind::Max,
+            2 => Kind::Min,
+            _ => Kind::Chance,
+        }
+    }
+}
+
 impl fmt::Display for Kind {
     /// The letter that stands for it in a table.
     fn fmt(&self, f: &mut fmt::Formatter) -> fmt::Result {
@@ -114,12 +126,7 @@ pub fn read(text: &[u8]) -> Result<Table, Refusal> {
     let [count, total, lowest, highest, chances, per_point, leaves] = numbers;
     let mut nodes: Vec<Node> = Vec::with_capacity(count as usize);
     for i in 0..count as usize {
-        let kind = match kinds[i] {
-            0 => Kind::Leaf,
-            1 => Kind::Max,
-            2 => Kind::Min,
-            _ => Kind::Chance,
-        };
+        let kind = Kind::of(kinds[i]);
         // Depth first, the parent is the node before, or the nearest above that
         // whose run of lines is not over.
         let mut parent = i.checked_sub(1);

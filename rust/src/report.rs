@@ -1,0 +1,138 @@
+//! The report on a match.
+
+use std::ops::Range;
+
+use crate::refusal::{Refusal, answered};
+use crate::table::Kind;
+use crate::{LINE, MOST_NODES, MOST_POSITIONS, PLAY_LINE, raw};
+
+/// What the plays of a match lose.
+#[derive(Clone, Debug, PartialEq, Eq)]
+#[non_exhaustive]
+pub struct Report {
+    /// The positions in the sequence of the file.
+    pub positions: Vec<Position>,
+    /// What MAX lost, at the M roots.
+    pub max: Tally,
+    /// What MIN lost, at the N roots.
+    pub min: Tally,
+}
+
+/// A position of a match and the play that was made there. The engine tells its kind
+/// and the loss, which are proved; the play number and the place are read from the
+/// accepted file by this package.
+#[derive(Clone, Debug, PartialEq, Eq)]
+#[non_exhaustive]
+pub struct Position {
+    /// Who moves at the root.
+    pub kind: Kind,
+    /// The play number, which counts the root's children from 1. At a C or L root any
+    /// number may stand.
+    pub play: i64,
+    /// What the play loses.
+    pub loss: Loss,
+    /// Its bytes in the file: a play-number line of [`PLAY_LINE`] bytes, then the table.
+    pub place: Range<usize>,
+}
+
+/// What a play loses against the best.
+#[derive(Clone, Copy, Debug, PartialEq, Eq)]
+pub enum Loss {
+    /// Thousandths of a point, rounded down.
+    Thousandths(i64),
+    /// Nobody chooses at a C or L root.
+    NoDecision,
+}
+
+/// The decisions of one side.
+#[derive(Clone, Copy, Debug, Default, PartialEq, Eq)]
+#[non_exhaustive]
+pub struct Tally {
+    /// How many there are.
+    pub decisions: i64,
+    /// The sum of their losses as listed, in thousandths of a point.
+    pub thousandths: i64,
+}
+
+/// Reports on a match file: positions one after another, each a play number in 4
+/// columns and a newline, and then a table. Refuses 2 to 10 and 14 to 16, with the
+/// position at fault.
+///
+/// ```
+/// use margin_engine::{Kind, Loss, report};
+///
+/// let file = std::fs::read("../examples/match.txt")?;
+/// let report = report(&file)?;
+/// assert_eq!(report.positions.len(), 5);
+///
+/// let third = &report.positions[2];
+/// assert_eq!((third.kind, third.play), (Kind::Min, 5));
+/// assert_eq!(third.loss, Loss::Thousandths(41_722)); // 41.722 points
+/// // MIN made another decision, which lost nothing.
+/// assert_eq!((report.min.decisions, report.min.thousandths), (2, 41_722));
+/// # Ok::<(), Box<dyn std::error::Error>>(())
+/// ```
+pub fn report(file: &[u8]) -> Result<Report, Refusal> {
+    let mut kinds = [0; MOST_POSITIONS];
+    let mut losses = [0; MOST_POSITIONS];
+    let mut numbers = [0; 5];
+    answered(raw::report(file, &mut kinds, &mut losses, &mut numbers))?;
+    let [count, max, max_sum, min, min_sum] = numbers;
+    let listed = places(file).zip(kinds).zip(losses).take(count as usize);
+    let positions = listed.map(|((place, kind), loss)| Position {
+        kind: Kind::of(kind),
+        play: number(&file[place.start..][..PLAY_LINE - 1]).expect("an accepted play number"),
+        loss: match loss {
+            ..0 => Loss::NoDecision,
+            _ => Loss::Thousandths(loss),
+        },
+        place,
+    });
+    Ok(Report {
+        positions: positions.collect(),
+        max: Tally {
+            decisions: max,
+            thousandths: max_sum,
+        },
+        min: Tally {
+            decisions: min,
+            thousandths: min_sum,
+        },
+    })
+}
+
+/// Where the positions of a match file stand, by the counts in their headers. Of a
+/// refused file this is right up to the position at fault; one that is cut short, or
+/// whose count cannot be told, goes to the file's end. (Not proved.)
+///
+/// ```
+/// let file = std::fs::read("../examples/match.txt")?;
+/// let first = margin_engine::places(&file).next().expect("a position");
+/// assert!(margin_engine::read(&file[first][5..]).is_ok());
+/// # Ok::<(), Box<dyn std::error::Error>>(())
+/// ```
+pub fn places(file: &[u8]) -> impl Iterator<Item = Range<usize>> + '_ {
+    let place = |start: usize| {
+        let rest = file.get(start..).filter(|rest| !rest.is_empty())?;
+        Some(start..start + length(rest))
+    };
+    std::iter::successors(place(0), move |before| place(before.end))
+}
+
+/// The bytes of the position that begins here.
+fn length(rest: &[u8]) -> usize {
+    let count = rest.get(PLAY_LINE..PLAY_LINE + 4).and_then(number);
+    let count = count.and_then(|count| usize::try_from(count).ok());
+    let count = count.filter(|count| (1..=MOST_NODES).contains(count));
+    let length = count.map(|count| PLAY_LINE + LINE * (1 + count));
+    length.map_or(rest.len(), |length| length.min(rest.len()))
+}
+
+/// The number in these columns, if one is written there.
+fn number(columns: &[u8]) -> Option<i64> {
+    str::from_utf8(columns)
+        .ok()?
+        .trim_start_matches(' ')
+        .parse()
+        .ok()
+}
