@@ -13,14 +13,19 @@ pub enum Asked {
     /// The help page of a verb, or the list of all.
     Help(Option<&'static Verb>),
     Version,
-    Question(Task),
+    Task(Task),
 }
 
-/// A question about a table, and how to answer it.
-pub struct Task {
-    pub question: Box<dyn Question>,
-    pub source: Source,
-    pub tsv: bool,
+/// What to do, and with which files.
+pub enum Task {
+    /// A question about a table.
+    Table {
+        question: Box<dyn Question>,
+        source: Source,
+        tsv: bool,
+    },
+    /// A report on each of these, of which there is at least one.
+    Matches { sources: Vec<Source>, tsv: bool },
 }
 
 /// A command line that asks nothing, and the verb that it names, if it does.
@@ -66,7 +71,7 @@ pub fn parse(mut words: impl Iterator<Item = OsString>) -> Result<Asked, Wrong> 
     if words.help {
         return Ok(Asked::Help(Some(verb)));
     }
-    words.task(verb).map(Asked::Question).map_err(wrong)
+    (verb.ask)(words).map(Asked::Task).map_err(wrong)
 }
 
 fn help(mut words: impl Iterator<Item = OsString>) -> Result<Asked, String> {
@@ -115,20 +120,31 @@ impl Words {
         Ok(sorted)
     }
 
-    /// The task that these words give with this verb. What is left of them is the
-    /// table's file.
-    fn task(mut self, verb: &Verb) -> Result<Task, String> {
-        let question = (verb.ask)(&mut self)?;
-        let source = match self.plain.pop_front() {
-            Some(file) if file != "-" => Source::File(file),
-            _ => Source::StandardInput,
-        };
+    /// The task to ask this about a table. What is left of the words is its file.
+    pub fn about_table(mut self, question: impl Question + 'static) -> Result<Task, String> {
+        let source = self.plain.pop_front().map(Source::named);
         if let Some(word) = self.plain.pop_front() {
             return Err(too_many(&word));
         }
-        Ok(Task {
-            question,
-            source,
+        Ok(Task::Table {
+            question: Box::new(question),
+            source: source.unwrap_or(Source::StandardInput),
+            tsv: self.tsv,
+        })
+    }
+
+    /// The task to report on matches. What is left of the words is their files.
+    pub fn about_matches(self) -> Result<Task, String> {
+        let inputs = self.plain.iter().filter(|word| *word == "-");
+        if inputs.count() > 1 {
+            return Err("- stands twice, and standard input can be read once".to_string());
+        }
+        let mut sources: Vec<Source> = self.plain.into_iter().map(Source::named).collect();
+        if sources.is_empty() {
+            sources.push(Source::StandardInput);
+        }
+        Ok(Task::Matches {
+            sources,
             tsv: self.tsv,
         })
     }

@@ -11,8 +11,13 @@ A margin is in points, as 3 or 0.05 (rounded down to whole grains), or in grains
 as 12g. A point is one unit of utility; G grains are a point.
 ";
 
+/// What the files of all verbs hold.
 const FILES: &str = "\
-FILE holds a table; without one, or with -, it is read from standard input.
+FILE holds a table, for report a match; without one, or with -, it is read from
+standard input.";
+
+/// What holds for every verb.
+const ALL: &str = "\
 --tsv prints lines of fields with tabs between them, for spreadsheets.
 The exit status is 0 for an answer, 1 for a refusal, 2 for anything else.
 The engine's answers are proved; this command, which prints them, is tested.
@@ -28,7 +33,8 @@ pub fn text(verb: Option<&Verb>) -> String {
 
 fn page(verb: &Verb) -> String {
     let head = format!("{}\n{} {}.\n", verb.usage(), verb.name, verb.does);
-    [&[head.as_str()], verb.more, &[FILES]].concat().join("\n")
+    let last = format!("{}\n{ALL}", verb.files.help);
+    [&[head.as_str()], verb.more, &[&last]].concat().join("\n")
 }
 
 fn list() -> String {
@@ -38,7 +44,8 @@ fn list() -> String {
     verbs += &line("help VERB".to_string(), "explains a verb");
     let head = format!(
         "desk VERB [options] [FILE]\n\
-         answers a question about a table, with the proved engine. Version {VERSION}.\n"
+         asks the proved engine about a table or a match. Version {VERSION}.\n"
     );
-    [&head, &verbs, MARGINS, FILES].join("\n")
+    let last = format!("{FILES}\n{ALL}");
+    [&head, &verbs, MARGINS, &last].join("\n")
 }

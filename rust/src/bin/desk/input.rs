@@ -5,13 +5,40 @@ use std::fmt;
 use std::fs::File;
 use std::io::{self, ErrorKind, IsTerminal, Read};
 
-use margin_engine::MOST_BYTES;
+use margin_engine::{MOST_BYTES, MOST_POSITIONS, PLAY_LINE};
 
 use crate::output::complain;
 
-/// So much of a text is read: a few columns more than the longest table has, so that
+/// What a verb's files hold.
+pub struct Holding {
+    pub noun: &'static str,
+    /// So much of a file is read.
+    pub limit: usize,
+    /// How the files stand in the line to type.
+    pub usage: &'static str,
+    /// What help says of them.
+    pub help: &'static str,
+}
+
+/// So much of a table is read: a few columns more than the longest one has, so that
 /// one that is too long is seen to be, and where. Longer ones have no end that matters.
 pub const LOOKED_AT: usize = MOST_BYTES + 64;
+
+pub const TABLE: Holding = Holding {
+    noun: "a table",
+    limit: LOOKED_AT,
+    usage: "[FILE]",
+    help: "FILE holds a table; without one, or with -, it is read from standard input.",
+};
+
+pub const MATCH: Holding = Holding {
+    noun: "a match",
+    // One byte more than the longest match has: where it is there, a 501st position
+    // begins or one before it is refused, whatever follows.
+    limit: MOST_POSITIONS * (PLAY_LINE + MOST_BYTES) + 1,
+    usage: "[FILE...]",
+    help: "FILE holds a match; without one, or with -, it is read from standard input.",
+};
 
 /// A file, or standard input.
 pub enum Source {
@@ -20,30 +47,41 @@ pub enum Source {
 }
 
 impl Source {
-    /// The table's text, or the beginning of one that is too long.
-    pub fn read(&self) -> Result<Vec<u8>, String> {
+    /// The file of this name; `-` is standard input.
+    pub fn named(name: OsString) -> Source {
+        match name == "-" {
+            true => Source::StandardInput,
+            false => Source::File(name),
+        }
+    }
+
+    /// The text, or the beginning of one that is too long.
+    pub fn read(&self, holding: &Holding) -> Result<Vec<u8>, String> {
+        let Holding { noun, limit, .. } = holding;
         let read = match self {
-            Source::File(name) => File::open(name).and_then(some),
+            Source::File(name) => File::open(name).and_then(|file| some(file, *limit)),
             Source::StandardInput => {
                 let stdin = io::stdin();
                 if stdin.is_terminal() {
-                    complain("desk: reading a table from standard input; `desk help` says more\n");
+                    complain(&format!(
+                        "desk: reading {noun} from standard input; `desk help` says more\n"
+                    ));
                 }
-                some(stdin.lock())
+                some(stdin.lock(), *limit)
             }
         };
         read.map_err(|error| match error.kind() {
             ErrorKind::NotFound => "there is no such file".to_string(),
-            ErrorKind::IsADirectory => "this is a folder, not a table's file".to_string(),
+            ErrorKind::IsADirectory => format!("this is a folder, not {noun}'s file"),
             ErrorKind::PermissionDenied => "you may not read this file".to_string(),
             _ => format!("it cannot be read: {error}"),
         })
     }
 }
 
-fn some(from: impl Read) -> io::Result<Vec<u8>> {
-    let mut text = Vec::with_capacity(LOOKED_AT);
-    from.take(LOOKED_AT as u64).read_to_end(&mut text)?;
+fn some(from: impl Read, limit: usize) -> io::Result<Vec<u8>> {
+    let mut text = Vec::new();
+    from.take(limit as u64).read_to_end(&mut text)?;
     Ok(text)
 }
 

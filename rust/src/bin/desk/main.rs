@@ -1,4 +1,4 @@
-//! The desk's command: questions about a table, answered by the proved engine.
+//! The desk's command: questions about a table or a match, answered by the proved engine.
 //! `docs/DESK.md` says what each verb prints.
 
 mod args;
@@ -7,6 +7,7 @@ mod help;
 mod input;
 mod margin;
 mod output;
+mod progress;
 mod refused;
 mod spot;
 mod tree;
@@ -15,12 +16,15 @@ mod verbs;
 
 use std::process::ExitCode;
 
-use args::Asked;
-use output::{Page, Sheet, complain, print};
+use args::{Asked, Task};
+use input::{Source, TABLE};
+use output::{complain, print};
 use refused::Refused;
-use verbs::Answer;
+use verbs::{Question, formed, report};
 
-/// The exit status where the table or the question is refused.
+const ANSWERED: u8 = 0;
+
+/// The exit status where the table, the question or a match is refused.
 const REFUSED: u8 = 1;
 
 /// The exit status where there is nothing to ask the engine: wrong usage, or a
@@ -35,42 +39,36 @@ fn main() -> ExitCode {
             return ExitCode::from(FAILED);
         }
     };
-    let task = match asked {
-        Asked::Help(verb) => return print(help::text(verb).as_bytes(), ExitCode::SUCCESS),
-        Asked::Version => {
-            let version = format!("desk {}\n", help::VERSION);
-            return print(version.as_bytes(), ExitCode::SUCCESS);
-        }
-        Asked::Question(task) => task,
-    };
-    let text = match task.source.read() {
-        Ok(text) => text,
-        Err(error) => {
-            complain(&format!("desk: {}: {error}\n", task.source));
-            return ExitCode::from(FAILED);
-        }
-    };
-    match task.question.answer(&text) {
-        Ok(answer) => print(&formed(answer.as_ref(), task.tsv), ExitCode::SUCCESS),
-        Err(refusal) => {
-            let refused = Refused::of(refusal, &text, &task);
-            if task.tsv {
-                return print(refused.tsv().as_bytes(), ExitCode::from(REFUSED));
-            }
-            complain(&refused.people(&task.source));
-            ExitCode::from(REFUSED)
-        }
+    match asked {
+        Asked::Help(verb) => print(help::text(verb).as_bytes(), ANSWERED),
+        Asked::Version => print(format!("desk {}\n", help::VERSION).as_bytes(), ANSWERED),
+        Asked::Task(Task::Table {
+            question,
+            source,
+            tsv,
+        }) => answer(question.as_ref(), &source, tsv),
+        Asked::Task(Task::Matches { sources, tsv }) => report::run(&sources, tsv),
     }
 }
 
-/// The answer as it is printed.
-fn formed(answer: &dyn Answer, tsv: bool) -> Vec<u8> {
-    if tsv {
-        let mut sheet = Sheet::default();
-        answer.tsv(&mut sheet);
-        return sheet.into_text().into_bytes();
+/// Answers a question about a table.
+fn answer(question: &dyn Question, source: &Source, tsv: bool) -> ExitCode {
+    let text = match source.read(&TABLE) {
+        Ok(text) => text,
+        Err(error) => {
+            complain(&format!("desk: {source}: {error}\n"));
+            return ExitCode::from(FAILED);
+        }
+    };
+    match question.answer(&text) {
+        Ok(answer) => print(&formed(answer.as_ref(), tsv), ANSWERED),
+        Err(refusal) => {
+            let refused = Refused::of(refusal, &text, question);
+            if tsv {
+                return print(refused.tsv().as_bytes(), REFUSED);
+            }
+            complain(&refused.people(source));
+            ExitCode::from(REFUSED)
+        }
     }
-    let mut page = Page::new(output::coloured());
-    answer.people(&mut page);
-    page.into_bytes()
 }

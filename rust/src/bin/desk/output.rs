@@ -184,17 +184,41 @@ fn wanted(terminal: bool, no_color: Option<OsString>, term: Option<OsString>) ->
     terminal && set(no_color).is_none() && set(term).is_some_and(|term| term != "dumb")
 }
 
-/// Prints to standard output. One that was closed is not our concern: whoever
-/// closed it has seen enough.
-pub fn print(bytes: &[u8], status: ExitCode) -> ExitCode {
-    let mut out = io::stdout().lock();
-    match out.write_all(bytes).and_then(|()| out.flush()) {
-        Err(error) if error.kind() != ErrorKind::BrokenPipe => {
-            complain(&format!("desk: the output cannot be written: {error}\n"));
-            ExitCode::from(FAILED)
+/// Prints to standard output, as the last thing that is done.
+pub fn print(bytes: &[u8], status: u8) -> ExitCode {
+    let written = write(bytes).map_or_else(|stop| stop.status(status), |()| status);
+    ExitCode::from(written)
+}
+
+/// Why nothing more can be written.
+pub enum Stop {
+    /// Whoever closed the output has seen enough, which is not our concern.
+    Closed,
+    /// It failed, and this was said.
+    Failed,
+}
+
+impl Stop {
+    /// The exit status, where it was this so far.
+    pub fn status(&self, so_far: u8) -> u8 {
+        match self {
+            Stop::Closed => so_far,
+            Stop::Failed => FAILED,
         }
-        _ => status,
     }
+}
+
+/// Writes to standard output.
+pub fn write(bytes: &[u8]) -> Result<(), Stop> {
+    let mut out = io::stdout().lock();
+    let written = out.write_all(bytes).and_then(|()| out.flush());
+    written.map_err(|error| {
+        if error.kind() == ErrorKind::BrokenPipe {
+            return Stop::Closed;
+        }
+        complain(&format!("desk: the output cannot be written: {error}\n"));
+        Stop::Failed
+    })
 }
 
 /// Prints to standard error; where that fails too, nobody can be told.

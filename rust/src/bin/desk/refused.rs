@@ -2,33 +2,51 @@
 
 use margin_engine::{Refusal, read};
 
-use crate::args::Task;
 use crate::input::Source;
 use crate::output::Sheet;
 use crate::spot::{self, Spot, printable};
+use crate::verbs::Question;
 
 /// A refusal, and what helps to mend it.
 pub struct Refused {
     refusal: Refusal,
     spot: Spot,
+    /// The line of a match file, from 1, in which the position at fault begins.
+    begins: Option<usize>,
 }
 
 impl Refused {
-    pub fn of(refusal: Refusal, text: &[u8], task: &Task) -> Refused {
+    /// A table that is refused, or this question about it.
+    pub fn of(refusal: Refusal, text: &[u8], question: &dyn Question) -> Refused {
         let mut spot = spot::of(text, &refusal);
         // Where the table is accepted, it is what was asked that is refused.
         if let Ok(table) = read(text)
             && spot.line.is_none()
         {
-            spot.detail = task.question.given(&table);
+            spot.detail = question.given(&table);
         }
-        Refused { refusal, spot }
+        Refused {
+            refusal,
+            spot,
+            begins: None,
+        }
+    }
+
+    /// A match file that is refused.
+    pub fn in_match(refusal: Refusal, file: &[u8]) -> Refused {
+        let (spot, begins) = spot::in_match(file, &refusal);
+        Refused {
+            refusal,
+            spot,
+            begins: Some(begins),
+        }
     }
 
     fn reason(&self) -> String {
+        let reason = self.spot.reason.unwrap_or(self.refusal.reason());
         match self.spot.detail.as_str() {
-            "" => self.refusal.reason().to_string(),
-            detail => format!("{}: {detail}", self.refusal.reason()),
+            "" => reason.to_string(),
+            detail => format!("{reason}: {detail}"),
         }
     }
 
@@ -36,15 +54,28 @@ impl Refused {
         self.spot.mend.unwrap_or(self.refusal.mend())
     }
 
-    /// For people, about a table from there.
+    /// The line of a match file that is shown, or the first of the position at fault
+    /// where none is.
+    fn line_of_file(&self) -> Option<usize> {
+        let number = self.spot.line.as_ref().and_then(|line| line.number);
+        let below = number.map_or(0, |number| 1 + number);
+        self.begins.map(|begins| begins + below)
+    }
+
+    /// For people, about a file from there.
     pub fn people(&self, source: &Source) -> String {
         let Refusal { number, line, .. } = self.refusal;
+        let position = self.line_of_file().map(|line| {
+            let position = self.refusal.position;
+            format!("position {position}, line {line} of the file: ")
+        });
+        let position = position.unwrap_or_default();
         let place = match line {
             _ if !self.refusal.has_line() => String::new(),
             0 => " at line 0 (the header)".to_string(),
             _ => format!(" at line {line} (node {}; the header is line 0)", line - 1),
         };
-        let mut text = format!("desk: {source}: refused {number}{place}\n");
+        let mut text = format!("desk: {source}: {position}refused {number}{place}\n");
         if let Some(line) = &self.spot.line {
             text += &format!("  |{}|\n", printable(&line.bytes));
             text += &self.marks();
@@ -79,8 +110,12 @@ impl Refused {
         let mut sheet = Sheet::default();
         sheet.row("refused", &[&self.refusal.number]);
         sheet.row("line", &[&self.refusal.line]);
+        if let Some(line) = self.line_of_file() {
+            sheet.row("at", &[&self.refusal.position, &line]);
+        }
         if let Some(line) = &self.spot.line {
-            sheet.row("shown", &[&line.number]);
+            let number = line.number.map(|number| number.to_string());
+            sheet.row("shown", &[&number.unwrap_or_default()]);
         }
         for field in &self.spot.columns {
             sheet.row("columns", &[&field.first, &field.last]);

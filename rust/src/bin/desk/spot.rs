@@ -1,6 +1,10 @@
 //! Where in a refused table the fault shows. The refusal's number and line are the
 //! engine's; this reads the line again to point at its columns, for the eye.
 
+mod position;
+
+pub use position::in_match;
+
 use margin_engine::{FARTHEST_END, LINE, LONGEST_PATH, MOST_CHANCES, MOST_TOTAL, Refusal};
 
 use crate::input::LOOKED_AT;
@@ -40,6 +44,8 @@ pub struct Spot {
     /// The line at fault, if there is one, and its number.
     pub line: Option<Line>,
     pub columns: Vec<Field>,
+    /// A closer reason than the refusal's own.
+    pub reason: Option<&'static str>,
     /// What the reason does not say; empty where it says all.
     pub detail: String,
     /// A better mend than the refusal's own.
@@ -49,15 +55,17 @@ pub struct Spot {
 /// A line of the text, without its newline.
 #[derive(Debug, PartialEq, Eq)]
 pub struct Line {
-    /// The header's is 0.
-    pub number: usize,
+    /// The header's is 0; none for a line that stands before a table.
+    pub number: Option<usize>,
     pub bytes: Vec<u8>,
 }
 
 impl Line {
     fn of(number: usize, bytes: &[u8]) -> Option<Line> {
-        let bytes = without_newline(bytes).to_vec();
-        Some(Line { number, bytes })
+        Some(Line {
+            number: Some(number),
+            bytes: without_newline(bytes).to_vec(),
+        })
     }
 }
 
@@ -78,18 +86,35 @@ pub fn of(text: &[u8], refusal: &Refusal) -> Spot {
         }
         _ => return Spot::default(),
     };
-    let said = faults.iter().map(|(_, fault)| fault.as_str());
-    let said = said.filter(|fault| !fault.is_empty());
+    let line = &lines[refusal.line];
+    let is_match = refusal.line == 0 && refusal.position == 0 && begins_a_match(line);
     Spot {
-        line: Line::of(refusal.line, &lines[refusal.line]),
-        detail: said.collect::<Vec<_>>().join(", "),
-        columns: faults.iter().map(|(field, _)| *field).collect(),
-        mend: None,
+        line: Line::of(refusal.line, line),
+        mend: is_match.then_some(ASK_FOR_A_REPORT),
+        ..said(&faults)
     }
 }
 
 /// The columns at fault, and what is wrong with each.
 type Faults = Vec<(Field, String)>;
+
+/// Faults as they are told, without their line.
+fn said(faults: &Faults) -> Spot {
+    let said = faults.iter().map(|(_, fault)| fault.as_str());
+    let said = said.filter(|fault| !fault.is_empty());
+    Spot {
+        detail: said.collect::<Vec<_>>().join(", "),
+        columns: faults.iter().map(|(field, _)| *field).collect(),
+        ..Spot::default()
+    }
+}
+
+const ASK_FOR_A_REPORT: &str = "if this is a match file, ask `desk report`";
+
+/// Whether a line begins like a match file, with a play number and a newline.
+fn begins_a_match(line: &[u8; LINE]) -> bool {
+    line[4] == b'\n' && number_fault(&line[..4]).is_none()
+}
 
 /// A text whose length is not that of a table.
 fn length(text: &[u8]) -> Spot {
@@ -126,6 +151,7 @@ fn length(text: &[u8]) -> Spot {
             _ => format!("line {number} (the header is line 0) {fault}"),
         },
         mend: Some(mend),
+        ..Spot::default()
     }
 }
 
@@ -140,6 +166,9 @@ fn length_fault(
     let fault = |fault: &str, mend| (fault.to_string(), mend);
     if columns.is_empty() {
         return fault("is empty", "delete the empty line");
+    }
+    if number == 0 && columns.len() == 4 && ended {
+        return fault("has 4 columns, like a play number", ASK_FOR_A_REPORT);
     }
     if number == 0 && columns.len() == 14 && ended {
         let mend = "leave out this line, and give the margin after the verb";
@@ -204,7 +233,7 @@ fn first_chance(lines: &[[u8; LINE]]) -> Spot {
         line: Line::of(1 + node, &lines[1 + node]),
         columns: vec![KIND],
         detail: format!("the first is node {node}"),
-        mend: None,
+        ..Spot::default()
     }
 }
 
@@ -238,7 +267,7 @@ fn ill_written(line: &[u8; LINE], must: &[Field], may: &[Field]) -> Faults {
     faults
 }
 
-/// What is wrong with a field that is not blank as a number, if something is.
+/// What is wrong with a field as a number, if something is; a blank one is no number.
 fn number_fault(columns: &[u8]) -> Option<String> {
     if let Some((name, _)) = columns.iter().find_map(|byte| strange(*byte)) {
         return Some(format!("has {name}"));

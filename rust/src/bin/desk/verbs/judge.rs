@@ -3,6 +3,7 @@
 use margin_engine::{Judgement, Play, Refusal, Table, judge, read};
 
 use super::{Answer, Played, Question, Verb};
+use crate::input::TABLE;
 use crate::margin::Number;
 use crate::output::{Amount, Page, Sheet};
 
@@ -10,15 +11,16 @@ pub const VERB: Verb = Verb {
     name: "judge",
     arguments: "NUMBER",
     options: &[],
+    files: &TABLE,
     does: "tells what a play loses",
     more: &["\
 NUMBER counts the root's children from 1, in the order of their lines. Told are
 the play's loss against the best one, and how many plays are level with the best:
 they lose less than a point.
 "],
-    ask: |words| {
+    ask: |mut words| {
         let number = words.number("NUMBER")?;
-        Ok(Box::new(Asked { number }))
+        words.about_table(Asked { number })
     },
 };
 
@@ -49,9 +51,14 @@ impl Question for Asked {
     }
 
     fn given(&self, table: &Table) -> String {
-        let children = table.children(0).count();
-        format!("{} was given, and there are {children}", self.number.word)
+        given(&self.number.word, table)
     }
+}
+
+/// What to say of a number that no child has.
+pub fn given(number: &str, table: &Table) -> String {
+    let children = table.children(0).count();
+    format!("{number} was given, and there are {children}")
 }
 
 struct Judged {

@@ -1,6 +1,7 @@
 //! The verbs, one module each. A new verb is a module and its line in `VERBS`.
 
-mod judge;
+pub mod judge;
+pub mod report;
 mod rollout;
 mod search;
 mod show;
@@ -9,8 +10,9 @@ mod worth;
 
 use margin_engine::{Kind, Play, Refusal, Table};
 
-use crate::args::Words;
-use crate::output::{Page, Sheet};
+use crate::args::{Task, Words};
+use crate::input::Holding;
+use crate::output::{Page, Sheet, coloured};
 
 /// All verbs, in the sequence in which help lists them.
 pub const VERBS: &[&Verb] = &[
@@ -20,6 +22,7 @@ pub const VERBS: &[&Verb] = &[
     &search::VERB,
     &turn::VERB,
     &rollout::VERB,
+    &report::VERB,
 ];
 
 /// A verb: how it is called, what help says of it, and the question that it asks.
@@ -29,11 +32,12 @@ pub struct Verb {
     pub arguments: &'static str,
     /// Its own options beside `--tsv` and `--help`, with what stands after each.
     pub options: &'static [(&'static str, &'static str)],
+    pub files: &'static Holding,
     /// What it does; the verb stands before this.
     pub does: &'static str,
     /// What else is good to know, a paragraph each.
     pub more: &'static [&'static str],
-    pub ask: fn(&mut Words) -> Result<Box<dyn Question>, String>,
+    pub ask: fn(Words) -> Result<Task, String>,
 }
 
 impl Verb {
@@ -49,7 +53,8 @@ impl Verb {
         let options: String = options
             .map(|(name, value)| format!("[{name} {value}] "))
             .collect();
-        format!("desk {} {options}[--tsv] [FILE]", self.call())
+        let files = self.files.usage;
+        format!("desk {} {options}[--tsv] {files}", self.call())
     }
 }
 
@@ -69,6 +74,18 @@ pub trait Question {
 pub trait Answer {
     fn people(&self, page: &mut Page);
     fn tsv(&self, sheet: &mut Sheet);
+}
+
+/// The answer as it is printed.
+pub fn formed(answer: &dyn Answer, tsv: bool) -> Vec<u8> {
+    if tsv {
+        let mut sheet = Sheet::default();
+        answer.tsv(&mut sheet);
+        return sheet.into_text().into_bytes();
+    }
+    let mut page = Page::new(coloured());
+    answer.people(&mut page);
+    page.into_bytes()
 }
 
 /// The play that a verb speaks of.

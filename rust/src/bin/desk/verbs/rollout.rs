@@ -4,12 +4,14 @@ use margin_engine::{Refusal, Rolled, read, rollout};
 
 use super::{Answer, Question, Verb};
 use crate::grid::{Cell, Row, lay};
+use crate::input::TABLE;
 use crate::output::{Amount, Page, Sheet};
 
 pub const VERB: Verb = Verb {
     name: "rollout",
     arguments: "[POLICY]",
     options: &[],
+    files: &TABLE,
     does: "finds the worth of a table without C by rollouts",
     more: &["\
 POLICY is a list of numbers from 0 to 255 with commas, as 2,0,1. Each inner node
@@ -18,9 +20,9 @@ takes the one with that number mod m; past the list's end, the first. The worth 
 the same under every policy. The list at the end has each node's bounds as last
 updated. A file whose name looks like a policy is written ./2.
 "],
-    ask: |words| {
+    ask: |mut words| {
         let policy = words.policy()?;
-        Ok(Box::new(Asked { policy }))
+        words.about_table(Asked { policy })
     },
 };
 

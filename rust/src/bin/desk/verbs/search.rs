@@ -4,6 +4,7 @@ use margin_engine::{Found, Refusal, Table, read, search};
 
 use super::{Answer, Played, Question, Verb};
 use crate::help::MARGINS;
+use crate::input::TABLE;
 use crate::margin::Margin;
 use crate::output::{Amount, Page, Sheet};
 
@@ -11,6 +12,7 @@ pub const VERB: Verb = Verb {
     name: "search",
     arguments: "MARGIN",
     options: &[],
+    files: &TABLE,
     does: "finds the worth and a play to within a margin",
     more: &[
         "\
@@ -21,9 +23,9 @@ exact worth.
 ",
         MARGINS,
     ],
-    ask: |words| {
+    ask: |mut words| {
         let margin = words.margin()?;
-        Ok(Box::new(Asked { margin }))
+        words.about_table(Asked { margin })
     },
 };
 

@@ -8,6 +8,7 @@ use super::search::{Searched, given};
 use super::{Answer, Question, Verb};
 use crate::grid::{Cell, Row, lay};
 use crate::help::MARGINS;
+use crate::input::TABLE;
 use crate::margin::Margin;
 use crate::output::{Amount, Page, Sheet};
 use crate::tree;
@@ -17,6 +18,7 @@ pub const VERB: Verb = Verb {
     name: "show",
     arguments: "",
     options: &[("--margin", "M")],
+    files: &TABLE,
     does: "draws the tree with every node's worth",
     more: &[
         "\
@@ -33,7 +35,7 @@ and each play is listed with its worth and its loss: `play` is the search's,
     ],
     ask: |words| {
         let margin = words.margin_after("--margin")?;
-        Ok(Box::new(Asked { margin }))
+        words.about_table(Asked { margin })
     },
 };
 

@@ -3,18 +3,20 @@
 use margin_engine::{Refusal, Turned, read, turn};
 
 use super::{Answer, Question, Verb};
+use crate::input::TABLE;
 use crate::output::{Page, Sheet};
 
 pub const VERB: Verb = Verb {
     name: "turn",
     arguments: "",
     options: &[],
+    files: &TABLE,
     does: "prints the table from the other side",
     more: &["\
 M and N change places, utilities get the other sign, and the two ends are negated
 and exchanged.
 "],
-    ask: |_| Ok(Box::new(Asked)),
+    ask: |words| words.about_table(Asked),
 };
 
 struct Asked;

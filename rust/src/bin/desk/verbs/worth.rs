@@ -3,15 +3,17 @@
 use margin_engine::{Refusal, Worth, exact_worth};
 
 use super::{Answer, Question, Verb};
+use crate::input::TABLE;
 use crate::output::{Amount, Page, Sheet};
 
 pub const VERB: Verb = Verb {
     name: "worth",
     arguments: "",
     options: &[],
+    files: &TABLE,
     does: "tells the exact worth of a table",
     more: &[],
-    ask: |_| Ok(Box::new(Asked)),
+    ask: |words| words.about_table(Asked),
 };
 
 struct Asked;
