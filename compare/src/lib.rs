@@ -1,8 +1,8 @@
 //! Holds the proved engine to a second, independent engine.
 //!
 //! - `engine` calls the proved engine, through the package `margin-engine`.
-//! - `second` is the second engine, written from document 01 and the two
-//!   algorithms that it names, and from nothing of the proved engine.
+//! - `second` is the second engine, written from documents 01 and 02 and the two
+//!   algorithms that 01 names, and from nothing of the proved engine.
 //! - `hold` compares the two, and the desk's command with the second, for the tests.
 //! - `random` and `texts` make the texts that both are given.
 //!

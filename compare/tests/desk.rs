@@ -36,7 +36,7 @@ fn every_verb_on_the_examples() {
     for name in EXAMPLES {
         let (file, text) = example(name);
         let table = second::read(&text).expect("accepted");
-        let children = hold::root_children(&table) as i64;
+        let children = second::root_children(&table) as i64;
         assert!(children >= 2, "{name}: nothing to judge");
         let mut questions = vec![Show, Worth, Turn];
         questions.extend((1..=children).map(Judge));
@@ -110,7 +110,7 @@ fn random_question(table: &Table, random: &mut Random) -> Question {
     match random.below(8) {
         0 => Worth,
         1 => {
-            let children = hold::root_children(table) as i64;
+            let children = second::root_children(table) as i64;
             Judge(random.between(1, children.max(1)))
         }
         2 => Search(random_margin(table, random)),
@@ -170,7 +170,7 @@ fn random_tables() {
         seen.count_table(&table);
         seen.count_root(&ROOTS, &table);
         seen.count_chances(&table);
-        for verb in VERBS {
+        for verb in OF_A_TABLE {
             let is_one = question.words()[0] == verb[0];
             for one in FORMS {
                 let sort = format!("{} for {one:?}", verb[0]);

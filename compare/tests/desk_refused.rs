@@ -216,7 +216,7 @@ fn other_texts() -> Vec<Bad> {
 fn refused_tables() {
     let mut tally = Tally::new("desk on refused tables");
     // A table is refused before a margin or a number.
-    let verbs = [&VERBS[..], &[&["search", "-1"], &["judge", "0"]]].concat();
+    let verbs = [OF_A_TABLE, &[&["search", "-1"], &["judge", "0"]]].concat();
     let lists = [wrong_lengths(), lines_of_b(), other_texts()];
     for bad in lists.iter().flatten() {
         let file = written("desk-refused.txt", &bad.text);
@@ -248,7 +248,7 @@ fn random_refused_texts() {
         };
         assert_eq!(second::read(&text), Err(refusal));
         let form = random.pick(&FORMS);
-        let words = words(random.pick(&VERBS));
+        let words = words(random.pick(OF_A_TABLE));
         let ran = ask(words, &text, form, Way::Input, case);
         Refused::of(&text, refusal).hold(&ran, form, Way::Input.name(), &tally.place());
         tally.add(&[u64::from(refusal.number)]);

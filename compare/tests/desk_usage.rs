@@ -157,6 +157,11 @@ fn wrong_usage() {
         "rollout 18446744073709551616 F",
         "rollout 1,,2 F",
         "rollout 1 F F",
+        "report - -",
+        "report F - -",
+        "report - F -",
+        "report --margin 3 F",
+        "report F --nonsense",
         "search --margin 3 F",
         "help nonsense",
         "help show show",
@@ -210,10 +215,25 @@ fn wide_table() -> Vec<u8> {
     text
 }
 
+/// A match of one position, with the first play made.
+fn one_position(table: &[u8]) -> Vec<u8> {
+    [b"   1\n", table].concat()
+}
+
+/// What a verb is about: the match for `report`, otherwise the table.
+fn input_of<'a>(words: &[&str], table: &'a [u8], file: &'a [u8]) -> &'a [u8] {
+    if words[0] == "report" {
+        file
+    } else {
+        table
+    }
+}
+
 /// An output that is closed early ends the program quietly.
 #[test]
 fn closed_output() {
     let text = wide_table();
+    let file = one_position(&text);
     let quiet = |output: Output| {
         assert_eq!(output.status.code(), Some(0));
         assert_eq!(String::from_utf8_lossy(&output.stderr), "");
@@ -233,7 +253,8 @@ fn closed_output() {
         for options in [&[][..], &["--tsv"]] {
             let mut child = start(command(&[verb, options].concat()));
             drop(child.stdout.take());
-            feed(child.stdin.take().expect("a pipe"), &text);
+            let input = input_of(verb, &text, &file);
+            feed(child.stdin.take().expect("a pipe"), input);
             quiet(child.wait_with_output().expect("the program ends"));
         }
     }
@@ -243,6 +264,7 @@ fn closed_output() {
 #[test]
 fn full_output() {
     let text = wide_table();
+    let file = one_position(&text);
     let mut lines: Vec<Vec<&str>> = vec![vec!["help"], vec!["help", "show"]];
     for verb in VERBS {
         lines.push(verb.to_vec());
@@ -252,7 +274,7 @@ fn full_output() {
     for line in &lines {
         let mut command = command(line);
         command.stdout(full().expect("/dev/full"));
-        finish(command, &text).fails();
+        finish(command, input_of(line, &text, &file)).fails();
     }
     // A refusal that is an output too.
     let mut command = command(&["worth", "--tsv"]);

@@ -2,19 +2,19 @@
 //! one gets the tables that it asks for; and the benchmark's tables to what they
 //! were.
 
+use compare::hold::best_plays;
 use compare::hold::seen::Seen;
-use compare::hold::{best_plays, root_children};
 use compare::random::{seed, Random};
-use compare::second::{self, Kind, Table, MOST_CHANCES, MOST_TOTAL};
+use compare::second::{self, root_children, Kind, Table, MOST_CHANCES, MOST_TOTAL};
 use compare::texts::examples::escaped;
 use compare::texts::knobs::{Kinds, Knobs, Order, Shape, Utilities, Weights, ROLLS, WIDEST};
-use compare::texts::{self, bench};
+use compare::texts::{self, bench, matches};
 
 /// A setting and its name.
 type Setting = (&'static str, fn(&mut Random) -> Knobs);
 
 /// Every setting whose tables are valid, and some with knobs turned besides.
-const SETTINGS: [Setting; 16] = [
+const SETTINGS: [Setting; 17] = [
     ("any", Knobs::any),
     ("plain", Knobs::plain),
     ("close", Knobs::close),
@@ -22,6 +22,7 @@ const SETTINGS: [Setting; 16] = [
     ("ties", Knobs::ties),
     ("forced", Knobs::forced),
     ("dice", Knobs::dice),
+    ("tiny", matches::tiny),
     ("largest", Knobs::largest),
     ("largest plain", Knobs::largest_plain),
     ("largest chains", Knobs::largest_chains),

@@ -5,10 +5,9 @@
 
 use compare::hold::judging::{hold_to, Comparison};
 use compare::hold::numbers::ROOM;
-use compare::hold::root_children;
 use compare::hold::tally::OF_TABLES;
 use compare::random::{number_from_environment, seed, Random};
-use compare::second::{self, Judgement, Node, Refusal, FARTHEST_END, MOST_NODES};
+use compare::second::{self, root_children, Judgement, Node, Refusal, FARTHEST_END, MOST_NODES};
 use compare::texts::examples::*;
 use compare::texts::knobs::Knobs;
 use compare::texts::small::{for_each, six_nodes};

@@ -9,23 +9,24 @@ use std::fmt::Debug;
 
 use compare::hold::seen::{Seen, ROOTS};
 use compare::hold::tally::{Tally, OF_TABLES};
-use compare::hold::{code, root_children, span};
+use compare::hold::{code, span};
 use compare::random::{number_from_environment, Random};
-use compare::second::{self, Bounds, Refusal, Table};
-use compare::texts;
+use compare::second::{self, root_children, Bounds, Refusal, Stop, Table, PLAY_LINE};
 use compare::texts::examples::escaped;
 use compare::texts::knobs::Knobs;
+use compare::texts::{self, matches};
 use margin_engine as package;
 
-/// What both say of one question: an answer, or the refusal's number and line.
-type Said<T> = Result<T, (u8, usize)>;
+/// What both say of one question: an answer, or the refusal's number, line and
+/// position.
+type Said<T> = Result<T, (u8, usize, usize)>;
 
 fn second<T>(answer: Result<T, Refusal>) -> Said<T> {
-    answer.map_err(|refusal| (refusal.number, refusal.line))
+    answer.map_err(|refusal| (refusal.number, refusal.line, 0))
 }
 
 fn typed<T>(answer: Result<T, package::Refusal>) -> Said<T> {
-    answer.map_err(|refusal| (refusal.number, refusal.line))
+    answer.map_err(|refusal| (refusal.number, refusal.line, refusal.position))
 }
 
 // ---------------------------------------------------------------------------
@@ -204,9 +205,103 @@ fn typed_calls() {
     }
     tally.report();
     seen.demand(20);
-    for number in OF_TABLES.into_iter().chain([12, 13, 14]) {
-        let count = tally.counts[number];
-        assert!(count >= 100, "refusal {number} came only {count} times");
+    tally.demand_refusals(&OF_TABLES);
+    tally.demand_refusals(&[12, 13, 14]);
+}
+
+// ---------------------------------------------------------------------------
+// The report
+// ---------------------------------------------------------------------------
+
+/// A report as plain text, a line for the totals and one for each position.
+fn second_report(file: &[u8]) -> Said<Vec<String>> {
+    let report = second::report(file, usize::MAX);
+    let report = report.map_err(|Stop { refusal, position }| {
+        let Refusal { number, line } = refusal;
+        (number, line, position)
+    })?;
+    let totals = [report.max, report.min].map(|total| (total.decisions, total.sum));
+    let mut end = 0;
+    let positions = second::positions(file);
+    let positions = positions.iter().zip(&report.entries);
+    let positions = positions.map(|(position, entry)| {
+        let start = end;
+        end += PLAY_LINE + position.text.len();
+        (entry.root, position.play, entry.loss, start..end)
+    });
+    Ok(lines(totals, positions))
+}
+
+fn package_report(file: &[u8]) -> Said<Vec<String>> {
+    let report = typed(package::report(file))?;
+    let totals = [report.max, report.min].map(|total| (total.decisions, total.thousandths));
+    let positions = report.positions.into_iter().map(|position| {
+        let loss = match position.loss {
+            package::Loss::Thousandths(loss) => Some(loss),
+            package::Loss::NoDecision => None,
+        };
+        (position.kind, position.play, loss, position.place)
+    });
+    Ok(lines(totals, positions))
+}
+
+/// Where the positions of a refused file stand is right up to the one at fault.
+fn hold_places(file: &[u8], position: usize) {
+    let places: Vec<_> = package::places(file).take(position).collect();
+    assert_eq!(places.len(), position);
+    let mut end = 0;
+    for (place, before) in places[..position - 1].iter().zip(second::positions(file)) {
+        let start = end;
+        end += PLAY_LINE + before.text.len();
+        assert_eq!(*place, start..end);
+    }
+    assert_eq!(places[position - 1].start, end);
+}
+
+#[test]
+fn typed_report() {
+    let mut tally = Tally::new("the package's typed report");
+    for case in 0..15_000 {
+        let mut random = Random::of_case(tally.seed, case);
+        let file = matches::case(&mut random);
+        let expected = second_report(&file);
+        assert_eq!(package_report(&file), expected, "{}", tally.place());
+        if let Err((_, _, position)) = expected {
+            hold_places(&file, position);
+        }
+        tally.add(&[expected.err().map_or(0, |(number, ..)| u64::from(number))]);
+    }
+    tally.report();
+    tally.demand_refusals(&[2, 3, 4, 5, 6, 7, 8, 9, 10, 14, 15, 16]);
+    assert!(tally.counts[0] >= 1_000, "too few reports");
+}
+
+// ---------------------------------------------------------------------------
+// The words of refusals
+// ---------------------------------------------------------------------------
+
+/// A refused report says in which position, and at which line of it.
+#[test]
+fn words_of_refused_reports() {
+    let mut seen = vec![];
+    let mut random = Random::new(1);
+    while seen.len() < 12 {
+        let file = matches::case(&mut random);
+        let Err(refusal) = package::report(&file) else {
+            continue;
+        };
+        let (number, line, position) = (refusal.number, refusal.line, refusal.position);
+        let at = match number {
+            14..=16 => String::new(),
+            _ => format!(" at line {line}"),
+        };
+        let reason = refusal.reason();
+        let shown = format!("refused {number} in position {position}{at}: {reason}");
+        assert_eq!(refusal.to_string(), shown);
+        one_line_each(refusal);
+        if !seen.contains(&number) {
+            seen.push(number);
+        }
     }
 }
 
@@ -231,8 +326,12 @@ fn words_of_refusals() {
         };
         assert!(shown.starts_with(&start), "{shown}");
         assert!(shown.ends_with(refusal.reason()), "{shown}");
-        for words in [refusal.reason(), refusal.mend()] {
-            assert!(words.len() > 10 && !words.contains('\n'), "{words}");
-        }
+        one_line_each(refusal);
+    }
+}
+
+fn one_line_each(refusal: package::Refusal) {
+    for words in [refusal.reason(), refusal.mend()] {
+        assert!(words.len() > 10 && !words.contains('\n'), "{words}");
     }
 }

@@ -1,5 +1,5 @@
-//! Benchmark of reading, the exact worth, judging, the search, turning and
-//! rollouts: both engines on the same texts in the same run.
+//! Benchmark of reading, the exact worth, judging, the search, turning, rollouts
+//! and the report: both engines on the same texts in the same run.
 //!
 //! Run it in release mode: `cargo run --release --bin bench`.
 
@@ -7,9 +7,12 @@ use std::hint::black_box;
 use std::time::{Duration, Instant};
 
 use compare::engine::{self, Lent, Record};
+use compare::hold::{kind_number, reporting};
 use compare::random::{seed, Random};
-use compare::second::{self, Bounds, Judgement, LINE, MOST_NODES};
+use compare::second::{self, root_children, Bounds, Judgement, LINE, MOST_NODES};
 use compare::texts::bench::{bushy, bushy_plain, deep, flat, Shape};
+use compare::texts::knobs::Knobs;
+use compare::texts::matches::{self, Position};
 use margin_engine::raw;
 
 /// Node lines of the tables.
@@ -73,6 +76,8 @@ fn main() {
     );
     check_rollouts(&plain);
     rollouts(&plain);
+
+    reports(seed, [("flat", flat), ("deep", deep), ("bushy", bushy)]);
 }
 
 fn reading(sorts: &[Sort]) {
@@ -222,8 +227,7 @@ fn sorts(seed: u64, shapes: [(&'static str, Shape); 3]) -> Vec<Sort> {
             let texts: Vec<Vec<u8>> = (0..TEXTS).map(|_| knobs.text(&mut random)).collect();
             let table = second::read(&texts[0]).expect("a valid table");
             let span = (table.highest - table.lowest) * table.grains;
-            let below = table.nodes.iter().map(|node| node.parent);
-            let children = below.filter(|parent| *parent == Some(0)).count();
+            let children = root_children(&table);
             sorts.push(Sort {
                 shape,
                 size,
@@ -444,4 +448,139 @@ fn print(cases: &[Case]) {
             );
         }
     }
+}
+
+// ---------------------------------------------------------------------------
+// The report
+// ---------------------------------------------------------------------------
+
+/// Positions of a match, and node lines of each.
+const POSITIONS: usize = 200;
+const MATCH_LINES: usize = 400;
+
+/// A match whose tables have one shape.
+struct Match {
+    shape: &'static str,
+    file: Vec<u8>,
+    /// The best nanoseconds so far: the report, the judging of all positions,
+    /// and the second engine's report.
+    times: [f64; 3],
+}
+
+fn reports(seed: u64, shapes: [(&'static str, Shape); 3]) {
+    println!();
+    println!("The report of a match of {POSITIONS} positions with {MATCH_LINES} node lines each, where the");
+    println!("second child of the root is played, or the only one. Judging is a call of the");
+    println!("proved engine for each of its tables. The lists are allocated outside of the");
+    println!("timing; the second engine allocates its tables and lists in each call.");
+    println!();
+    let mut matches = shapes.map(|(shape, knobs)| Match::new(shape, &knobs(MATCH_LINES), seed));
+    for round in 0..ROUNDS {
+        for of in &mut matches {
+            of.round(round);
+        }
+    }
+    println!(
+        "{:<8}{:>9}{:>12}{:>12}{:>12}{:>12}{:>12}",
+        "", "", "report", "judging", "second", "report/", "proved/"
+    );
+    println!(
+        "{:<8}{:>9}{:>12}{:>12}{:>12}{:>12}{:>12}",
+        "shape", "lines", "ns/match", "ns/match", "ns/match", "judging", "second"
+    );
+    for Match { shape, times, .. } in matches {
+        let [report, judging, second] = times;
+        println!(
+            "{shape:<8}{:>9}{report:>12.0}{judging:>12.0}{second:>12.0}{:>12.3}{:>12.2}",
+            POSITIONS * MATCH_LINES,
+            report / judging,
+            report / second,
+        );
+    }
+}
+
+impl Match {
+    fn new(shape: &'static str, knobs: &Knobs, seed: u64) -> Match {
+        let mut random = Random::new(seed);
+        let positions = (0..POSITIONS).map(|_| {
+            let text = knobs.text(&mut random);
+            let table = second::read(&text).expect("a valid table");
+            assert_eq!(table.nodes.len(), MATCH_LINES);
+            Position::new(root_children(&table).min(2) as i64, text)
+        });
+        let positions: Vec<Position> = positions.collect();
+        let made = Match {
+            shape,
+            file: matches::file(&positions),
+            times: [f64::INFINITY; 3],
+        };
+        made.check();
+        made
+    }
+
+    /// The engines agree on the report.
+    fn check(&self) {
+        let mut kinds = [0; POSITIONS];
+        let mut losses = [0; POSITIONS];
+        let mut numbers = [0; 5];
+        let returned = engine::report(&self.file, &mut kinds, &mut losses, &mut numbers);
+        assert_eq!(returned, 0, "a whole match");
+        let report = second::report(&self.file, POSITIONS).expect("a whole match");
+        assert_eq!(numbers, reporting::numbers(&report));
+        for (i, entry) in report.entries.iter().enumerate() {
+            assert_eq!(kinds[i], kind_number(entry.root));
+            assert_eq!(Some(losses[i]), entry.loss);
+        }
+    }
+
+    /// Times the three, each of them first in its turn: the file is nearer to the
+    /// processor for those that follow.
+    fn round(&mut self, round: usize) {
+        for turn in 0..self.times.len() {
+            let which = (round + turn) % self.times.len();
+            let time = match which {
+                0 => self.report(),
+                1 => self.judging(),
+                _ => self.second(),
+            };
+            self.times[which] = self.times[which].min(time);
+        }
+    }
+
+    fn report(&self) -> f64 {
+        let (mut kinds, mut losses) = ([0; POSITIONS], [0; POSITIONS]);
+        let mut numbers = [0; 5];
+        time(|| {
+            let file = black_box(&self.file[..]);
+            let (kinds, losses) = (black_box(&mut kinds), black_box(&mut losses));
+            let numbers = black_box(&mut numbers);
+            black_box(engine::report(file, kinds, losses, numbers));
+        })
+    }
+
+    fn judging(&self) -> f64 {
+        let positions = second::positions(&self.file);
+        let mut numbers = [0; 3];
+        time(|| {
+            for position in &positions {
+                let text = black_box(position.text);
+                let numbers = black_box(&mut numbers);
+                black_box(raw::judge(text, position.play, numbers));
+            }
+        })
+    }
+
+    fn second(&self) -> f64 {
+        time(|| {
+            let file = black_box(&self.file[..]);
+            let _ = black_box(second::report(file, POSITIONS));
+        })
+    }
+}
+
+/// The nanoseconds that this takes.
+fn time(call: impl FnOnce()) -> f64 {
+    let began = Instant::now();
+    call();
+    began.elapsed().as_nanos() as f64
 }

@@ -1,12 +1,12 @@
 //! Judging: the refusal and its line, "no decision", or the loss and the number
 //! of level children; and that all else in the lent numbers is left as it was.
 
+use super::code;
 use super::numbers::{agree, ROOM};
 use super::seen::{Seen, ROOTS};
 use super::tally::Tally;
-use super::{code, root_children};
 use crate::engine;
-use crate::second::{self, Judgement, Kind, Refusal, Table};
+use crate::second::{self, root_children, Judgement, Kind, Refusal, Table};
 
 /// Compares the two engines on texts and numbers played.
 pub struct Comparison {

@@ -6,6 +6,7 @@ pub mod desk;
 pub mod judging;
 pub mod numbers;
 pub mod reading;
+pub mod reporting;
 pub mod rolling;
 pub mod searching;
 pub mod seen;
@@ -23,15 +24,19 @@ pub fn code<T>(answer: &Result<T, Refusal>) -> u64 {
     }
 }
 
+/// The number that the proved engine writes for a kind.
+pub fn kind_number(kind: Kind) -> u8 {
+    match kind {
+        Kind::Leaf => 0,
+        Kind::Max => 1,
+        Kind::Min => 2,
+        Kind::Chance => 3,
+    }
+}
+
 /// From the lowest end to the highest, in grains.
 pub fn span(table: &Table) -> i64 {
     (table.highest - table.lowest) * table.grains
-}
-
-/// How many children the root has.
-pub fn root_children(table: &Table) -> usize {
-    let nodes = table.nodes.iter();
-    nodes.filter(|node| node.parent == Some(0)).count()
 }
 
 /// How many children of a root M or N are worth as much as it; 0 elsewhere.

@@ -1,10 +1,10 @@
 //! Reading: the refusal and its line, or every number and entry of the table;
 //! and that all else in the lent arrays is left as it was.
 
-use super::code;
 use super::tally::Tally;
+use super::{code, kind_number};
 use crate::engine::{self, Lent};
-use crate::second::{self, Kind, Refusal, Table};
+use crate::second::{self, Refusal, Table};
 use crate::texts::examples::escaped;
 
 /// Compares the two engines on texts.
@@ -54,12 +54,7 @@ pub fn expected(answer: &Result<Table, Refusal>) -> (u64, Lent) {
             table.leaves as i64,
         ]);
         for (i, node) in table.nodes.iter().enumerate() {
-            lent.kind[i] = match node.kind {
-                Kind::Leaf => 0,
-                Kind::Max => 1,
-                Kind::Min => 2,
-                Kind::Chance => 3,
-            };
+            lent.kind[i] = kind_number(node.kind);
             lent.stop[i] = node.stop as u16;
             lent.weight[i] = node.weight.unwrap_or(0) as u8;
             lent.height[i] = node.utility.map_or(0, |u| (u - table.lowest) as u32);

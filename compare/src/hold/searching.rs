@@ -6,10 +6,12 @@
 use super::numbers::{agree, ROOM};
 use super::seen::{Seen, ROOTS};
 use super::tally::Tally;
-use super::{best_plays, code, root_children, span};
+use super::{best_plays, code, span};
 use crate::engine;
 use crate::random::Random;
-use crate::second::{self, Found, Kind, Refusal, Table, GREATEST_MARGIN, MOST_NODES};
+use crate::second::{
+    self, root_children, Found, Kind, Refusal, Table, GREATEST_MARGIN, MOST_NODES,
+};
 use crate::texts::examples::escaped;
 use crate::texts::knobs::{ROLLS, WAYS};
 use crate::texts::put_utility;

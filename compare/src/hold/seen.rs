@@ -58,7 +58,7 @@ impl Seen {
             .iter()
             .map(|(s, n)| format!("{s}: {n}"))
             .collect();
-        say(&format!("among the accepted {}", lines.join("; ")));
+        say(&format!("seen: {}", lines.join("; ")));
         assert!(!self.sorts.is_empty(), "no sort was counted");
         for (sort, count) in self.sorts.iter().filter(|(sort, _)| !spared(sort)) {
             assert!(*count >= least, "{sort} came only {count} times");

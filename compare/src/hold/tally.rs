@@ -8,6 +8,9 @@ use crate::random::seed;
 /// Refusals of a table itself, whatever is asked of it.
 pub const OF_TABLES: [usize; 10] = [1, 2, 3, 4, 5, 6, 7, 8, 9, 10];
 
+/// The last refusal's number.
+const LAST: usize = 16;
+
 /// Counts the texts of a test, and what the engines returned for them: once for
 /// each text, or for each question asked of it.
 pub struct Tally {
@@ -16,7 +19,7 @@ pub struct Tally {
     began: Instant,
     pub cases: u64,
     /// How often each refusal came, by its number; at 0, how often none came.
-    pub counts: [u64; 15],
+    pub counts: [u64; 1 + LAST],
 }
 
 impl Tally {
@@ -26,7 +29,7 @@ impl Tally {
             seed: seed(),
             began: Instant::now(),
             cases: 0,
-            counts: [0; 15],
+            counts: [0; 1 + LAST],
         }
     }
 
@@ -66,6 +69,11 @@ impl Tally {
     pub fn demand(&self, refusals: &[usize]) {
         assert!(self.cases >= 100_000, "only {} texts", self.cases);
         assert!(self.counts[0] >= 10_000, "too few accepted tables");
+        self.demand_refusals(refusals);
+    }
+
+    /// Fails the test where one of these refusals came too seldom.
+    pub fn demand_refusals(&self, refusals: &[usize]) {
         for &number in refusals {
             let count = self.counts[number];
             assert!(count >= 100, "refusal {number} came only {count} times");

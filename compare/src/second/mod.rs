@@ -1,12 +1,13 @@
-//! The second engine: document 01 once more, in plain Rust.
+//! The second engine: document 01 once more, and document 02, in plain Rust.
 //!
 //! It shares nothing with the proved engine, so that a misreading of the
-//! document would have to be made twice to go unseen. One module a subject.
+//! documents would have to be made twice to go unseen. One module a subject.
 
 pub mod desk;
 mod judge;
 mod program;
 mod read;
+mod report;
 mod rollout;
 mod search;
 mod table;
@@ -16,6 +17,9 @@ mod worth;
 pub use judge::{judge, Judgement};
 pub use program::output;
 pub use read::read;
+pub use report::{
+    positions, report, Entry, Position, Report, Stop, Total, MOST_POSITIONS, PLAY_LINE,
+};
 pub use rollout::{rollout, Rolled};
 pub use search::{search, search_watched, Bounds, Found, Scale, Window, GREATEST_MARGIN};
 pub use table::*;

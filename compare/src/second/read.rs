@@ -10,7 +10,10 @@ pub fn read(text: &[u8]) -> Result<Table, Refusal> {
         return Err(refusal(1, 0));
     }
 
-    let header = Header::read(&lines[0], lines.len() - 1).map_err(|number| refusal(number, 0))?;
+    let header = Header::read(&lines[0]).map_err(|number| refusal(number, 0))?;
+    if header.count != lines.len() as i64 - 1 {
+        return Err(refusal(4, 0));
+    }
 
     let mut reader = Reader::new(header);
     for (node, line) in lines[1..].iter().enumerate() {
@@ -25,20 +28,21 @@ fn refusal(number: u8, line: usize) -> Refusal {
     Refusal { number, line }
 }
 
-struct Header {
-    count: usize,
+pub(super) struct Header {
+    /// The count as it is written, which may be wrong.
+    pub count: i64,
     total: i64,
     lowest: i64,
     highest: i64,
 }
 
 impl Header {
-    /// Reads the header of a text with `count` node lines: 2, 3, 4.
-    fn read(line: &[u8; LINE], count: usize) -> Result<Header, u8> {
+    /// Reads a header, whatever its count: 2, 3.
+    pub fn read(line: &[u8; LINE]) -> Result<Header, u8> {
         if line[24] != b'\n' {
             return Err(2);
         }
-        let written = number(&line[0..4])?;
+        let count = number(&line[0..4])?;
         let total = number(&line[4..8])?;
         let lowest = number(&line[8..16])?;
         let highest = number(&line[16..24])?;
@@ -50,9 +54,6 @@ impl Header {
             || lowest > highest
         {
             return Err(3);
-        }
-        if written != count as i64 {
-            return Err(4);
         }
         Ok(Header {
             count,
@@ -82,10 +83,12 @@ struct Reader {
 }
 
 impl Reader {
+    /// Before the first node line, with a header whose count is right.
     fn new(header: Header) -> Reader {
+        let count = header.count as usize;
         Reader {
-            nodes: Vec::with_capacity(header.count),
-            sums: vec![0; header.count],
+            nodes: Vec::with_capacity(count),
+            sums: vec![0; count],
             path: Vec::with_capacity(LONGEST_PATH),
             most_chances: 0,
             leaves: 0,
@@ -175,8 +178,9 @@ impl Reader {
 
     /// Closes the last path, then looks for 8 and 9.
     fn finish(mut self) -> Result<Table, Refusal> {
+        let count = self.nodes.len();
         for step in &self.path {
-            self.nodes[step.node].stop = self.header.count;
+            self.nodes[step.node].stop = count;
         }
 
         let mut nodes = self.nodes.iter().enumerate();

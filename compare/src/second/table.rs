@@ -53,6 +53,12 @@ pub struct Table {
     pub leaves: usize,
 }
 
+/// How many children the root has.
+pub fn root_children(table: &Table) -> usize {
+    let nodes = table.nodes.iter();
+    nodes.filter(|node| node.parent == Some(0)).count()
+}
+
 /// A refused table: which refusal, and at which line. The header is line 0, and
 /// node i is line i + 1.
 #[derive(Clone, Copy, Debug, PartialEq, Eq)]

@@ -3,7 +3,8 @@
 //!
 //! Every random table comes from one generator: `knobs` says what can be set,
 //! `settings` sets it, `grow` makes a draft by it, and `draft` writes that out.
-//! The damages, and the inputs of the margin program, begin with its tables.
+//! The damages, the inputs of the margin program and the matches begin with its
+//! tables.
 
 pub mod bench;
 pub mod broken;
@@ -14,6 +15,7 @@ mod grow;
 pub mod inputs;
 pub mod knobs;
 pub mod largest;
+pub mod matches;
 mod settings;
 pub mod small;
 

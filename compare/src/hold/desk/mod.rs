@@ -8,18 +8,24 @@
 
 mod questions;
 mod refused;
+mod reports;
 mod run;
 
 pub use questions::*;
 pub use refused::*;
+pub use reports::*;
 pub use run::*;
 
 /// The verbs, with what they need before the file.
-pub const VERBS: [&[&str]; 6] = [
+pub const VERBS: [&[&str]; 7] = [
     &["show"],
     &["worth"],
     &["judge", "1"],
     &["search", "0"],
     &["turn"],
     &["rollout"],
+    &["report"],
 ];
+
+/// The verbs that ask about a table; the last asks about a match.
+pub const OF_A_TABLE: &[&[&str]] = VERBS.split_at(6).0;

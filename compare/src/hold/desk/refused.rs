@@ -1,33 +1,46 @@
 //! Refusals, as they are printed.
 
-use std::str::Lines;
-
-use super::Ran;
+use super::{Printed, Ran};
 use crate::second::desk::{self, Form, Stretch};
-use crate::second::Refusal;
+use crate::second::{Refusal, Stop};
 
 /// What is printed of a refusal.
 pub struct Refused {
     pub refusal: Refusal,
-    /// The number of the line between the bars, and the line; none where none is
-    /// shown.
-    pub shown: Option<(usize, String)>,
+    /// Of a match: the position, and the line of the file.
+    pub at: Option<(usize, usize)>,
+    /// The number of the line between the bars, which the play-number line of a
+    /// match does not have, and the line; none where none is shown.
+    pub shown: Option<(Option<usize>, String)>,
     pub marks: Vec<Stretch>,
 }
 
 /// The refusals that have no line of their own.
-const WITHOUT_LINE: [u8; 4] = [1, 12, 13, 14];
+const WITHOUT_LINE: [u8; 6] = [1, 12, 13, 14, 15, 16];
 
 impl Refused {
     pub fn of(text: &[u8], refusal: Refusal) -> Refused {
+        let shown = desk::shown(text, refusal);
         Refused {
             refusal,
-            shown: desk::shown(text, refusal),
+            at: None,
+            shown: shown.map(|(number, line)| (Some(number), line)),
             marks: desk::marks(text, refusal),
         }
     }
 
-    /// Fails the test unless the program printed this; `name` is the table's.
+    pub fn of_match(file: &[u8], stop: Stop) -> Refused {
+        let stopped = desk::stopped(file, stop);
+        Refused {
+            refusal: stop.refusal,
+            at: Some((stop.position, stopped.line)),
+            shown: stopped.shown,
+            marks: stopped.marks,
+        }
+    }
+
+    /// Fails the test unless the program printed this and nothing else; `name` is
+    /// the table's.
     pub fn hold(&self, ran: &Ran, form: Form, name: &str, why: &str) {
         let (printed, other) = match form {
             Form::People => (&ran.err, &ran.out),
@@ -36,19 +49,24 @@ impl Refused {
         let place = format!("{}: {why}: printed\n{printed}", ran.asked);
         assert_eq!(ran.status, Some(1), "exit status, {place}");
         assert_eq!(other, "", "the other output, {place}");
-        assert!(printed.ends_with('\n'), "{place}");
-        let mut lines = printed.lines();
+        let mut printed = Printed(printed);
+        self.hold_next(&mut printed, form, name, &place);
+        assert_eq!(printed.0, "", "too much: {place}");
+    }
+
+    /// Takes this off what the program printed.
+    pub fn hold_next(&self, lines: &mut Printed, form: Form, name: &str, place: &str) {
         let advice = match form {
             Form::People => {
-                self.hold_first_line(lines.next().unwrap_or_default(), name, &place);
+                self.hold_first_line(lines.next().unwrap_or_default(), name, place);
                 if let Some((_, shown)) = &self.shown {
                     assert_eq!(lines.next(), Some(&*format!("  |{shown}|")), "{place}");
-                    self.hold_marks(lines.next().unwrap_or_default(), &place);
+                    self.hold_marks(lines.next().unwrap_or_default(), place);
                 }
                 ["reason  ", "mend    "]
             }
             Form::Tsv => {
-                self.hold_rows(&mut lines, &place);
+                self.hold_rows(lines, name, place);
                 ["reason\t", "mend\t"]
             }
         };
@@ -57,12 +75,14 @@ impl Refused {
             let well = said.is_some_and(|said| !said.is_empty() && said == said.trim());
             assert!(well && !said.unwrap_or_default().contains('\t'), "{place}");
         }
-        assert_eq!(lines.next(), None, "too much: {place}");
     }
 
     fn hold_first_line(&self, printed: &str, name: &str, place: &str) {
         let Refusal { number, line } = self.refusal;
-        let start = format!("desk: {name}: refused {number}");
+        let at = self.at.map_or(String::new(), |(position, line)| {
+            format!("position {position}, line {line} of the file: ")
+        });
+        let start = format!("desk: {name}: {at}refused {number}");
         if WITHOUT_LINE.contains(&number) {
             assert_eq!(printed, start, "{place}");
         } else if line == 0 {
@@ -81,26 +101,33 @@ impl Refused {
         assert_eq!(carets, self::carets(&self.marks), "{place}");
     }
 
-    fn hold_rows(&self, lines: &mut Lines, place: &str) {
+    fn hold_rows(&self, lines: &mut Printed, name: &str, place: &str) {
         let Refusal { number, line } = self.refusal;
-        assert_eq!(
-            lines.next(),
-            Some(&*format!("refused\t{number}")),
-            "{place}"
-        );
-        assert_eq!(lines.next(), Some(&*format!("line\t{line}")), "{place}");
-        if let Some((shown, _)) = &self.shown {
-            assert_eq!(lines.next(), Some(&*format!("shown\t{shown}")), "{place}");
-        }
         let mut rows = Vec::new();
+        if self.at.is_some() {
+            rows.push(format!("file\t{name}"));
+        }
+        rows.push(format!("refused\t{number}"));
+        rows.push(format!("line\t{line}"));
+        if let Some((position, line)) = self.at {
+            rows.push(format!("at\t{position}\t{line}"));
+        }
+        if let Some((shown, _)) = &self.shown {
+            let number = shown.map_or(String::new(), |number| number.to_string());
+            rows.push(format!("shown\t{number}"));
+        }
+        for row in rows {
+            assert_eq!(lines.next(), Some(&*row), "{place}");
+        }
+        let mut columns_marked = Vec::new();
         while let Some((name, columns)) = lines.clone().next().and_then(|l| l.split_once('\t')) {
             if name != "columns" {
                 break;
             }
-            rows.push(stretch_of(columns, '\t'));
+            columns_marked.push(stretch_of(columns, '\t'));
             lines.next();
         }
-        assert_eq!(rows, self.marks, "{place}");
+        assert_eq!(columns_marked, self.marks, "{place}");
     }
 }
 

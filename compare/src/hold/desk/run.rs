@@ -76,6 +76,37 @@ pub struct Ran {
     pub err: String,
 }
 
+/// What is left of an output, taken off line by line; a last line without a newline
+/// is none.
+#[derive(Clone)]
+pub struct Printed<'a>(pub &'a str);
+
+impl<'a> Iterator for Printed<'a> {
+    type Item = &'a str;
+
+    fn next(&mut self) -> Option<&'a str> {
+        let (line, rest) = self.0.split_once('\n')?;
+        self.0 = rest;
+        Some(line)
+    }
+}
+
+impl Printed<'_> {
+    /// Takes this off, or fails the test.
+    pub fn take_text(&mut self, expected: &str, place: &str) {
+        let Some(rest) = self.0.strip_prefix(expected) else {
+            let mut lines = expected.lines().zip(self.0.lines());
+            let differ = lines.find(|(one, other)| one != other);
+            panic!(
+                "{place}\nthe first lines that differ, expected and got: {differ:#?}\n\
+                 expected:\n{expected}\ngot:\n{}",
+                self.0
+            );
+        };
+        self.0 = rest;
+    }
+}
+
 /// The command. Its environment has nothing against colours, so that none may be
 /// printed for the sole reason that no output is a terminal.
 pub fn command<A: AsRef<OsStr>>(arguments: &[A]) -> Command {

@@ -1,6 +1,8 @@
-//! Points to three places, and columns of entries.
+//! Points to three places or four, and columns of entries.
 
-use crate::second::Table;
+use std::fmt::Display;
+
+use crate::second::{Table, Total};
 
 /// These grains in points to three places: the nearest thousandth, halves away
 /// from zero, and no minus before what rounds to zero.
@@ -15,6 +17,23 @@ pub fn points(table: &Table, grains: i64) -> String {
     };
     let (whole, places) = (thousandths / 1_000, thousandths % 1_000);
     format!("{minus}{whole}.{places:03}")
+}
+
+/// These thousandths, which are not below zero, in points.
+pub fn listed(thousandths: i64) -> String {
+    format!("{}.{:03}", thousandths / 1_000, thousandths % 1_000)
+}
+
+/// What a decision loses on average, in points to four places: the nearest, halves
+/// up. None where there are no decisions.
+pub fn average(total: Total) -> Option<String> {
+    if total.decisions == 0 {
+        return None;
+    }
+    let exact = 10 * total.sum;
+    let (whole, rest) = (exact / total.decisions, exact % total.decisions);
+    let nearest = whole + i64::from(2 * rest >= total.decisions);
+    Some(format!("{}.{:04}", nearest / 10_000, nearest % 10_000))
 }
 
 /// A column; its entries stand in it as they are justified.
@@ -35,7 +54,7 @@ impl Column {
     }
 
     /// Right-justified, and so is its heading.
-    pub fn of_numbers(heading: &str, numbers: impl Iterator<Item = usize>) -> Column {
+    pub fn of_numbers(heading: &str, numbers: impl Iterator<Item = impl Display>) -> Column {
         let entries: Vec<String> = numbers.map(|number| number.to_string()).collect();
         let width = width(heading, &entries);
         let justified = |entry: &str| format!("{entry:>width$}");

@@ -1,18 +1,23 @@
-//! The desk's command: what each verb prints of an accepted table, and what is
-//! shown of a refused one, written from docs/DESK.md and from nothing of the
-//! command itself.
+//! The desk's command: what each verb prints of an accepted table or match, and
+//! what is shown of a refused one, written from docs/DESK.md and from nothing of
+//! the command itself.
 //!
-//! The verbs here gather what there is to say, and `people` and `tsv` say it in
-//! their form; `columns` sets amounts and columns, `tree` draws the tree.
-//! `refused` has the line and the columns of a refusal.
+//! The verbs here and in `matches` gather what there is to say, and `people` and
+//! `tsv` say it in their form; `columns` sets amounts and columns, `tree` draws the
+//! tree. `refused` has the line and the columns of a refusal, `stopped` those of a
+//! refused match.
 
 mod columns;
+mod matches;
 mod people;
 mod refused;
+mod stopped;
 mod tree;
 mod tsv;
 
+pub use matches::{all, no_totals, printed_name, report, Reported};
 pub use refused::{marks, shown, Stretch};
+pub use stopped::{stopped, Stopped};
 
 use crate::second::{self, worths};
 use crate::second::{Bounds, Found, Judgement, Kind, Refusal, Rolled, Table};

@@ -2,9 +2,10 @@
 
 use std::fmt::Display;
 
-use super::columns::{points, side_by_side, Column};
+use super::columns::{average, listed, points, side_by_side, Column};
+use super::matches::{Reported, Sums};
 use super::{letter, plays, tree, Play, RolledOut, Searched};
-use crate::second::{worths, Kind, Table};
+use crate::second::{worths, Kind, Table, Total};
 
 /// The columns of a name, the blanks after it included.
 const NAME: usize = 8;
@@ -107,6 +108,67 @@ fn standing(searched: &Searched, play: &Play) -> String {
         "past the margin"
     });
     words.join(", ")
+}
+
+// Matches
+
+/// The report of one match, which is named where there are several.
+pub fn report(reported: &Reported, several: bool) -> String {
+    let mut answer = String::new();
+    if several {
+        answer += &line("file", &reported.name);
+    }
+    if !reported.plays.is_empty() {
+        answer += &positions(reported);
+        answer += "\n";
+    }
+    for (side, total) in Sums::of(reported).sides {
+        answer += &line(side, lost(total));
+    }
+    answer
+}
+
+/// The totals over all files.
+pub fn all(files: usize, sums: &Sums) -> String {
+    let positions = counted(sums.positions, "position");
+    let sides = sums
+        .sides
+        .map(|(side, total)| format!("; {side} {}", lost(total)));
+    line(
+        "all",
+        format!("{files} files, {positions}{}", sides.concat()),
+    )
+}
+
+fn positions(reported: &Reported) -> String {
+    let entries = &reported.report.entries;
+    let losses = entries.iter().map(|entry| match entry.loss {
+        Some(loss) => listed(loss),
+        None => "no decision".to_string(),
+    });
+    let sides = entries.iter().map(|entry| letter(entry.root).to_string());
+    side_by_side(&[
+        Column::of_numbers("position", 1..=entries.len()),
+        Column::of_words("side", sides.collect()),
+        Column::of_numbers("play", reported.plays.iter()),
+        Column::of_numbers("loss", losses),
+    ])
+}
+
+/// What a side lost in all, and on average.
+fn lost(total: Total) -> String {
+    let Some(average) = average(total) else {
+        return "no decisions".to_string();
+    };
+    let decisions = counted(total.decisions, "decision");
+    let lost = listed(total.sum);
+    format!("{decisions}, {lost} points lost, {average} each")
+}
+
+/// A number of these, in the plural unless it is 1.
+fn counted(number: i64, noun: &str) -> String {
+    let plural = if number == 1 { "" } else { "s" };
+    format!("{number} {noun}{plural}")
 }
 
 // The lines of several answers

@@ -26,11 +26,16 @@ const NEWLINE: Stretch = (25, 25);
 pub fn shown(text: &[u8], refusal: Refusal) -> Option<(usize, String)> {
     let (number, line) = line_at_fault(text, refusal)?;
     let columns = line.strip_suffix(b"\n").unwrap_or(line);
+    Some((number, printed(columns)))
+}
+
+/// These columns as they are shown.
+pub fn printed(columns: &[u8]) -> String {
     let printed = |&byte: &u8| match byte {
         b' '..=b'~' => char::from(byte),
         _ => '?',
     };
-    Some((number, columns.iter().take(SHOWN).map(printed).collect()))
+    columns.iter().take(SHOWN).map(printed).collect()
 }
 
 /// The columns marked below that line, field by field.
@@ -141,7 +146,7 @@ fn path_too_long(text: &[u8], line: &[u8]) -> Vec<Stretch> {
 }
 
 /// The stretches that are not well.
-fn wrong(well: impl IntoIterator<Item = (Stretch, bool)>) -> Vec<Stretch> {
+pub fn wrong(well: impl IntoIterator<Item = (Stretch, bool)>) -> Vec<Stretch> {
     let stretches = well.into_iter();
     let wrong = stretches.filter(|(_, well)| !well);
     wrong.map(|(stretch, _)| stretch).collect()

@@ -2,9 +2,10 @@
 
 use std::fmt::Display;
 
-use super::columns::points;
+use super::columns::{average, listed, points};
+use super::matches::{Reported, Sums};
 use super::{letter, plays, Play, RolledOut, Searched};
-use crate::second::{worths, Kind, Table};
+use crate::second::{worths, Kind, Table, Total};
 
 pub fn worth(table: &Table, worth: i64) -> String {
     row("worth", &[&amount(table, worth)]) + &grain(table)
@@ -86,6 +87,37 @@ fn child(table: &Table, searched: &Searched, play: &Play) -> String {
     )
 }
 
+// Matches
+
+pub fn report(reported: &Reported) -> String {
+    let mut answer = row("file", &[&reported.name]);
+    let positions = reported.report.entries.iter().zip(&reported.plays);
+    for (number, (entry, play)) in (1..).zip(positions) {
+        let (kind, loss) = (letter(entry.root), field(entry.loss));
+        let points = field(entry.loss.map(listed));
+        answer += &row("position", &[&number, &kind, play, &loss, &points]);
+    }
+    let sums = Sums::of(reported);
+    answer += &row("positions", &[&sums.positions]);
+    for (side, total) in sums.sides {
+        answer += &row("total", &[&side, &lost(total)]);
+    }
+    answer
+}
+
+/// The totals over all files.
+pub fn all(files: usize, sums: &Sums) -> String {
+    let [max, min] = sums.sides.map(|(_, total)| lost(total));
+    row("all", &[&files, &sums.positions, &max, &min])
+}
+
+/// The four fields of a side's total.
+fn lost(total: Total) -> String {
+    let Total { decisions, sum } = total;
+    let (points, average) = (listed(sum), field(average(total)));
+    format!("{decisions}\t{sum}\t{points}\t{average}")
+}
+
 // The lines of several answers
 
 /// The margin, the bounds and the play.
@@ -140,7 +172,7 @@ fn amount(table: &Table, grains: i64) -> String {
     format!("{grains}\t{}", points(table, grains))
 }
 
-/// A field, empty where the node does not have it.
+/// A field, empty where there is no such thing.
 fn field(value: Option<impl Display>) -> String {
     value.map_or(String::new(), |value| value.to_string())
 }

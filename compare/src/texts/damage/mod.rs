@@ -9,7 +9,7 @@ pub use bytes::carriage_returns;
 use super::draft::Draft;
 use super::knobs::Knobs;
 use crate::random::Random;
-use crate::second::{LONGEST_PATH, MOST_CHANCES};
+use crate::second::{LINE, LONGEST_PATH, MOST_CHANCES};
 
 /// A damaged text, with one damage or several; several stand in half the cases
 /// on the same line.
@@ -46,6 +46,12 @@ pub fn damaged(random: &mut Random) -> Vec<u8> {
         random.pick(bytes::ON_TEXT)(&mut text, at, random);
     }
     text
+}
+
+/// Damages a text at any of its lines.
+pub fn damage_text(text: &mut Vec<u8>, random: &mut Random) {
+    let at = random.below(1 + text.len() / LINE);
+    random.pick(bytes::ON_TEXT)(text, at, random);
 }
 
 /// The first of the deepest nodes, and the first of those with the most chance

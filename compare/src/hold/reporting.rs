@@ -1,0 +1,299 @@
+//! The report of a match: the refusal with its line and position, or each entry
+//! and the totals; and that all else in what was lent is left as it was.
+
+use super::kind_number;
+use super::numbers::{agree, ROOM};
+use super::seen::{Seen, ROOTS};
+use super::tally::Tally;
+use crate::engine;
+use crate::second::{
+    self, Entry, Refusal, Report, Stop, LINE, MOST_NODES, MOST_POSITIONS, PLAY_LINE,
+};
+use crate::texts::examples::escaped;
+
+/// No call writes these, so an entry that was written shows.
+pub const NO_KIND: u8 = 0xa5;
+pub const NO_LOSS: i64 = -0x5a5a_5a5a_5a5a_5a5a;
+
+/// Entries kept as a guard after a list lent.
+const GUARD: usize = 2;
+
+/// The longest list that `Comparison::hold` lends.
+const LONG: usize = MOST_POSITIONS + 2;
+
+/// How many entries of each sort are lent.
+#[derive(Clone, Copy, Debug)]
+pub struct Lent {
+    pub kinds: usize,
+    pub losses: usize,
+    pub numbers: usize,
+}
+
+impl Lent {
+    /// Two lists of one length, and more numbers than are written.
+    pub fn lists(length: usize) -> Lent {
+        Lent {
+            kinds: length,
+            losses: length,
+            numbers: ROOM,
+        }
+    }
+
+    /// The entries of the shorter list.
+    pub fn room(&self) -> usize {
+        self.kinds.min(self.losses)
+    }
+}
+
+/// What the proved engine must return.
+pub fn code(answer: &Result<Report, Stop>) -> u64 {
+    match answer {
+        Ok(_) => 0,
+        Err(stop) => {
+            let refusal: Result<(), _> = Err(stop.refusal);
+            1_000_000 * stop.position as u64 + super::code(&refusal)
+        }
+    }
+}
+
+/// The numbers of a report, as the proved engine writes them.
+pub fn numbers(report: &Report) -> [i64; 5] {
+    [
+        report.entries.len() as i64,
+        report.max.decisions,
+        report.max.sum,
+        report.min.decisions,
+        report.min.sum,
+    ]
+}
+
+/// Holds the proved engine to this, where so much is lent.
+pub fn hold_to(tally: &Tally, file: &[u8], lent: Lent, expected: &Result<Report, Stop>) {
+    let (entries, numbers) = match expected {
+        Ok(report) => (&report.entries[..], &numbers(report)[..]),
+        Err(_) => (&[][..], &[][..]),
+    };
+    let mut kinds = vec![NO_KIND; lent.kinds + GUARD];
+    let mut losses = vec![NO_LOSS; lent.losses + GUARD];
+    let asked = format_args!("the report with {lent:?}");
+    let returned = (code(expected), numbers);
+    agree(tally, file, asked, lent.numbers, returned, |numbers| {
+        let (kinds, losses) = (&mut kinds[..lent.kinds], &mut losses[..lent.losses]);
+        engine::report(file, kinds, losses, numbers)
+    });
+
+    let mut expected_kinds = vec![NO_KIND; kinds.len()];
+    let mut expected_losses = vec![NO_LOSS; losses.len()];
+    for (i, entry) in entries.iter().enumerate() {
+        expected_kinds[i] = kind_number(entry.root);
+        expected_losses[i] = entry.loss.unwrap_or(-1);
+    }
+    if kinds != expected_kinds || losses != expected_losses {
+        panic!(
+            "{}: the engines differ on {asked}\n\
+             {NO_KIND} and {NO_LOSS} stand for each entry left alone\n\
+             kinds: expected {expected_kinds:?}\n\
+             got {kinds:?}\n\
+             losses: expected {expected_losses:?}\n\
+             got {losses:?}\n\
+             file of {} bytes:\n{}",
+            tally.place(),
+            file.len(),
+            escaped(file),
+        );
+    }
+}
+
+/// Compares the two engines on files.
+pub struct Comparison {
+    pub tally: Tally,
+    /// What the accepted files and the lists lent for them, and what the refused
+    /// files were like.
+    pub accepted: Seen,
+    pub refused: Seen,
+    /// Files compared so far; it sets the lengths lent next.
+    turn: usize,
+}
+
+impl Comparison {
+    pub fn new(name: &'static str) -> Comparison {
+        Comparison {
+            tally: Tally::new(name),
+            accepted: Seen::default(),
+            refused: Seen::default(),
+            turn: 0,
+        }
+    }
+
+    /// Gives a file to both engines with lists of several lengths. Fails the test
+    /// unless they agree.
+    pub fn hold(&mut self, file: &[u8]) -> Result<Report, Stop> {
+        let answer = second::report(file, usize::MAX);
+        let positions = answer.as_ref().ok().map(|report| report.entries.len());
+        let mut codes = Vec::new();
+        for lent in self.lengths(positions) {
+            let expected = second::report(file, lent.room());
+            hold_to(&self.tally, file, lent, &expected);
+            codes.push(code(&expected));
+            match positions {
+                Some(positions) => count_lists(&mut self.accepted, lent, positions),
+                None => self.refused.count("a list of no entries", lent.room() == 0),
+            }
+        }
+        self.tally.add(&codes);
+        match &answer {
+            Ok(report) => count_report(&mut self.accepted, report),
+            Err(stop) => count_stop(&mut self.refused, file, *stop),
+        }
+        answer
+    }
+
+    /// The lengths to lend, by turns: lists exact, longer, or too short, one of
+    /// the two or both, and room for 0 to 6 numbers.
+    fn lengths(&mut self, positions: Option<usize>) -> Vec<Lent> {
+        self.turn += 1;
+        let Some(exact) = positions else {
+            return vec![self.lent([(0, 0), (LONG, LONG), (1, LONG), (LONG, 0)][self.turn % 4])];
+        };
+        let fewer = exact.saturating_sub(1);
+        let longer = exact + 1 + self.turn % 30;
+        let pairs = match self.turn % 8 {
+            0 => [(exact, exact), (fewer, exact)],
+            1 => [(exact, exact), (exact, fewer)],
+            2 => [(longer, longer), (fewer, fewer)],
+            3 => [(exact, longer), (exact / 2, exact)],
+            4 => [(longer, exact), (LONG, 0)],
+            5 => [(MOST_POSITIONS, MOST_POSITIONS), (0, LONG)],
+            6 => [(LONG, LONG), (fewer, longer)],
+            _ => [(exact, LONG), (LONG, exact)],
+        };
+        pairs.map(|pair| self.lent(pair)).to_vec()
+    }
+
+    /// Lists of these lengths, and the next room for numbers.
+    fn lent(&self, (kinds, losses): (usize, usize)) -> Lent {
+        let numbers = (self.turn / 8 + kinds) % (ROOM + 1);
+        Lent {
+            kinds,
+            losses,
+            numbers,
+        }
+    }
+}
+
+fn count_lists(seen: &mut Seen, lent: Lent, positions: usize) {
+    let lists = [("kinds", lent.kinds), ("losses", lent.losses)];
+    for (name, length) in lists {
+        let mut count = |sort, is_one| seen.count(&format!("{name} {sort}"), is_one);
+        count("exact", length == positions);
+        count("longer", length > positions);
+        count("too short by one", length + 1 == positions);
+    }
+    let (kinds, losses) = (lent.kinds < positions, lent.losses < positions);
+    seen.count("kinds alone too short", kinds && !losses);
+    seen.count("losses alone too short", losses && !kinds);
+    seen.count("both too short", kinds && losses);
+    if !kinds && !losses {
+        for room in 0..=ROOM {
+            seen.count(&format!("room for {room} numbers"), lent.numbers == room);
+        }
+    }
+}
+
+fn count_report(seen: &mut Seen, report: &Report) {
+    let (entries, count) = (&report.entries, report.entries.len());
+    seen.count("no position", count == 0);
+    seen.count("one position", count == 1);
+    seen.count("several positions", (2..=12).contains(&count));
+    seen.count("many positions", (13..MOST_POSITIONS - 1).contains(&count));
+    seen.count("499 positions", count == MOST_POSITIONS - 1);
+    seen.count("500 positions", count == MOST_POSITIONS);
+
+    let mut add = |sort: &str, is_one: &dyn Fn(&Entry) -> bool| {
+        let found = entries.iter().filter(|entry| is_one(entry)).count();
+        seen.add(sort, found as u64);
+    };
+    for kind in ROOTS {
+        add(&format!("root {kind:?}"), &|entry| entry.root == kind);
+    }
+    add("a loss of 0 listed", &|entry| entry.loss == Some(0));
+    add("less than a point lost", &|entry| {
+        entry.loss.is_some_and(|loss| 0 < loss && loss < 1_000)
+    });
+    add("a point or more lost", &|entry| entry.loss >= Some(1_000));
+
+    let (max, min) = (report.max, report.min);
+    let (at_max, at_min) = (max.decisions > 0, min.decisions > 0);
+    seen.count("decisions at M alone", at_max && !at_min);
+    seen.count("decisions at N alone", at_min && !at_max);
+    let both = at_max && at_min;
+    let numbers = both && max.decisions != min.decisions;
+    seen.count("other numbers at M and N", numbers);
+    seen.count("other sums at M and N", both && max.sum != min.sum);
+}
+
+/// Counts where a report stopped, and why.
+fn count_stop(seen: &mut Seen, file: &[u8], stop: Stop) {
+    let position = stop.position;
+    seen.count("at the first position", position == 1);
+    seen.count("at the second", position == 2);
+    seen.count("at a later one", (3..MOST_POSITIONS).contains(&position));
+
+    let positions = second::positions(file);
+    let before = positions[..position - 1].iter();
+    let start: usize = before.map(|before| PLAY_LINE + before.text.len()).sum();
+    let rest = &file[start..];
+    count_header(seen, rest, stop.refusal);
+    count_fifteen(seen, rest, stop.refusal.number == 15);
+    count_sixteen(seen, rest, stop.refusal.number == 16);
+}
+
+/// Counts refusals of a header, or of the lines after it.
+fn count_header(seen: &mut Seen, rest: &[u8], refusal: Refusal) {
+    let Refusal { number, line } = refusal;
+    seen.count("at a node line", line > 0);
+    for of in [2, 3, 4] {
+        seen.count(&format!("{of} at a header"), (number, line) == (of, 0));
+    }
+    let count = count(rest).filter(|_| (number, line) == (4, 0));
+    seen.count("count 0", count == Some(0));
+    seen.count("count below 0", count.is_some_and(|count| count < 0));
+    let most = MOST_NODES as i64;
+    seen.count("count 1,025", count == Some(most + 1));
+    seen.count("a greater count", count > Some(most + 1));
+}
+
+fn count_fifteen(seen: &mut Seen, rest: &[u8], refused: bool) {
+    seen.count("15 for one byte", refused && rest.len() == 1);
+    seen.count("15 for more", refused && rest.len() > 1);
+}
+
+fn count_sixteen(seen: &mut Seen, rest: &[u8], refused: bool) {
+    let length = rest.len();
+    let (line, _) = rest.split_at(length.min(PLAY_LINE));
+    let well = refused && second::report(&[line, LONE_LEAF].concat(), 1).is_ok();
+    let short = length < PLAY_LINE + LINE;
+    seen.count("16, fewer than 5 bytes", refused && length < PLAY_LINE);
+    seen.count("16, a good line and fewer than 30 bytes", well && short);
+    let all_but_one = length + 1 == PLAY_LINE + LINE;
+    seen.count("16, a good line and 29 bytes", well && all_but_one);
+    seen.count("16, a bad line", refused && !well && !short);
+
+    let missing = well && !short;
+    seen.count("16, node lines missing", missing);
+    let whole = missing && (length - PLAY_LINE).is_multiple_of(LINE);
+    seen.count("16, whole lines missing", whole);
+    let count = count(rest).filter(|_| missing);
+    let needed = count.map(|count| PLAY_LINE + LINE * (1 + count as usize));
+    seen.count("16, one byte missing", needed == Some(length + 1));
+}
+
+/// A table that takes every play number.
+const LONE_LEAF: &[u8] = b"   1   1       0       0\n   0 L                 0\n";
+
+/// The count in the header of the position that begins here, if it is a number.
+fn count(rest: &[u8]) -> Option<i64> {
+    let columns = rest.get(PLAY_LINE..PLAY_LINE + 4)?;
+    let columns = std::str::from_utf8(columns).ok()?;
+    columns.trim_start().parse().ok()
+}

@@ -1,0 +1,109 @@
+//! Matches: what there is to say of their reports.
+
+use super::{people, tsv, Form};
+use crate::second::{self, Report, Stop, Total};
+
+/// A match that is reported.
+pub struct Reported {
+    /// As it is printed.
+    pub(super) name: String,
+    /// The play number of each position.
+    pub(super) plays: Vec<i64>,
+    pub(super) report: Report,
+}
+
+/// The number of positions, and what each side lost.
+pub(super) struct Sums {
+    pub positions: i64,
+    pub sides: [(&'static str, Total); 2],
+}
+
+impl Reported {
+    /// The name is the one that is printed.
+    pub fn of(name: &str, file: &[u8]) -> Result<Reported, Stop> {
+        let report = second::report(file, usize::MAX)?;
+        let positions = second::positions(file);
+        Ok(Reported {
+            name: name.to_string(),
+            plays: positions.iter().map(|position| position.play).collect(),
+            report,
+        })
+    }
+
+    pub fn report(&self) -> &Report {
+        &self.report
+    }
+}
+
+/// What is printed of one match; `several` where it is not the only one named.
+pub fn report(reported: &Reported, several: bool, form: Form) -> String {
+    match form {
+        Form::People => people::report(reported, several),
+        Form::Tsv => tsv::report(reported),
+    }
+}
+
+/// The line of totals over several matches.
+pub fn all(reported: &[&Reported], form: Form) -> String {
+    let sums = reported.iter().map(|reported| Sums::of(reported));
+    let sums = sums.fold(Sums::default(), Sums::and);
+    match form {
+        Form::People => people::all(reported.len(), &sums),
+        Form::Tsv => tsv::all(reported.len(), &sums),
+    }
+}
+
+/// The line on standard error where some of the files lack.
+pub fn no_totals(files: usize, refused: usize, unread: usize) -> String {
+    let mut reasons = Vec::new();
+    if refused > 0 {
+        let were = if refused == 1 { "was" } else { "were" };
+        reasons.push(format!("{refused} {were} refused"));
+    }
+    if unread > 0 {
+        reasons.push(format!("{unread} could not be read"));
+    }
+    let reasons = reasons.join(", ");
+    format!("desk: no totals over all {files} files: {reasons}\n")
+}
+
+/// A file's name as it is printed: a control character as an escape.
+pub fn printed_name(name: &str) -> String {
+    let printed = |c: char| match c {
+        '\t' => "\\t".to_string(),
+        '\n' => "\\n".to_string(),
+        '\r' => "\\r".to_string(),
+        c if c.is_control() => format!("\\u{{{:x}}}", u32::from(c)),
+        c => c.to_string(),
+    };
+    name.chars().map(printed).collect()
+}
+
+impl Sums {
+    pub fn of(reported: &Reported) -> Sums {
+        let Report { entries, max, min } = &reported.report;
+        Sums {
+            positions: entries.len() as i64,
+            sides: [("M", *max), ("N", *min)],
+        }
+    }
+
+    fn and(mut self, other: Sums) -> Sums {
+        self.positions += other.positions;
+        for ((_, total), (_, more)) in self.sides.iter_mut().zip(other.sides) {
+            total.decisions += more.decisions;
+            total.sum += more.sum;
+        }
+        self
+    }
+}
+
+impl Default for Sums {
+    /// Of no match.
+    fn default() -> Sums {
+        Sums {
+            positions: 0,
+            sides: [("M", Total::default()), ("N", Total::default())],
+        }
+    }
+}
