@@ -17,7 +17,7 @@ use Rattle.report.proofs.Files.{judged-alone, two-files, position-more, stops-a
 use Rattle.report_call.specs.declared.Reported.the-variants.{Done, Refused}
 use Rattle.report_call.specs.Call.{fit, reportAnswer, filled, reportCall, reportKinds, reportLosses}
 use Rattle.report_call.proofs.Answered.{report-refused}
-use Rattle.demands.specs.Matches.{NeverOne, Entries, EntriesAlone, ListsSum, TwoFiles, RefusedStops, OwnBytes, TooManyStops}
+use Rattle.demands.specs.Matches.{NeverOne, EntriesAlone, ListsSum, TwoFiles, RefusedStops, OwnBytes, TooManyStops}
 
 pub never-one : NeverOne
 never-one file kinds losses r k e z = omega (arith, z, report-refused file kinds losses r k e .1 .0)

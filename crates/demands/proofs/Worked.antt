@@ -9,7 +9,7 @@ use Rattle.line.specs.Refusal.{unless, unlessAt}
 use Rattle.line.specs.declared.Refusal.the-variants.{NoRoom, NoChild, NoPosition}
 use Rattle.line.specs.Line.{climb}
 use Rattle.table.specs.Tree.{run, after, forest, weigh, nodesWhere}
-use Rattle.table.specs.Examples.{max-root, chance, table-a, table-b, turned-b, lone-leaf}
+use Rattle.table.specs.Examples.{max-root, chance, table-a, table-b, turned-b, lone-leaf, toss}
 use Rattle.table.specs.Table.{nodeLines, complete, readText, greatest}
 use Rattle.numbers.specs.Integers.{maxZ, minZ, floorZ}
 use Rattle.worth.specs.Worth.{largest, smallest, weighted, total, value, shares}
@@ -39,28 +39,9 @@ thirds3 = 32 ∷ 32 ∷ 32 ∷ 51 ∷ 32 ∷ 76 ∷ 32 ∷ 32 ∷ 32 ∷ 32 ∷ 
 thirds4 : List ℕ
 thirds4 = 32 ∷ 32 ∷ 32 ∷ 52 ∷ 32 ∷ 76 ∷ 32 ∷ 32 ∷ 32 ∷ 32 ∷ 50 ∷ 32 ∷ 32 ∷ 32 ∷ 32 ∷ 50 ∷ 32 ∷ 32 ∷ 32 ∷ 32 ∷ 32 ∷ 32 ∷ 32 ∷ 48 ∷ 10 ∷ []
 
--- "   3   4       0       8"
-toss-head : List ℕ
-toss-head = 32 ∷ 32 ∷ 32 ∷ 51 ∷ 32 ∷ 32 ∷ 32 ∷ 52 ∷ 32 ∷ 32 ∷ 32 ∷ 32 ∷ 32 ∷ 32 ∷ 32 ∷ 48 ∷ 32 ∷ 32 ∷ 32 ∷ 32 ∷ 32 ∷ 32 ∷ 32 ∷ 56 ∷ 10 ∷ []
-
--- "   0 C                  "
-toss-root : List ℕ
-toss-root = 32 ∷ 32 ∷ 32 ∷ 48 ∷ 32 ∷ 67 ∷ 32 ∷ 32 ∷ 32 ∷ 32 ∷ 32 ∷ 32 ∷ 32 ∷ 32 ∷ 32 ∷ 32 ∷ 32 ∷ 32 ∷ 32 ∷ 32 ∷ 32 ∷ 32 ∷ 32 ∷ 32 ∷ 10 ∷ []
-
--- "   1 L    0    3       2"
-toss1 : List ℕ
-toss1 = 32 ∷ 32 ∷ 32 ∷ 49 ∷ 32 ∷ 76 ∷ 32 ∷ 32 ∷ 32 ∷ 32 ∷ 48 ∷ 32 ∷ 32 ∷ 32 ∷ 32 ∷ 51 ∷ 32 ∷ 32 ∷ 32 ∷ 32 ∷ 32 ∷ 32 ∷ 32 ∷ 50 ∷ 10 ∷ []
-
--- "   2 L    0    1       8"
-toss2 : List ℕ
-toss2 = 32 ∷ 32 ∷ 32 ∷ 50 ∷ 32 ∷ 76 ∷ 32 ∷ 32 ∷ 32 ∷ 32 ∷ 48 ∷ 32 ∷ 32 ∷ 32 ∷ 32 ∷ 49 ∷ 32 ∷ 32 ∷ 32 ∷ 32 ∷ 32 ∷ 32 ∷ 32 ∷ 56 ∷ 10 ∷ []
-
 -- a third of a point is a grain, and play 2 loses two of them
 thirds : List ℕ
 thirds = thirds-head ++ (max-root ++ (thirds1 ++ (chance ++ (thirds3 ++ thirds4))))
-
-toss : List ℕ
-toss = toss-head ++ (toss-root ++ (toss1 ++ toss2))
 
 -- play 2 of tables A, B, B turned and the one of thirds, and any number of a C and of a lone leaf
 match : List ℕ
@@ -91,5 +72,5 @@ known : (answered [] 0 ∷ answered match 6 ∷ answered match 5 ∷ answered (p
     ∷ refusal (Refused NoChild 2)
     ∷ refusal (Refused NoPosition 2)
     ∷ []
-unfolding refusal position thirds-head thirds1 thirds3 thirds4 toss-head toss-root toss1 toss2 thirds toss match answered maxZ minZ floorZ largest smallest weighted total value shares levels strip digits whole signed unless unlessAt climb run after forest weigh nodesWhere nodeLines complete readText greatest positionOf matchFrom totalOf
+unfolding refusal position thirds-head thirds1 thirds3 thirds4 thirds match answered maxZ minZ floorZ largest smallest weighted total value shares levels strip digits whole signed unless unlessAt climb run after forest weigh nodesWhere nodeLines complete readText greatest positionOf matchFrom totalOf
 known = refl

@@ -9,7 +9,7 @@ use Rattle.line.specs.declared.Refusal.the-variants.{NoChild}
 use Rattle.line.specs.Refusal.{Verdict, refused, fine, unless, unlessAt, next}
 use Rattle.line.specs.Line.{climb}
 use Rattle.table.specs.Tree.{run, after, forest, weigh, nodesWhere}
-use Rattle.table.specs.Examples.{max-root, b-head, chance, b3, b4, table-b, turned-b, lone-leaf}
+use Rattle.table.specs.Examples.{max-root, b-head, chance, b3, b4, table-b, turned-b, lone-leaf, toss}
 use Rattle.table.specs.Table.{Table, nodeLines, complete, readText, greatest}
 use Rattle.worth.specs.Worth.{largest, smallest, weighted, total, value, shares}
 use Rattle.judge.specs.Judge.{levels, Judgement, noDecision, judged, judge}
@@ -33,22 +33,6 @@ point1 = 32 ∷ 32 ∷ 32 ∷ 49 ∷ 32 ∷ 76 ∷ 32 ∷ 32 ∷ 32 ∷ 32 ∷ 4
 -- "   2 L    0            2"
 point2 : List ℕ
 point2 = 32 ∷ 32 ∷ 32 ∷ 50 ∷ 32 ∷ 76 ∷ 32 ∷ 32 ∷ 32 ∷ 32 ∷ 48 ∷ 32 ∷ 32 ∷ 32 ∷ 32 ∷ 32 ∷ 32 ∷ 32 ∷ 32 ∷ 32 ∷ 32 ∷ 32 ∷ 32 ∷ 50 ∷ 10 ∷ []
-
--- "   3   4       0       8"
-toss-head : List ℕ
-toss-head = 32 ∷ 32 ∷ 32 ∷ 51 ∷ 32 ∷ 32 ∷ 32 ∷ 52 ∷ 32 ∷ 32 ∷ 32 ∷ 32 ∷ 32 ∷ 32 ∷ 32 ∷ 48 ∷ 32 ∷ 32 ∷ 32 ∷ 32 ∷ 32 ∷ 32 ∷ 32 ∷ 56 ∷ 10 ∷ []
-
--- "   0 C                  "
-toss-root : List ℕ
-toss-root = 32 ∷ 32 ∷ 32 ∷ 48 ∷ 32 ∷ 67 ∷ 32 ∷ 32 ∷ 32 ∷ 32 ∷ 32 ∷ 32 ∷ 32 ∷ 32 ∷ 32 ∷ 32 ∷ 32 ∷ 32 ∷ 32 ∷ 32 ∷ 32 ∷ 32 ∷ 32 ∷ 32 ∷ 10 ∷ []
-
--- "   1 L    0    3       2"
-toss1 : List ℕ
-toss1 = 32 ∷ 32 ∷ 32 ∷ 49 ∷ 32 ∷ 76 ∷ 32 ∷ 32 ∷ 32 ∷ 32 ∷ 48 ∷ 32 ∷ 32 ∷ 32 ∷ 32 ∷ 51 ∷ 32 ∷ 32 ∷ 32 ∷ 32 ∷ 32 ∷ 32 ∷ 32 ∷ 50 ∷ 10 ∷ []
-
--- "   2 L    0    1       8"
-toss2 : List ℕ
-toss2 = 32 ∷ 32 ∷ 32 ∷ 50 ∷ 32 ∷ 76 ∷ 32 ∷ 32 ∷ 32 ∷ 32 ∷ 48 ∷ 32 ∷ 32 ∷ 32 ∷ 32 ∷ 49 ∷ 32 ∷ 32 ∷ 32 ∷ 32 ∷ 32 ∷ 32 ∷ 32 ∷ 56 ∷ 10 ∷ []
 
 -- table B: the second child played loses 6 and one child is level; there is no child 0, 3 or -1
 judged-b : next (readText table-b) (found (pos 2 ∷ pos 1 ∷ pos 0 ∷ pos 3 ∷ negsuc 0 ∷ [])) ≡ fine (fine (judged (pos 6) 1) ∷ fine (judged (pos 0) 1) ∷ refused NoChild ∷ refused NoChild ∷ refused NoChild ∷ [])
@@ -76,6 +60,6 @@ unfolding found maxZ minZ floorZ largest smallest weighted total value shares le
 judged-lone = refl
 
 -- a C root: the same
-judged-toss : next (readText (toss-head ++ (toss-root ++ (toss1 ++ toss2)))) (found (pos 1 ∷ pos 2 ∷ pos 3 ∷ pos 0 ∷ negsuc 0 ∷ [])) ≡ fine (fine noDecision ∷ fine noDecision ∷ fine noDecision ∷ fine noDecision ∷ fine noDecision ∷ [])
-unfolding toss-head toss-root toss1 toss2 found maxZ minZ floorZ largest smallest weighted total value shares levels strip digits whole signed unless unlessAt climb run after forest weigh nodesWhere nodeLines complete readText greatest
+judged-toss : next (readText toss) (found (pos 1 ∷ pos 2 ∷ pos 3 ∷ pos 0 ∷ negsuc 0 ∷ [])) ≡ fine (fine noDecision ∷ fine noDecision ∷ fine noDecision ∷ fine noDecision ∷ fine noDecision ∷ [])
+unfolding found maxZ minZ floorZ largest smallest weighted total value shares levels strip digits whole signed unless unlessAt climb run after forest weigh nodesWhere nodeLines complete readText greatest
 judged-toss = refl

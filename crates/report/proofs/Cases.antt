@@ -1,7 +1,7 @@
 -- The cases of a position one after another: what is known where each is reached. Assumes nothing.
-use Prim.Native.Nat.{ℕ, _+_, _*_, _≤_, _<_}
-use mathlib.Core.Path.{_≡_, refl, sym, ap, _∙_}
-use mathlib.Core.Bool.{Bool, true, false, not, _||_, cond}
+use Prim.Native.Nat.{ℕ, _+_, _≤_, _<_}
+use mathlib.Core.Path.{_≡_, refl, ap, _∙_}
+use mathlib.Core.Bool.{Bool, true, false, not, cond}
 use mathlib.Core.List.{List, [], _∷_, _++_}
 use native.Mathlib.Omega.{arith}
 use borrow.Author.Tests.{ltb-false, lt-ltb, le-ltb}
@@ -19,7 +19,7 @@ use Rattle.line.proofs.Signs.{true-ne-false}
 use Rattle.line.proofs.Checks.{or-left, or-right}
 use Rattle.line.proofs.Fine.{nor9, unless-fine}
 use Rattle.report.specs.declared.Row.{Row}
-use Rattle.report.specs.Report.{playIn, headIn, nodesIn, sizeOf, tableIn, badStart, headChecks, positionChecks, scored, positionOf}
+use Rattle.report.specs.Report.{playIn, headIn, nodesIn, sizeOf, tableIn, badStart, headChecks, scored, positionOf}
 use Rattle.report.specs.Files.{headIs}
 
 -- ---- a list of checks

@@ -1,6 +1,6 @@
 -- A loss is at most the span, and so its thousandths fit. Assumes nothing.
 use Prim.Native.Nat.{ℕ, _*_, _≤_}
-use mathlib.Core.Path.{_≡_, refl, sym, subst, _∙_}
+use mathlib.Core.Path.{_≡_, refl, subst}
 use mathlib.Core.List.{List}
 use mathlib.Core.Option.{Option, none, some}
 use native.Mathlib.Nat.{le-trans, mul-le-mul-right, div-le-of-le-mul}
@@ -24,7 +24,7 @@ use Rattle.judge.specs.Inside.Heights.{heightWorths, heightLoss, heightJudgeChi
 use Rattle.judge.proofs.Shift.{numbered-each}
 use Rattle.judge.proofs.Judge.{some-grains, judge-heights}
 use Rattle.report.specs.Report.{lossOf}
-use Rattle.report.specs.Inside.{Small, SmallJudgement, SmallLoss}
+use Rattle.report.specs.Inside.{SmallJudgement, SmallLoss}
 
 -- ---- over heights
 

@@ -7,7 +7,6 @@ use lib.ListN.{length, getD, take, drop}
 use lib.IntN.{ℤ, pos, negsuc}
 use Rattle.field.specs.declared.Field.{Field}
 use Rattle.field.specs.Field.{fieldOf}
-use Rattle.line.specs.declared.Heading.{Heading}
 use Rattle.line.specs.declared.Refusal.{Refusal}
 use Rattle.line.specs.declared.Refusal.the-variants.{IllWritten, OutOfRange, Misnumbered, TooMany, NoPosition}
 use Rattle.line.specs.Refusal.{Verdict, refused, fine, Check, unless, next}

@@ -93,7 +93,8 @@ fn read_all(file: &[u8], kinds: &mut [u8], losses: &mut [i64]) -> Reported
     while at < file.len() {
         let n = t.positions;
         if n == 500 {
-            return Reported::Refused(Refusal::TooMany, 501);
+            let many = Refusal::TooMany;
+            return Reported::Refused(many, 501);
         }
         match scoring::read_at(file, at) {
             Position::Refused(r) => {

@@ -6,7 +6,6 @@ use native.Mathlib.Omega.{arith}
 use lib.ListN.{length, getD, length-map}
 use lib.IntN.{ℤ}
 use Rattle.line.specs.declared.Line.{Line}
-use Rattle.line.specs.declared.Refusal.{Refusal}
 use Rattle.line.specs.Refusal.{Verdict, refused, fine, next}
 use Rattle.table.specs.declared.Summary.{Summary}
 use Rattle.table.specs.Table.{Table, readText, grain}
@@ -14,14 +13,11 @@ use Rattle.table.specs.Slices.{kindsOf, fitted}
 use Rattle.table.proofs.Laid.{fitted-at}
 use Rattle.table.proofs.Accepted.{accepted-size}
 use Rattle.scale.proofs.Taken.{Taken, of-table, zeros, zeros-enough}
-use Rattle.judge.specs.declared.Judged.{Judged}
-use Rattle.judge.specs.declared.Judged.the-variants.{NoDecision, Loss}
 use Rattle.judge.specs.declared.Opinion.{Opinion}
-use Rattle.judge.specs.declared.Opinion.the-variants.{Given, Refused}
+use Rattle.judge.specs.declared.Opinion.the-variants.{Given}
 use Rattle.judge.specs.Judge.{Judgement, noDecision, judged, judge}
 use Rattle.judge.specs.Call.{told, judgeAnswer, judgeCall}
-use Rattle.report.specs.declared.Row.{Row}
-use Rattle.report.specs.Report.{lossOf, rowOf, scored}
+use Rattle.report.specs.Report.{rowOf, scored}
 use Rattle.report.specs.Inside.{SmallJudgement}
 use Rattle.report.proofs.Small.{judgement-small}
 use Rattle.scoring.specs.Inside.{SmallJudged, SmallOpinion, entryAs, said}

@@ -1,4 +1,4 @@
--- The lines of document 01's tables A and B, of B turned and of a lone leaf, as bytes.
+-- The lines of document 01's tables A and B, of B turned, of a lone leaf and of a root C, as bytes.
 use Prim.Native.Nat.{ℕ}
 use mathlib.Core.List.{List, [], _∷_, _++_}
 
@@ -82,6 +82,22 @@ lone-head = 32 ∷ 32 ∷ 32 ∷ 49 ∷ 32 ∷ 32 ∷ 32 ∷ 49 ∷ 32 ∷ 32 �
 abbrev pub lone0 : List ℕ
 lone0 = 32 ∷ 32 ∷ 32 ∷ 48 ∷ 32 ∷ 76 ∷ 32 ∷ 32 ∷ 32 ∷ 32 ∷ 32 ∷ 32 ∷ 32 ∷ 32 ∷ 32 ∷ 32 ∷ 32 ∷ 32 ∷ 32 ∷ 32 ∷ 32 ∷ 32 ∷ 32 ∷ 55 ∷ 10 ∷ []
 
+-- "   3   4       0       8"
+abbrev pub toss-head : List ℕ
+toss-head = 32 ∷ 32 ∷ 32 ∷ 51 ∷ 32 ∷ 32 ∷ 32 ∷ 52 ∷ 32 ∷ 32 ∷ 32 ∷ 32 ∷ 32 ∷ 32 ∷ 32 ∷ 48 ∷ 32 ∷ 32 ∷ 32 ∷ 32 ∷ 32 ∷ 32 ∷ 32 ∷ 56 ∷ 10 ∷ []
+
+-- "   0 C                  "
+abbrev pub toss-root : List ℕ
+toss-root = 32 ∷ 32 ∷ 32 ∷ 48 ∷ 32 ∷ 67 ∷ 32 ∷ 32 ∷ 32 ∷ 32 ∷ 32 ∷ 32 ∷ 32 ∷ 32 ∷ 32 ∷ 32 ∷ 32 ∷ 32 ∷ 32 ∷ 32 ∷ 32 ∷ 32 ∷ 32 ∷ 32 ∷ 10 ∷ []
+
+-- "   1 L    0    3       2"
+abbrev pub toss1 : List ℕ
+toss1 = 32 ∷ 32 ∷ 32 ∷ 49 ∷ 32 ∷ 76 ∷ 32 ∷ 32 ∷ 32 ∷ 32 ∷ 48 ∷ 32 ∷ 32 ∷ 32 ∷ 32 ∷ 51 ∷ 32 ∷ 32 ∷ 32 ∷ 32 ∷ 32 ∷ 32 ∷ 32 ∷ 50 ∷ 10 ∷ []
+
+-- "   2 L    0    1       8"
+abbrev pub toss2 : List ℕ
+toss2 = 32 ∷ 32 ∷ 32 ∷ 50 ∷ 32 ∷ 76 ∷ 32 ∷ 32 ∷ 32 ∷ 32 ∷ 48 ∷ 32 ∷ 32 ∷ 32 ∷ 32 ∷ 49 ∷ 32 ∷ 32 ∷ 32 ∷ 32 ∷ 32 ∷ 32 ∷ 32 ∷ 56 ∷ 10 ∷ []
+
 -- the tables
 abbrev pub table-a : List ℕ
 table-a = a-head ++ (max-root ++ (a1 ++ (a2 ++ (a3 ++ (a4 ++ (a5 ++ a6))))))
@@ -94,3 +110,7 @@ turned-b = turned-head ++ (min-root ++ (turned1 ++ (chance ++ (turned3 ++ turned
 
 abbrev pub lone-leaf : List ℕ
 lone-leaf = lone-head ++ lone0
+
+-- a root at which nobody chooses
+abbrev pub toss : List ℕ
+toss = toss-head ++ (toss-root ++ (toss1 ++ toss2))

@@ -1,10 +1,7 @@
 -- `abi::margin_report` meets its contract. Assumes nothing.
-use Prim.Native.Nat.{ℕ}
 use mathlib.Core.Path.{_≡_, sym, ap, subst, _∙_}
-use mathlib.Core.List.{List}
 use borrow.Author.Needs.{needs}
 use denote.Ref.{now}
-use lib.IntN.{ℤ}
 use lib.ListN.{length}
 use Rattle.report_call.specs.declared.Reported.{Reported}
 use Rattle.report_call.specs.Call.{reportCall}

@@ -1,10 +1,10 @@
 -- `codes::put_reported` meets its contract. Assumes nothing.
 use Prim.Native.Nat.{ℕ, _+_, _*_, _≤_}
-use mathlib.Core.Path.{_≡_, sym, ap, subst, _∙_}
+use mathlib.Core.Path.{sym, ap, subst, _∙_}
 use native.Mathlib.Omega.{arith}
 use borrow.Author.Needs.{needs}
 use denote.Ref.{now}
-use Rattle.line.specs.Refusal.{numberOf, lineOf}
+use Rattle.line.specs.Refusal.{lineOf}
 use Rattle.line.proofs.Numbers.{number-small}
 use Rattle.report_call.specs.declared.Reported.{Reported}
 use Rattle.codes.specs.Numbers.{reportCode, reportNumbers, put}

@@ -5,18 +5,16 @@ use mathlib.Core.List.{List}
 use native.Mathlib.Omega.{arith}
 use borrow.Author.Needs.{needs}
 use denote.Ref.{now}
-use lib.ListN.{length, set, drop}
-use lib.IntN.{ℤ}
+use lib.ListN.{length, drop}
 use mir.Syntax.{w64}
 use mir.Val.{toZ, ofZ}
 use Rattle.report.specs.declared.Row.{Row}
-use Rattle.report.specs.declared.Totals.{Totals}
-use Rattle.line.specs.Refusal.{refused, fine}
+use Rattle.line.specs.Refusal.{fine}
 use Rattle.scoring.specs.declared.Position.{Position}
 use Rattle.scoring.specs.declared.Position.the-variants.{Entry, Refused}
 use Rattle.scoring.specs.Inside.{saidAt}
 use Rattle.scoring.proofs.Said.{said-fine, said-refused}
-use Rattle.report.specs.Report.{sizeOf, lossCode, positionOf}
+use Rattle.report.specs.Report.{sizeOf, positionOf}
 use Rattle.report.specs.Inside.{SmallLoss}
 use Rattle.report.proofs.Rows.{row-small}
 use Rattle.report_call.proofs.Going.{Going, going-none, going-small, going-end, going-full, going-stopped, row-end, going-on, going-as}

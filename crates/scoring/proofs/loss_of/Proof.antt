@@ -1,5 +1,4 @@
 -- `scoring::loss_of` meets its contract. Assumes nothing.
-use Prim.Native.Nat.{ℕ}
 use mathlib.Core.Path.{_≡_, sym, ap, subst, _∙_}
 use Rattle.judge.specs.declared.Judged.{Judged}
 use Rattle.judge.specs.Inside.{judgedOf}

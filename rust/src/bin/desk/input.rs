@@ -1,4 +1,4 @@
-//! Where the table comes from.
+//! Where a table or a match comes from.
 
 use std::ffi::OsString;
 use std::fmt;
