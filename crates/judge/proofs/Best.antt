@@ -10,33 +10,33 @@ use borrow.Author.Tests.{lt-ltb}
 use lib.ListN.{getElem?}
 use Rattle.table.specs.Tree.{Kind, MAX, MIN, CHANCE, Forest, end, leaf, inner}
 use Rattle.table.specs.Accepted.{Filled}
-use Rattle.table.specs.Root.{Side, AtM, AtN, undecided, decided, sideOf, rootOf, children}
+use Rattle.table.specs.Root.{Side, AtM, AtN, nobody, toPlay, sideOf, rootOf, children}
 use Rattle.worth.specs.Worth.{Share}
 use Rattle.worth.specs.Inside.Heights.{tallest, shortest, heightValue, heightShares, firstHeight}
 use Rattle.worth.proofs.Bounds.{Each}
 use Rattle.worth.proofs.Shift.{Some, some-shares}
 use Rattle.judge.specs.Inside.Heights.{heightLoss, heightLevels, Ahead}
 
--- a root is decided or not
-pub no-decision : (s : Side) → undecided ≡ decided s → ⊥
-no-decision s e = let z : _≡_ {A = ℕ} 0 1 = cc in absurd (omega arith)
+-- where somebody is to play, it is not nobody
+pub nobody-plays : (s : Side) → nobody ≡ toPlay s → ⊥
+nobody-plays s e = let z : _≡_ {A = ℕ} 0 1 = cc in absurd (omega arith)
 
 abbrev pub kindAt : Side → Kind
 kindAt AtM = MAX
 kindAt AtN = MIN
 
-other-m : decided AtM ≡ decided AtN → ⊥
+other-m : toPlay AtM ≡ toPlay AtN → ⊥
 other-m e = let z : _≡_ {A = ℕ} 0 1 = cc in absurd (omega arith)
 
-other-n : decided AtN ≡ decided AtM → ⊥
+other-n : toPlay AtN ≡ toPlay AtM → ⊥
 other-n e = let z : _≡_ {A = ℕ} 0 1 = cc in absurd (omega arith)
 
-pub kind-side : (k : Kind) (s : Side) → sideOf k ≡ decided s → k ≡ kindAt s
+pub kind-side : (k : Kind) (s : Side) → sideOf k ≡ toPlay s → k ≡ kindAt s
 kind-side MAX AtM e = refl
 kind-side MAX AtN e = absurd (other-m e)
 kind-side MIN AtM e = absurd (other-n e)
 kind-side MIN AtN e = refl
-kind-side CHANCE s e = absurd (no-decision s e)
+kind-side CHANCE s e = absurd (nobody-plays s e)
 
 -- ---- none is better
 
@@ -133,17 +133,17 @@ met-level s G b (suc k) (y ∷ ys) x e w g = omega (arith, met-level s G b k ys 
 -- ---- the root
 
 module _ (G : ℕ) where
-  pub best-ahead : (s : Side) (F : Forest ℕ) → rootOf F ≡ decided s
+  pub best-ahead : (s : Side) (F : Forest ℕ) → rootOf F ≡ toPlay s
       → Each (Ahead s (firstHeight (heightShares G F))) (heightShares G (children F))
   unfolding heightShares
-  best-ahead s end e = absurd (no-decision s e)
-  best-ahead s (leaf n w v rest) e = absurd (no-decision s e)
+  best-ahead s end e = absurd (nobody-plays s e)
+  best-ahead s (leaf n w v rest) e = absurd (nobody-plays s e)
   best-ahead s (inner n w k under rest) e = rw (kind-side k s e) (value-ahead s (heightShares G under))
 
-  pub best-met : (s : Side) (F : Forest ℕ) → Filled F → rootOf F ≡ decided s
+  pub best-met : (s : Side) (F : Forest ℕ) → Filled F → rootOf F ≡ toPlay s
       → Met (heightShares G (children F)) (firstHeight (heightShares G F))
   unfolding heightShares
-  best-met s end f e = absurd (no-decision s e)
-  best-met s (leaf n w v rest) f e = absurd (no-decision s e)
+  best-met s end f e = absurd (nobody-plays s e)
+  best-met s (leaf n w v rest) f e = absurd (nobody-plays s e)
   best-met s (inner n w k under rest) f e =
       rw (kind-side k s e) (value-met s (heightShares G under) (some-shares G under (f .0)))

@@ -18,7 +18,7 @@ use Rattle.table.specs.Tree.{Forest, end, leaf, inner, isChance}
 use Rattle.table.specs.Table.{Table, tree, readText, greatest, grain}
 use Rattle.table.specs.Inside.{heightTree}
 use Rattle.table.specs.Accepted.{one, Filled, Proper}
-use Rattle.table.specs.Root.{Side, Root, undecided, decided, rootOf, children, nodes, numbered}
+use Rattle.table.specs.Root.{Side, Root, nobody, toPlay, rootOf, children, nodes, numbered}
 use Rattle.table.proofs.Heights.{above, mapForest, heights-map}
 use Rattle.table.proofs.Accepted.{accepted-ranged, accepted-proper, accepted-filled, heights-filled}
 use Rattle.worth.specs.Worth.{Share, shares, worthOf}
@@ -74,9 +74,9 @@ child-judged s G best xs (some x) loss level e = (heightLoss s best (x .worth), 
 
 root-judged : (r : Root) (G best : ℕ) (xs : List (Share ℕ)) (i loss : ℤ) (level : ℕ)
     → heightJudgeAt r G best xs i ≡ fine (judged loss level)
-    → (s : Side) × (n : ℕ) × (r ≡ decided s) × (pos n ≡ loss) × (heightLevels s G best xs ≡ level)
-root-judged undecided G best xs i loss level e = let z : _≡_ {A = ℕ} 0 1 = cc in absurd (omega arith)
-root-judged (decided s) G best xs i loss level e =
+    → (s : Side) × (n : ℕ) × (r ≡ toPlay s) × (pos n ≡ loss) × (heightLevels s G best xs ≡ level)
+root-judged nobody G best xs i loss level e = let z : _≡_ {A = ℕ} 0 1 = cc in absurd (omega arith)
+root-judged (toPlay s) G best xs i loss level e =
     let (n, p, q) = child-judged s G best xs (numbered i xs) loss level e in
     (s, n, refl, p, q)
 
@@ -89,8 +89,8 @@ pub judge-refused : (t : Table) (i : ℤ) (r : Refusal) → judge t i ≡ refuse
 judge-refused t i r = go (rootOf (tree t))
   where
     go : (o : Root) → judgeAt o (grain t) (worthOf t) (childWorths t) i ≡ refused r → NoChild ≡ r
-    go undecided e = let z : _≡_ {A = ℕ} 0 1 = cc in absurd (omega arith)
-    go (decided s) e = child-refused s (grain t) (worthOf t) (childWorths t) (numbered i (childWorths t)) r e
+    go nobody e = let z : _≡_ {A = ℕ} 0 1 = cc in absurd (omega arith)
+    go (toPlay s) e = child-refused s (grain t) (worthOf t) (childWorths t) (numbered i (childWorths t)) r e
 
 not-below : (n : ℕ) (z : ℤ) → pos n ≡ z → leZ (pos 0) z ≡ true
 not-below n z e = sym (ap (leZ (pos 0)) e) ∙ leb·zero n
@@ -122,7 +122,7 @@ module _ (s : List ℕ) (t : Table) (h : readText s ≡ fine t) where
       children-shift (grain t) (t .head) (t .head .total) (greatest (t .lines)) 0 0 false (tree t) (accepted-proper s t h) (accepted-filled s t h) (divides s t h)
       ∙ ap (λ (F : Forest ℕ). map (raised base) (heightShares (grain t) F)) children-heights
 
-  pub heights-ahead : (side : Side) → rootOf (tree t) ≡ decided side → Each (Ahead side (heightWorth t)) (heightWorths t)
+  pub heights-ahead : (side : Side) → rootOf (tree t) ≡ toPlay side → Each (Ahead side (heightWorth t)) (heightWorths t)
   heights-ahead side e = best-ahead (grain t) side (heightTree t) (root-heights ∙ e)
 
   -- the whole judgement
@@ -132,7 +132,7 @@ module _ (s : List ℕ) (t : Table) (h : readText s ≡ fine t) where
       ∙ judge-shift base (rootOf (tree t)) (grain t) (heightWorth t) (heightWorths t) i heights-ahead
       ∙ ap (λ (r : Root). heightJudgeAt r (grain t) (heightWorth t) (heightWorths t) i) (sym root-heights)
 
-  module _ (side : Side) (e : rootOf (tree t) ≡ decided side) where
+  module _ (side : Side) (e : rootOf (tree t) ≡ toPlay side) where
     -- a child's loss is the difference of the heights
     pub loss-heights : (i : ℤ) (x : Share ℤ) → numbered i (childWorths t) ≡ some x
         → (y : Share ℕ) × (numbered i (heightWorths t) ≡ some y) × (lossAt side (worthOf t) (x .worth) ≡ pos (heightLoss side (heightWorth t) (y .worth)))
@@ -201,5 +201,5 @@ module _ (s : List ℕ) (t : Table) (h : readText s ≡ fine t) where
       (not-below n loss p, rw q at (level-heights side (sym root-heights ∙ r)))
 
   -- at a C or L root there is no decision, for every number
-  pub undecided-judged : rootOf (tree t) ≡ undecided → (i : ℤ) → judge t i ≡ fine noDecision
+  pub undecided-judged : rootOf (tree t) ≡ nobody → (i : ℤ) → judge t i ≡ fine noDecision
   undecided-judged e i = ap (λ (r : Root). judgeAt r (grain t) (worthOf t) (childWorths t) i) e

@@ -15,7 +15,7 @@ use Rattle.table.specs.Accepted.{Rooted}
 use Rattle.table.specs.Slices.{laid}
 use Rattle.table.specs.declared.Play.{Play}
 use Rattle.table.specs.declared.Play.the-variants.{Child, NoPlay}
-use Rattle.table.specs.Root.{Side, AtM, AtN, Root, undecided, decided, rootOf, children, numbered, playOf}
+use Rattle.table.specs.Root.{Side, AtM, AtN, Root, nobody, toPlay, rootOf, children, numbered, playOf}
 use Rattle.scale.specs.declared.Scale.{Scale}
 use Rattle.worth.specs.Worth.{Share}
 use Rattle.worth.specs.Inside.Heights.{heightValue, heightShares, firstHeight}
@@ -24,7 +24,7 @@ use Rattle.worth.proofs.Run.{lays-le}
 use Rattle.judge.specs.Judge.{noDecision, judged}
 use Rattle.judge.specs.Inside.Heights.{heightLoss, heightLevels, heightJudgeChild, heightJudgeAt, Ahead}
 use Rattle.judge.specs.Inside.{Chained, Chain, heightsIn, Here, Room, Under, Listed, bestIn, AllAhead, levelsIn, forestJudge, Decided}
-use Rattle.judge.proofs.Best.{no-decision, best-ahead}
+use Rattle.judge.proofs.Best.{nobody-plays, best-ahead}
 use Rattle.judge.proofs.Shift.{numbered-each}
 use Rattle.judge.proofs.Worths.{numbered-worth, kids-some, best-root, all-ahead, levels-worths}
 
@@ -87,10 +87,10 @@ play-none (some j) e = let z : _≡_ {A = ℕ} 0 1 = cc in absurd (omega arith)
 
 module _ (S : Beside) (g : Scale) (n : ℕ) (s : List ℕ) where
   -- the lines after the root's own are its children's
-  children-here : (side : Side) (f : Forest ℕ) → Lays S 0 n s f → Fits g f → length s ≡ 25 * n → Rooted f → rootOf f ≡ decided side → Here S g n s 1 (children f)
+  children-here : (side : Side) (f : Forest ℕ) → Lays S 0 n s f → Fits g f → length s ≡ 25 * n → Rooted f → rootOf f ≡ toPlay side → Here S g n s 1 (children f)
   unfolding Lays
   children-here side end l F h r e = absurd r
-  children-here side (leaf m w v rest) l F h r e = absurd (no-decision side e)
+  children-here side (leaf m w v rest) l F h r e = absurd (nobody-plays side e)
   children-here side (inner m w k under rest) l F h r e =
       let j : ℕ = getD (S .stops) 0 0 in
       let stop : j ≡ n = subst (λ (f : Forest ℕ). Lays S j n (drop (25 * (j - 0)) s) f) (r .2) (l .3) in
@@ -218,7 +218,7 @@ module _ (S : Beside) (n : ℕ) (s : List ℕ) where
     code : q ≡ kindIn (take 25 s)
     code = letter ∙ ap letterCode (sym (getD-take 25 s 5 0 (omega arith)))
 
-    pub root-m : (f : Forest ℕ) → Lays S 0 n s f → Rooted f → q ≡ 1 → rootOf f ≡ decided AtM
+    pub root-m : (f : Forest ℕ) → Lays S 0 n s f → Rooted f → q ≡ 1 → rootOf f ≡ toPlay AtM
     unfolding Lays
     root-m end l r e = absurd r
     root-m (leaf m w v rest) l r e = absurd (omega (arith, code, l .0))
@@ -226,7 +226,7 @@ module _ (S : Beside) (n : ℕ) (s : List ℕ) where
     root-m (inner m w MIN under rest) l r e = absurd (omega (arith, code, l .0))
     root-m (inner m w CHANCE under rest) l r e = absurd (omega (arith, code, l .0))
 
-    pub root-n : (f : Forest ℕ) → Lays S 0 n s f → Rooted f → q ≡ 2 → rootOf f ≡ decided AtN
+    pub root-n : (f : Forest ℕ) → Lays S 0 n s f → Rooted f → q ≡ 2 → rootOf f ≡ toPlay AtN
     unfolding Lays
     root-n end l r e = absurd r
     root-n (leaf m w v rest) l r e = absurd (omega (arith, code, l .0))
@@ -234,7 +234,7 @@ module _ (S : Beside) (n : ℕ) (s : List ℕ) where
     root-n (inner m w MIN under rest) l r e = refl
     root-n (inner m w CHANCE under rest) l r e = absurd (omega (arith, code, l .0))
 
-    pub root-else : (f : Forest ℕ) → Lays S 0 n s f → Rooted f → (q ≡ 1 → ⊥) → (q ≡ 2 → ⊥) → rootOf f ≡ undecided
+    pub root-else : (f : Forest ℕ) → Lays S 0 n s f → Rooted f → (q ≡ 1 → ⊥) → (q ≡ 2 → ⊥) → rootOf f ≡ nobody
     unfolding Lays
     root-else end l r a b = absurd r
     root-else (leaf m w v rest) l r a b = refl
@@ -242,7 +242,7 @@ module _ (S : Beside) (n : ℕ) (s : List ℕ) where
     root-else (inner m w MIN under rest) l r a b = absurd (b (code ∙ l .0))
     root-else (inner m w CHANCE under rest) l r a b = refl
 
-pub whole-undecided : (g : Scale) (f : Forest ℕ) (i : ℤ) → rootOf f ≡ undecided → fine noDecision ≡ forestJudge g f i
+pub whole-undecided : (g : Scale) (f : Forest ℕ) (i : ℤ) → rootOf f ≡ nobody → fine noDecision ≡ forestJudge g f i
 whole-undecided g f i e =
     let G : ℕ = g .grain in
     let xs : List (Share ℕ) = heightShares G (children f) in

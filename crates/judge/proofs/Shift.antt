@@ -10,7 +10,7 @@ use lib.IntN.{ℤ, pos, negsuc, _+ℤ_, _-ℤ_}
 use lib.Signed.{ltZ}
 use Rattle.numbers.proofs.Signs.{plus, minus, parts, is-unique, is-minus}
 use Rattle.numbers.proofs.Above.{lift}
-use Rattle.table.specs.Root.{Side, AtM, AtN, Root, undecided, decided, numbered}
+use Rattle.table.specs.Root.{Side, AtM, AtN, Root, nobody, toPlay, numbered}
 use Rattle.worth.specs.Worth.{Share}
 use Rattle.worth.specs.Inside.Heights.{raised}
 use Rattle.worth.proofs.Bounds.{Each}
@@ -71,9 +71,9 @@ module _ (b : ℤ) where
   child-shift s G best xs none p f = refl
   child-shift s G best xs (some x) p f = rw (loss-shift s best (x .worth) (f x refl), levels-shift s G best xs p)
 
-  pub judge-shift : (r : Root) (G best : ℕ) (xs : List (Share ℕ)) (i : ℤ) → ((s : Side) → r ≡ decided s → Each (Ahead s best) xs)
+  pub judge-shift : (r : Root) (G best : ℕ) (xs : List (Share ℕ)) (i : ℤ) → ((s : Side) → r ≡ toPlay s → Each (Ahead s best) xs)
       → judgeAt r G (b +ℤ pos best) (map (raised b) xs) i ≡ heightJudgeAt r G best xs i
-  judge-shift undecided G best xs i f = refl
-  judge-shift (decided s) G best xs i f =
+  judge-shift nobody G best xs i f = refl
+  judge-shift (toPlay s) G best xs i f =
       ap (judgeChild s G (b +ℤ pos best) (map (raised b) xs)) (numbered-map (raised b) i xs)
       ∙ child-shift s G best xs (numbered i xs) (f s refl) (λ (x : Share ℕ) e. numbered-each (Ahead s best) xs i x (f s refl) e)

@@ -12,14 +12,14 @@ use Rattle.field.proofs.Small.{one-or-none}
 use Rattle.line.specs.Line.{toNat}
 use Rattle.table.specs.Tree.{Forest, end, leaf, inner}
 use Rattle.table.specs.Accepted.{Filled}
-use Rattle.table.specs.Root.{Side, AtM, AtN, decided, rootOf, children, numbered}
+use Rattle.table.specs.Root.{Side, AtM, AtN, toPlay, rootOf, children, numbered}
 use Rattle.worth.specs.Worth.{Share}
 use Rattle.worth.specs.Inside.Heights.{tallest, shortest, heightValue, heightShares, firstHeight}
 use Rattle.worth.proofs.Bounds.{Each}
 use Rattle.worth.proofs.Shift.{Some, some-shares}
 use Rattle.judge.specs.Inside.Heights.{heightLoss, heightLevels, Ahead}
 use Rattle.judge.specs.Inside.{heightsIn, better, bestFrom, bestIn, AllAhead, levelOne, levelsIn}
-use Rattle.judge.proofs.Best.{no-decision, kindAt, kind-side}
+use Rattle.judge.proofs.Best.{nobody-plays, kindAt, kind-side}
 
 -- ---- of shares
 
@@ -70,9 +70,9 @@ best-value s (x ∷ y ∷ ys) m = best-from s (x .worth) y ys ∙ sym (value-mor
 
 module _ (G : ℕ) where
   -- an M or N node has a child
-  pub kids-some : (s : Side) (F : Forest ℕ) → Filled F → rootOf F ≡ decided s → 0 < length (heightsIn (heightShares G (children F)))
-  kids-some s end f e = absurd (no-decision s e)
-  kids-some s (leaf n w v rest) f e = absurd (no-decision s e)
+  pub kids-some : (s : Side) (F : Forest ℕ) → Filled F → rootOf F ≡ toPlay s → 0 < length (heightsIn (heightShares G (children F)))
+  kids-some s end f e = absurd (nobody-plays s e)
+  kids-some s (leaf n w v rest) f e = absurd (nobody-plays s e)
   kids-some s (inner n w k under rest) f e = some-long (heightShares G under) (some-shares G under (f .0))
     where
       some-long : (xs : List (Share ℕ)) → Some xs → 0 < length (heightsIn xs)
@@ -80,11 +80,11 @@ module _ (G : ℕ) where
       some-long (x ∷ xs) m = omega arith
 
   -- and is worth the best of its children's worths
-  pub best-root : (s : Side) (F : Forest ℕ) → Filled F → rootOf F ≡ decided s
+  pub best-root : (s : Side) (F : Forest ℕ) → Filled F → rootOf F ≡ toPlay s
       → bestIn s (heightsIn (heightShares G (children F))) ≡ firstHeight (heightShares G F)
   unfolding heightShares
-  best-root s end f e = absurd (no-decision s e)
-  best-root s (leaf n w v rest) f e = absurd (no-decision s e)
+  best-root s end f e = absurd (nobody-plays s e)
+  best-root s (leaf n w v rest) f e = absurd (nobody-plays s e)
   best-root s (inner n w k under rest) f e =
       rw (kind-side k s e) (best-value s (heightShares G under) (some-shares G under (f .0)))
 

@@ -12,7 +12,7 @@ use Rattle.table.specs.Tree.{MAX, Forest}
 use Rattle.table.specs.Accepted.{Rooted}
 use Rattle.table.specs.Slices.{laid}
 use Rattle.table.specs.declared.Play.{Play}
-use Rattle.table.specs.Root.{Side, AtM, AtN, decided, rootOf, children, numbered, playOf}
+use Rattle.table.specs.Root.{Side, AtM, AtN, toPlay, rootOf, children, numbered, playOf}
 use Rattle.scale.specs.declared.Scale.{Scale}
 use Rattle.worth.specs.Worth.{Share}
 use Rattle.worth.specs.Inside.Heights.{heightShares, firstHeight}
@@ -132,7 +132,7 @@ WellJudged S g n s i r = (W : WholeLines S g n s) → meant r ≡ forestJudge g 
 -- the same of an M or N root
 pub record Decided (S : Beside) (g : Scale) (n : ℕ) (s : List ℕ) (side : Side) : Type 0 where
   pub whole : WholeLines S g n s
-  pub root : rootOf (whole .ready .nodes) ≡ decided side
+  pub root : rootOf (whole .ready .nodes) ≡ toPlay side
 
 abbrev pub WellDecided : Beside → Scale → ℕ → List ℕ → Side → ℤ → Opinion → Type 0
 WellDecided S g n s side i r = (D : Decided S g n s side) → meant r ≡ forestJudge g (D .whole .ready .nodes) i

@@ -8,7 +8,7 @@ use lib.Signed.{ltZ}
 use Rattle.line.specs.declared.Refusal.the-variants.{NoChild}
 use Rattle.line.specs.Refusal.{Verdict, refused, fine}
 use Rattle.table.specs.Table.{Table, tree, grain}
-use Rattle.table.specs.Root.{Side, AtM, AtN, Root, undecided, decided, rootOf, children, numbered}
+use Rattle.table.specs.Root.{Side, AtM, AtN, Root, nobody, toPlay, rootOf, children, numbered}
 use Rattle.worth.specs.Worth.{Share, shares, worthOf}
 
 -- the root's children with their worths: "a play is worth the exact worth of the root child that it names"
@@ -37,8 +37,8 @@ judgeChild s G exact xs (some x) = fine (judged (lossAt s exact (x .worth)) (lev
 
 -- "At a C or L root the answer is "no decision" alone, .. for every number. Otherwise the loss .."
 abbrev pub judgeAt : Root → (G : ℕ) (exact : ℤ) (xs : List (Share ℤ)) → ℤ → Verdict Judgement
-judgeAt undecided G exact xs i = fine noDecision
-judgeAt (decided s) G exact xs i = judgeChild s G exact xs (numbered i xs)
+judgeAt nobody G exact xs i = fine noDecision
+judgeAt (toPlay s) G exact xs i = judgeChild s G exact xs (numbered i xs)
 
 -- "Judging takes the number, from 1, of the root child played": the answer for number i
 abbrev pub judge : Table → ℤ → Verdict Judgement

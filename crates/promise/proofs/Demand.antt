@@ -15,7 +15,7 @@ use Rattle.table.specs.Tree.{Forest, isEnd}
 use Rattle.table.specs.Table.{Table, tree, readText, greatest, grain}
 use Rattle.table.specs.Inside.{Spans, heightTree, slicesOf}
 use Rattle.table.specs.Accepted.{span, Filled, Balanced, Proper, Rooted}
-use Rattle.table.specs.Root.{Side, AtM, AtN, Root, undecided, decided, children, rootOf}
+use Rattle.table.specs.Root.{Side, AtM, AtN, Root, nobody, toPlay, children, rootOf}
 use Rattle.table.proofs.Heights.{above, mapForest, heights-map}
 use Rattle.table.proofs.Accepted.{accepted-ranged, accepted-proper, accepted-filled, accepted-balanced, accepted-spans, heights-rooted, heights-proper, heights-filled, heights-balanced}
 use Rattle.table.proofs.Ends.{top}
@@ -101,12 +101,12 @@ module _ (s : List ℕ) (t : Table) (r : readText s ≡ fine t) (ε : ℕ) where
       (root-named whole strict-whole (rules t ε) (inGrains G (tree t)) (grains-filled G (tree t) (accepted-filled s t r)))
 
   -- at an M or N root there is a play: the first child entered of those with the highest low, or the lowest high
-  pub play-named : (side : Side) → rootOf (tree t) ≡ decided side
+  pub play-named : (side : Side) → rootOf (tree t) ≡ toPlay side
       → (x : Entered ℤ) × (nodeOf (searched t ε .play) ≡ some (x .node)) × FirstBest whole side (enteredOf t ε) x
   play-named side e = subst (λ (q : Root). Chosen whole q (enteredOf t ε) (searched t ε .play)) e chosen
 
   -- "at C and L there is none"
-  pub play-none : rootOf (tree t) ≡ undecided → nodeOf (searched t ε .play) ≡ none
+  pub play-none : rootOf (tree t) ≡ nobody → nodeOf (searched t ε .play) ≡ none
   play-none e = subst (λ (q : Root). Chosen whole q (enteredOf t ε) (searched t ε .play)) e chosen
 
   -- where the root has a child, one is entered
@@ -148,7 +148,7 @@ module _ (s : List ℕ) (t : Table) (r : readText s ≡ fine t) (ε : ℕ) where
 
   -- at M the play is worth at least low, at N at most high
   pub play-side : (m : ℕ) → nodeOf (searched t ε .play) ≡ some m → (v : ℤ) → playWorth t m ≡ some v
-      → (rootOf (tree t) ≡ decided AtM → leZ (searched t ε .low) v ≡ true) × (rootOf (tree t) ≡ decided AtN → leZ v (searched t ε .high) ≡ true)
+      → (rootOf (tree t) ≡ toPlay AtM → leZ (searched t ε .low) v ≡ true) × (rootOf (tree t) ≡ toPlay AtN → leZ v (searched t ε .high) ≡ true)
   play-side m e v f =
       let p = played m e in
       let x : v ≡ base +ℤ pos (p .value) = Option·some-injective v (base +ℤ pos (p .value)) (sym f ∙ child-is m (p .value) (p .named)) in (

@@ -14,7 +14,7 @@ use lib.Signed.{ltZ}
 use Rattle.line.proofs.Signs.{true-ne-false}
 use Rattle.table.specs.Tree.{Kind, MAX, MIN, CHANCE, Forest, end, leaf, inner, isEnd}
 use Rattle.table.specs.Accepted.{Filled}
-use Rattle.table.specs.Root.{Side, AtM, AtN, Root, undecided, decided, sideOf, rootOf, children}
+use Rattle.table.specs.Root.{Side, AtM, AtN, Root, nobody, toPlay, sideOf, rootOf, children}
 use Rattle.search.specs.Search.{Frame, Play, noPlay, child, Seen, State, Arith, Rules, begin, finish, cut, point, beats, better, prefer, update, stop, scan, search, searchRoot, nodeOf}
 use Rattle.search.specs.Whole.{inGrains}
 use Rattle.search.proofs.Steps.{both, seenUnder, seenAfter}
@@ -27,20 +27,20 @@ pub record Strict {A : Type 0} (less : A → A → Bool) : Type 0 where
 
 -- the play of a root whose children entered are xs: "either a root child or none", "at C and L there is none"
 abbrev pub Chosen : {A : Type 0} → Arith A → Root → List (Entered A) → Play A → Type 0
-Chosen O undecided xs p = nodeOf p ≡ none
-Chosen {A} O (decided side) xs p = (x : Entered A) × (nodeOf p ≡ some (x .node)) × FirstBest O side xs x
+Chosen O nobody xs p = nodeOf p ≡ none
+Chosen {A} O (toPlay side) xs p = (x : Entered A) × (nodeOf p ≡ some (x .node)) × FirstBest O side xs x
 
 -- the play so far, where the children entered so far are xs
 module _ {A : Type 0} (O : Arith A) where
   abbrev Held : Root → List (Entered A) → Play A → Type 0
-  Held undecided xs p = nodeOf p ≡ none
-  Held (decided side) xs noPlay = xs ≡ []
-  Held (decided side) xs (child m l h) = FirstBest O side xs (record { node = m; low = l; high = h })
+  Held nobody xs p = nodeOf p ≡ none
+  Held (toPlay side) xs noPlay = xs ≡ []
+  Held (toPlay side) xs (child m l h) = FirstBest O side xs (record { node = m; low = l; high = h })
 
   held-chosen : (q : Root) (xs : List (Entered A)) (p : Play A) → (xs ≡ [] → ⊥) → Held q xs p → Chosen O q xs p
-  held-chosen undecided xs p x h = h
-  held-chosen (decided side) xs noPlay x h = absurd (x h)
-  held-chosen (decided side) xs (child m l b) x F = (record { node = m; low = l; high = b }, refl, F)
+  held-chosen nobody xs p x h = h
+  held-chosen (toPlay side) xs noPlay x h = absurd (x h)
+  held-chosen (toPlay side) xs (child m l b) x F = (record { node = m; low = l; high = b }, refl, F)
 
 module _ {A : Type 0} (O : Arith A) (strict : Strict (O .less)) where
   past-false : (a b c : A) → O .less c a ≡ true → O .less b a ≡ false → O .less c b ≡ true
@@ -97,18 +97,18 @@ module _ {A : Type 0} (O : Arith A) (strict : Strict (O .less)) where
     -- which of the two it is, is asked by `better`
     better-best : (k : Kind) (n : ℕ) (xs : List (Entered A)) (b : Entered A) (r : Seen A)
         → beats O k (r .low) (r .high) (b .low) (b .high) ≡ worse O side b (asEntered n r) → FirstBest O side xs b
-        → Held O (decided side) (xs ++ (asEntered n r ∷ [])) (better O k n (child (b .node) (b .low) (b .high)) r)
+        → Held O (toPlay side) (xs ++ (asEntered n r ∷ [])) (better O k n (child (b .node) (b .low) (b .high)) r)
     unfolding better
     better-best k n xs b r is F = rw is (go (worse O side b (asEntered n r)) refl)
       where
         go : (t : Bool) → worse O side b (asEntered n r) ≡ t
-            → Held O (decided side) (xs ++ (asEntered n r ∷ [])) (cond t (child n (r .low) (r .high)) (child (b .node) (b .low) (b .high)))
+            → Held O (toPlay side) (xs ++ (asEntered n r ∷ [])) (cond t (child n (r .low) (r .high)) (child (b .node) (b .low) (b .high)))
         go true e = best-moves xs b (asEntered n r) e F
         go false e = best-stays xs b (asEntered n r) e F
 
     better-held : (k : Kind) (n : ℕ) (xs : List (Entered A)) (p : Play A) (r : Seen A)
-        → ((b : Entered A) → beats O k (r .low) (r .high) (b .low) (b .high) ≡ worse O side b (asEntered n r)) → Held O (decided side) xs p
-        → Held O (decided side) (xs ++ (asEntered n r ∷ [])) (better O k n p r)
+        → ((b : Entered A) → beats O k (r .low) (r .high) (b .low) (b .high) ≡ worse O side b (asEntered n r)) → Held O (toPlay side) xs p
+        → Held O (toPlay side) (xs ++ (asEntered n r ∷ [])) (better O k n p r)
     unfolding better
     better-held k n xs noPlay r is h =
         subst (λ (l : List (Entered A)). FirstBest O side (l ++ (asEntered n r ∷ [])) (asEntered n r)) (sym h) (best-alone (asEntered n r))

@@ -8,7 +8,7 @@ use native.Mathlib.Nat.{le-refl}
 use native.Mathlib.Omega.{arith}
 use Rattle.table.specs.Tree.{Kind, MAX, MIN, CHANCE, Forest, end, leaf, inner}
 use Rattle.table.specs.Accepted.{Filled, Balanced, Proper, Rooted}
-use Rattle.table.specs.Root.{Root, undecided, decided, AtM, AtN, rootOf, children}
+use Rattle.table.specs.Root.{Root, nobody, toPlay, AtM, AtN, rootOf, children}
 use Rattle.worth.specs.Inside.Heights.{heightValue, heightShares, firstHeight, SmallWorths}
 use Rattle.worth.proofs.Bounds.{small}
 use Rattle.search.specs.Search.{Play, noPlay, child, Seen, Rules, framed, point, search, searchRoot, nodeOf}
@@ -24,9 +24,9 @@ use Rattle.promise.proofs.Worths.{worth-value}
 
 -- on which side of a bound the play is: at M it is worth at least low, at N at most high
 abbrev pub OnSide : Root → (low high v : ℕ) → Type 0
-OnSide undecided low high v = Unit {0}
-OnSide (decided AtM) low high v = low ≤ v
-OnSide (decided AtN) low high v = v ≤ high
+OnSide nobody low high v = Unit {0}
+OnSide (toPlay AtM) low high v = low ≤ v
+OnSide (toPlay AtN) low high v = v ≤ high
 
 -- the root child m of F, in grains, is worth v: within ε of `exact`
 pub record Played (S ε : ℕ) (F : Forest ℕ) (low high exact m : ℕ) : Type 0 where

@@ -12,7 +12,7 @@ use Rattle.table.specs.Tree.{Forest, end, leaf, inner}
 use Rattle.table.specs.Table.{Table, readText, grain}
 use Rattle.table.specs.Inside.{heightTree}
 use Rattle.table.specs.Accepted.{span}
-use Rattle.table.specs.Root.{Side, AtM, AtN, Root, undecided, decided, rootOf, children, numbered}
+use Rattle.table.specs.Root.{Side, AtM, AtN, Root, nobody, toPlay, rootOf, children, numbered}
 use Rattle.table.proofs.Accepted.{accepted-grain}
 use Rattle.table.proofs.Ends.{accepted-span}
 use Rattle.worth.specs.Worth.{Share}
@@ -49,8 +49,8 @@ module _ (M G best : ℕ) (xs : List (Share ℕ)) (low : best ≤ M) (each : Eac
   child-within s (some x) e = loss-le M s best (x .worth) low (numbered-each (λ (y : ℕ). y ≤ M) xs i x each e)
 
   judged-within : (r : Root) → Within M (heightJudgeAt r G best xs i)
-  judged-within undecided = tt
-  judged-within (decided s) = child-within s (numbered i xs) refl
+  judged-within nobody = tt
+  judged-within (toPlay s) = child-within s (numbered i xs) refl
 
 -- ---- an accepted table
 

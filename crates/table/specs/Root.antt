@@ -1,4 +1,4 @@
--- A table's root: on which side it is, its children, and plays. Document 01, 'The search' and 'Judging and turning'.
+-- A table's root: who plays there, its children, and plays. Document 01, 'The search' and 'Judging and turning'.
 use Prim.Native.Nat.{ℕ, zero, suc}
 use mathlib.Core.List.{List, [], _∷_}
 use mathlib.Core.Option.{Option, none, some}
@@ -9,25 +9,25 @@ use Rattle.table.specs.Table.{Table, tree}
 use Rattle.table.specs.declared.Play.{Play}
 use Rattle.table.specs.declared.Play.the-variants.{Child, NoPlay}
 
--- the roots at which there is a play: "At an M root it is .. at an N root .."
+-- who plays at the roots at which there is a play: "At an M root it is .. at an N root .."
 pub data Side : Type 0 where
   AtM AtN : Side
 
--- a root by its kind alone; undecided is "a C or L root"
+-- who is to play at a root, by its kind alone; nobody is "a C or L root"
 pub data Root : Type 0 where
-  undecided : Root
-  decided : Side → Root
+  nobody : Root
+  toPlay : Side → Root
 
 abbrev pub sideOf : Kind → Root
-sideOf MAX = decided AtM
-sideOf MIN = decided AtN
-sideOf CHANCE = undecided
+sideOf MAX = toPlay AtM
+sideOf MIN = toPlay AtN
+sideOf CHANCE = nobody
 
 module _ {A : Type 0} where
   -- of the first node, which is "node 0, the root", in a table's tree; every accepted table has one
   abbrev pub rootOf : Forest A → Root
-  rootOf end = undecided
-  rootOf (leaf n w v rest) = undecided
+  rootOf end = nobody
+  rootOf (leaf n w v rest) = nobody
   rootOf (inner n w k under rest) = sideOf k
 
   -- the children of the first node, first to last: "Child order is line order"

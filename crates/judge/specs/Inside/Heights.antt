@@ -10,7 +10,7 @@ use Rattle.line.specs.Refusal.{Verdict, refused, fine}
 use Rattle.table.specs.Tree.{Forest, end, leaf, inner}
 use Rattle.table.specs.Table.{Table, grain}
 use Rattle.table.specs.Inside.{heightTree}
-use Rattle.table.specs.Root.{Side, AtM, AtN, Root, undecided, decided, rootOf, children, numbered}
+use Rattle.table.specs.Root.{Side, AtM, AtN, Root, nobody, toPlay, rootOf, children, numbered}
 use Rattle.worth.specs.Worth.{Share}
 use Rattle.worth.specs.Inside.Heights.{heightShares, heightWorth}
 use Rattle.judge.specs.Judge.{Judgement, noDecision, judged}
@@ -33,8 +33,8 @@ heightJudgeChild s G best xs none = refused NoChild
 heightJudgeChild s G best xs (some x) = fine (judged (pos (heightLoss s best (x .worth))) (heightLevels s G best xs))
 
 abbrev pub heightJudgeAt : Root → (G best : ℕ) (xs : List (Share ℕ)) → ℤ → Verdict Judgement
-heightJudgeAt undecided G best xs i = fine noDecision
-heightJudgeAt (decided s) G best xs i = heightJudgeChild s G best xs (numbered i xs)
+heightJudgeAt nobody G best xs i = fine noDecision
+heightJudgeAt (toPlay s) G best xs i = heightJudgeChild s G best xs (numbered i xs)
 
 abbrev pub heightJudge : Table → ℤ → Verdict Judgement
 heightJudge t i = heightJudgeAt (rootOf (heightTree t)) (grain t) (heightWorth t) (heightWorths t) i
