@@ -3,4 +3,5 @@ pub mod Utilities
 pub mod Demands
 pub mod Rows
 pub mod Matches
+pub mod Forced
 pub mod Worked

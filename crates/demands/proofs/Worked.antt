@@ -9,7 +9,8 @@ use Rattle.line.specs.Refusal.{unless, unlessAt}
 use Rattle.line.specs.declared.Refusal.the-variants.{NoRoom, NoChild, NoPosition}
 use Rattle.line.specs.Line.{climb}
 use Rattle.table.specs.Tree.{run, after, forest, weigh, nodesWhere}
-use Rattle.table.specs.Examples.{max-root, chance, table-a, table-b, turned-b, lone-leaf, toss}
+use Rattle.table.specs.Examples.{max-root, chance, table-a, table-b, turned-b, lone-leaf, toss, forced-b}
+use Rattle.table.specs.Root.{nodes}
 use Rattle.table.specs.Table.{nodeLines, complete, readText, greatest}
 use Rattle.numbers.specs.Integers.{maxZ, minZ, floorZ}
 use Rattle.worth.specs.Worth.{largest, smallest, weighted, total, value, shares}
@@ -43,10 +44,11 @@ thirds4 = 32 ∷ 32 ∷ 32 ∷ 52 ∷ 32 ∷ 76 ∷ 32 ∷ 32 ∷ 32 ∷ 32 ∷ 
 thirds : List ℕ
 thirds = thirds-head ++ (max-root ++ (thirds1 ++ (chance ++ (thirds3 ++ thirds4))))
 
--- play 2 of tables A, B, B turned and the one of thirds, and any number of a C and of a lone leaf
+-- play 2 of tables A, B, B turned and the one of thirds, and any number of a forced play, of a C and of a lone leaf
 match : List ℕ
 match =
-    position 50 table-a ++ (position 50 table-b ++ (position 50 turned-b ++ (position 50 thirds ++ (position 57 toss ++ position 48 lone-leaf))))
+    position 50 table-a
+    ++ (position 50 table-b ++ (position 50 turned-b ++ (position 50 thirds ++ (position 57 forced-b ++ (position 57 toss ++ position 48 lone-leaf)))))
 
 -- the answer and both lists, for lists of so many entries
 record Answer : Type 0 where
@@ -61,16 +63,16 @@ refusal : Reported → Answer
 refusal r = record { answer = r; kinds = []; losses = [] }
 
 -- an empty file; the match; the match with a list too short; a second position without such a child; the match cut short
-known : (answered [] 0 ∷ answered match 6 ∷ answered match 5 ∷ answered (position 50 table-b ++ position 51 table-b) 4 ∷ answered (take 270 match) 4 ∷ [])
+known : (answered [] 0 ∷ answered match 7 ∷ answered match 6 ∷ answered (position 50 table-b ++ position 51 table-b) 4 ∷ answered (take 270 match) 4 ∷ [])
     ≡ record { answer = Done (record { positions = 0; max = record { decisions = 0; sum = 0 }; min = record { decisions = 0; sum = 0 } }); kinds = []; losses = [] }
     ∷ record {
-      answer = Done (record { positions = 6; max = record { decisions = 3; sum = 3166 }; min = record { decisions = 1; sum = 1500 } });
-      kinds = 1 ∷ 1 ∷ 2 ∷ 1 ∷ 3 ∷ 0 ∷ [];
-      losses = pos 1000 ∷ pos 1500 ∷ pos 1500 ∷ pos 666 ∷ negsuc 0 ∷ negsuc 0 ∷ [];
+      answer = Done (record { positions = 7; max = record { decisions = 3; sum = 3166 }; min = record { decisions = 1; sum = 1500 } });
+      kinds = 1 ∷ 1 ∷ 2 ∷ 1 ∷ 1 ∷ 3 ∷ 0 ∷ [];
+      losses = pos 1000 ∷ pos 1500 ∷ pos 1500 ∷ pos 666 ∷ negsuc 0 ∷ negsuc 0 ∷ negsuc 0 ∷ [];
     }
     ∷ refusal (Refused NoRoom 0)
     ∷ refusal (Refused NoChild 2)
     ∷ refusal (Refused NoPosition 2)
     ∷ []
-unfolding refusal position thirds-head thirds1 thirds3 thirds4 thirds match answered maxZ minZ floorZ largest smallest weighted total value shares levels strip digits whole signed unless unlessAt climb run after forest weigh nodesWhere nodeLines complete readText greatest positionOf matchFrom totalOf
+unfolding refusal position thirds-head thirds1 thirds3 thirds4 thirds match answered maxZ minZ floorZ largest smallest weighted total value shares levels strip digits whole signed unless unlessAt climb run after forest weigh nodesWhere nodeLines complete readText greatest positionOf matchFrom totalOf nodes
 known = refl

@@ -2,3 +2,4 @@ pub mod Untouched
 pub mod Demands
 pub mod Rows
 pub mod Matches
+pub mod Forced

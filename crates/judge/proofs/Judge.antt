@@ -1,24 +1,27 @@
 -- The judgement of every accepted table: its losses over heights, none negative, and a best child. Assumes nothing.
-use Prim.Native.Nat.{ℕ, suc, _+_, _≤_}
+use Prim.Native.Nat.{ℕ, zero, suc, _+_, _≤_}
 use mathlib.Core.Path.{_≡_, refl, sym, ap, ap₂, _∙_}
 use mathlib.Core.Bool.{Bool, true, false}
 use mathlib.Core.List.{List, _∷_, map}
 use mathlib.Core.Option.{Option, none, some}
 use native.Mathlib.Nat.{one-le-pow}
+use native.Mathlib.Decide.{decLe}
 use native.Mathlib.Omega.{arith}
-use lib.IntN.{ℤ, pos, _+ℤ_, _*ℤ_}
+use lib.ListN.{length, getElem?}
+use lib.IntN.{ℤ, pos, negsuc, _+ℤ_, _*ℤ_}
 use lib.Signed.{leZ}
 use lib.Dec.{leb·zero}
 use Rattle.line.specs.declared.Head.{Head}
 use Rattle.line.specs.declared.Refusal.{Refusal}
 use Rattle.line.specs.declared.Refusal.the-variants.{NoChild}
-use Rattle.line.specs.Refusal.{refused, fine}
+use Rattle.line.specs.Refusal.{Verdict, refused, fine}
 use Rattle.line.specs.Line.{Within}
+use Rattle.line.proofs.Signs.{true-ne-false}
 use Rattle.table.specs.Tree.{Forest, end, leaf, inner, isChance}
 use Rattle.table.specs.Table.{Table, tree, readText, greatest, grain}
 use Rattle.table.specs.Inside.{heightTree}
 use Rattle.table.specs.Accepted.{one, Filled, Proper}
-use Rattle.table.specs.Root.{Side, Root, nobody, toPlay, rootOf, children, nodes, numbered}
+use Rattle.table.specs.Root.{Side, Root, nobody, toPlay, rootOf, children, nodes, numbered, childNode, childCount}
 use Rattle.table.proofs.Heights.{above, mapForest, heights-map}
 use Rattle.table.proofs.Accepted.{accepted-ranged, accepted-proper, accepted-filled, heights-filled}
 use Rattle.worth.specs.Worth.{Share, shares, worthOf}
@@ -26,9 +29,10 @@ use Rattle.worth.specs.Inside.Heights.{heightShares, heightWorth, raised}
 use Rattle.worth.proofs.Bounds.{Each}
 use Rattle.worth.proofs.Shift.{Divides, shares-shift}
 use Rattle.worth.proofs.Worth.{divides, shift}
-use Rattle.judge.specs.Judge.{childWorths, lossAt, levels, noDecision, judged, judgeChild, judgeAt, judge}
-use Rattle.judge.specs.Inside.Heights.{heightWorths, heightLoss, heightLevels, heightJudgeChild, heightJudgeAt, heightJudge, Ahead}
-use Rattle.judge.proofs.Best.{Met, none-lost, met-level, best-ahead, best-met}
+use Rattle.judge.specs.Judge.{childWorths, lossAt, levels, Judgement, noDecision, judged, judgeChild, judgeAt, judgeEvery, unlessForced, judge}
+use Rattle.judge.specs.Inside.Heights.{heightWorths, heightLoss, heightLevels, heightJudgeChild, heightJudgeAt, forestEvery, heightJudge, Ahead}
+use Rattle.judge.proofs.Choice.{some-nodes, forced, choice, none-forced, unforced}
+use Rattle.judge.proofs.Best.{nobody-plays, Met, none-lost, met-level, best-ahead, best-met}
 use Rattle.judge.proofs.Shift.{mapped, numbered-map, numbered-each, loss-shift, levels-shift, judge-shift}
 
 -- ---- other values at the leaves
@@ -80,17 +84,83 @@ root-judged (toPlay s) G best xs i loss level e =
     let (n, p, q) = child-judged s G best xs (numbered i xs) loss level e in
     (s, n, refl, p, q)
 
--- the only refusal of judging is 14
-child-refused : (s : Side) (G : ℕ) (exact : ℤ) (xs : List (Share ℤ)) (o : Option (Share ℤ)) (r : Refusal) → judgeChild s G exact xs o ≡ refused r → NoChild ≡ r
-child-refused s G exact xs none r e = cc
+-- the only refusal of judging is 14, where no child has the number
+child-refused : (s : Side) (G : ℕ) (exact : ℤ) (xs : List (Share ℤ)) (o : Option (Share ℤ)) (r : Refusal) → judgeChild s G exact xs o ≡ refused r
+    → (NoChild ≡ r) × (o ≡ none)
+child-refused s G exact xs none r e = (cc, refl)
 child-refused s G exact xs (some x) r e = let z : _≡_ {A = ℕ} 0 1 = cc in absurd (omega arith)
 
-pub judge-refused : (t : Table) (i : ℤ) (r : Refusal) → judge t i ≡ refused r → NoChild ≡ r
-judge-refused t i r = go (rootOf (tree t))
-  where
-    go : (o : Root) → judgeAt o (grain t) (worthOf t) (childWorths t) i ≡ refused r → NoChild ≡ r
-    go nobody e = let z : _≡_ {A = ℕ} 0 1 = cc in absurd (omega arith)
-    go (toPlay s) e = child-refused s (grain t) (worthOf t) (childWorths t) (numbered i (childWorths t)) r e
+root-refused : (o : Root) (G : ℕ) (exact : ℤ) (xs : List (Share ℤ)) (i : ℤ) (r : Refusal) → judgeAt o G exact xs i ≡ refused r
+    → (NoChild ≡ r) × (numbered i xs ≡ none) × (s : Side) × (o ≡ toPlay s)
+root-refused nobody G exact xs i r e = let z : _≡_ {A = ℕ} 0 1 = cc in absurd (omega arith)
+root-refused (toPlay s) G exact xs i r e =
+    let (z, n) = child-refused s G exact xs (numbered i xs) r e in
+    (z, n, s, refl)
+
+-- there is a worth for every child, and no other
+abbrev gone : {A : Type 0} → Option A → Bool
+gone none = true
+gone (some x) = false
+
+gone-none : {A : Type 0} (o : Option A) → gone o ≡ true → o ≡ none
+gone-none none e = refl
+gone-none (some x) e = absurd (true-ne-false (sym e))
+
+place-gone : (G k : ℕ) (F : Forest ℤ) → gone (getElem? (shares G F) k) ≡ gone (getElem? (nodes F) k)
+unfolding shares nodes
+place-gone G k end = refl
+place-gone G zero (leaf n w v rest) = refl
+place-gone G zero (inner n w kind under rest) = refl
+place-gone G (suc k) (leaf n w v rest) = place-gone G k rest
+place-gone G (suc k) (inner n w kind under rest) = place-gone G k rest
+
+number-gone : (G : ℕ) (i : ℤ) (F : Forest ℤ) → gone (numbered i (shares G F)) ≡ gone (numbered i (nodes F))
+number-gone G (pos zero) F = refl
+number-gone G (pos (suc k)) F = place-gone G k F
+number-gone G (negsuc k) F = refl
+
+-- neither a refusal nor a loss is "no decision"
+not-refused : (r : Refusal) → fine noDecision ≡ refused r → ⊥
+not-refused r e = let z : _≡_ {A = ℕ} 0 1 = cc in absurd (omega arith)
+
+not-judged : (loss : ℤ) (level : ℕ) → fine noDecision ≡ fine (judged loss level) → ⊥
+not-judged loss level e = let z : _≡_ {A = ℕ} 0 1 = cc in absurd (omega arith)
+
+-- a root at which somebody plays has a child
+root-some : (s : Side) (F : Forest ℤ) → Filled F → rootOf F ≡ toPlay s → 1 ≤ length (nodes (children F))
+root-some s end f e = absurd (nobody-plays s e)
+root-some s (leaf n w v rest) f e = absurd (nobody-plays s e)
+root-some s (inner n w k under rest) f e = some-nodes under (f .0)
+
+module _ (t : Table) (i : ℤ) where
+  -- "A root of kind M or N with a single child is judged "no decision", .. for every play number"
+  pub forced-judged : childCount t ≡ 1 → judge t i ≡ fine noDecision
+  forced-judged = forced (childCount t) (judgeEvery t i)
+
+  -- with two children or more the judgement is document 01's
+  pub choice-judged : 2 ≤ childCount t → judge t i ≡ judgeEvery t i
+  choice-judged = choice (childCount t) (judgeEvery t i)
+
+  -- at a C or L root there is no decision, for every number
+  pub nobody-judged : rootOf (tree t) ≡ nobody → judge t i ≡ fine noDecision
+  nobody-judged e =
+      ap (λ (r : Root). unlessForced (childCount t) (judgeAt r (grain t) (worthOf t) (childWorths t) i)) e ∙ none-forced (childCount t)
+
+  refused-every : (r : Refusal) → judge t i ≡ refused r → (judgeEvery t i ≡ refused r) × (childCount t ≡ 1 → ⊥)
+  refused-every r = unforced (childCount t) (judgeEvery t i) (refused r) (not-refused r)
+
+  judged-every : (loss : ℤ) (level : ℕ) → judge t i ≡ fine (judged loss level) → (judgeEvery t i ≡ fine (judged loss level)) × (childCount t ≡ 1 → ⊥)
+  judged-every loss level = unforced (childCount t) (judgeEvery t i) (fine (judged loss level)) (not-judged loss level)
+
+  -- 14, where there is a choice and no such child
+  pub missing-refused : (side : Side) → rootOf (tree t) ≡ toPlay side → 2 ≤ childCount t → childNode t i ≡ none → judge t i ≡ refused NoChild
+  missing-refused side o h m =
+      choice-judged h
+      ∙ ap (λ (r : Root). judgeAt r (grain t) (worthOf t) (childWorths t) i) o
+      ∙ ap (judgeChild side (grain t) (worthOf t) (childWorths t)) (gone-none (numbered i (childWorths t)) (number-gone (grain t) i (children (tree t)) ∙ ap gone m))
+
+  pub judge-refused : (r : Refusal) → judge t i ≡ refused r → NoChild ≡ r
+  judge-refused r e = root-refused (rootOf (tree t)) (grain t) (worthOf t) (childWorths t) i r (refused-every r e .0) .0
 
 not-below : (n : ℕ) (z : ℤ) → pos n ≡ z → leZ (pos 0) z ≡ true
 not-below n z e = sym (ap (leZ (pos 0)) e) ∙ leb·zero n
@@ -126,11 +196,14 @@ module _ (s : List ℕ) (t : Table) (h : readText s ≡ fine t) where
   heights-ahead side e = best-ahead (grain t) side (heightTree t) (root-heights ∙ e)
 
   -- the whole judgement
-  pub judge-heights : (i : ℤ) → judge t i ≡ heightJudge t i
-  judge-heights i =
+  every-heights : (i : ℤ) → judgeEvery t i ≡ forestEvery (grain t) (heightTree t) i
+  every-heights i =
       ap₂ (λ (z : ℤ) (xs : List (Share ℤ)). judgeAt (rootOf (tree t)) (grain t) z xs i) (shift s t h) worths-heights
       ∙ judge-shift base (rootOf (tree t)) (grain t) (heightWorth t) (heightWorths t) i heights-ahead
       ∙ ap (λ (r : Root). heightJudgeAt r (grain t) (heightWorth t) (heightWorths t) i) (sym root-heights)
+
+  pub judge-heights : (i : ℤ) → judge t i ≡ heightJudge t i
+  judge-heights i = ap₂ (λ (ns : List ℕ) (v : Verdict Judgement). unlessForced (length ns) v) (sym nodes-heights) (every-heights i)
 
   module _ (side : Side) (e : rootOf (tree t) ≡ toPlay side) where
     -- a child's loss is the difference of the heights
@@ -184,12 +257,14 @@ module _ (s : List ℕ) (t : Table) (h : readText s ≡ fine t) where
     pub some-level : 1 ≤ levels side (grain t) (worthOf t) (childWorths t)
     some-level = rw levels-heights level-heights
 
-    pub best-judged : (i : ℤ) × (level : ℕ) × (judge t i ≡ fine (judged (pos 0) level))
-    best-judged =
+    -- where there is a choice, some play is judged to lose nothing
+    pub best-judged : 2 ≤ childCount t → (i : ℤ) × (level : ℕ) × (judge t i ≡ fine (judged (pos 0) level))
+    best-judged h =
         let (i, x, f, z) = best-child in (
           i,
           levels side (grain t) (worthOf t) (childWorths t),
-          ap (λ (r : Root). judgeAt r (grain t) (worthOf t) (childWorths t) i) e
+          choice-judged t i h
+              ∙ ap (λ (r : Root). judgeAt r (grain t) (worthOf t) (childWorths t) i) e
               ∙ ap (judgeChild side (grain t) (worthOf t) (childWorths t)) f
               ∙ ap (λ (l : ℤ). fine (judged l (levels side (grain t) (worthOf t) (childWorths t)))) z,
         )
@@ -197,9 +272,29 @@ module _ (s : List ℕ) (t : Table) (h : readText s ≡ fine t) where
   -- of every judgement with a loss: the loss is not negative, and a child is level
   pub judged-sound : (i loss : ℤ) (level : ℕ) → judge t i ≡ fine (judged loss level) → (leZ (pos 0) loss ≡ true) × (1 ≤ level)
   judged-sound i loss level e =
-      let (side, n, r, p, q) = root-judged (rootOf (heightTree t)) (grain t) (heightWorth t) (heightWorths t) i loss level (sym (judge-heights i) ∙ e) in
+      let (side, n, r, p, q) = root-judged (rootOf (heightTree t)) (grain t) (heightWorth t) (heightWorths t) i loss level (sym (every-heights i) ∙ judged-every t i loss level e .0) in
       (not-below n loss p, rw q at (level-heights side (sym root-heights ∙ r)))
 
-  -- at a C or L root there is no decision, for every number
-  pub undecided-judged : rootOf (tree t) ≡ nobody → (i : ℤ) → judge t i ≡ fine noDecision
-  undecided-judged e i = ap (λ (r : Root). judgeAt r (grain t) (worthOf t) (childWorths t) i) e
+  -- where somebody plays, and not a single child is there, they are two or more
+  several : (side : Side) → rootOf (tree t) ≡ toPlay side → (childCount t ≡ 1 → ⊥) → 2 ≤ childCount t
+  several side e one =
+      let some : 1 ≤ childCount t = root-some side (tree t) (accepted-filled s t h) e in
+      elim (decLe 2 (childCount t)) [
+        | yes p ↦ p
+        | no p ↦ absurd (one (omega (arith, some, p)))
+      ]
+
+  -- "Refusal 14 now needs a root with two children or more": of kind M or N, none of which has the number
+  pub refused-choice : (i : ℤ) (r : Refusal) → judge t i ≡ refused r
+      → (side : Side) × (rootOf (tree t) ≡ toPlay side) × (2 ≤ childCount t) × (childNode t i ≡ none)
+  refused-choice i r e =
+      let (v, h) = refused-every t i r e in
+      let (z, n, side, o) = root-refused (rootOf (tree t)) (grain t) (worthOf t) (childWorths t) i r v in
+      (side, o, several side o h, gone-none (childNode t i) (sym (number-gone (grain t) i (children (tree t))) ∙ ap gone n))
+
+  -- a loss needs the same root
+  pub judged-choice : (i loss : ℤ) (level : ℕ) → judge t i ≡ fine (judged loss level) → (side : Side) × (rootOf (tree t) ≡ toPlay side) × (2 ≤ childCount t)
+  judged-choice i loss level e =
+      let (v, h) = judged-every t i loss level e in
+      let (side, n, r, p, q) = root-judged (rootOf (heightTree t)) (grain t) (heightWorth t) (heightWorths t) i loss level (sym (every-heights i) ∙ v) in
+      (side, sym root-heights ∙ r, several side (sym root-heights ∙ r) h)

@@ -1,3 +1,4 @@
+pub mod Choice
 pub mod Best
 pub mod Shift
 pub mod Judge

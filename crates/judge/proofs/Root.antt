@@ -1,30 +1,34 @@
 -- A root with all under it in the lines: its children by number, the best worth, and the judgement. Assumes nothing.
 use Prim.Native.Nat.{ℕ, zero, suc, _+_, _-_, _*_, _≤_, _<_}
 use mathlib.Core.Path.{_≡_, refl, sym, ap, ap₂, subst, _∙_}
+use mathlib.Core.Bool.{Bool, false}
 use mathlib.Core.List.{List, [], _∷_}
 use mathlib.Core.Option.{Option, none, some}
 use native.Mathlib.Omega.{arith}
+use borrow.Author.Tests.{ltb-false}
 use lib.ListN.{length, getD, getElem?, take, drop, length-append, length-drop, List·getD-append}
+use lib.Dec.{ltb}
 use lib.Seq.{take-all, take-at, getD-take}
 use lib.IntN.{ℤ, pos, negsuc}
 use Rattle.line.specs.declared.Refusal.the-variants.{NoChild}
 use Rattle.line.specs.Refusal.{refused, fine}
 use Rattle.line.specs.Line.{letterCode, toNat}
 use Rattle.table.specs.Tree.{MAX, MIN, CHANCE, Forest, end, leaf, inner}
-use Rattle.table.specs.Accepted.{Rooted}
+use Rattle.table.specs.Accepted.{Rooted, Filled}
 use Rattle.table.specs.Slices.{laid}
 use Rattle.table.specs.declared.Play.{Play}
 use Rattle.table.specs.declared.Play.the-variants.{Child, NoPlay}
-use Rattle.table.specs.Root.{Side, AtM, AtN, Root, nobody, toPlay, rootOf, children, numbered, playOf}
+use Rattle.table.specs.Root.{Side, AtM, AtN, Root, nobody, toPlay, rootOf, children, nodes, numbered, playOf}
 use Rattle.scale.specs.declared.Scale.{Scale}
 use Rattle.worth.specs.Worth.{Share}
 use Rattle.worth.specs.Inside.Heights.{heightValue, heightShares, firstHeight}
 use Rattle.worth.specs.Inside.{kindIn, Beside, Lays, Fits}
 use Rattle.worth.proofs.Run.{lays-le}
-use Rattle.judge.specs.Judge.{noDecision, judged}
-use Rattle.judge.specs.Inside.Heights.{heightLoss, heightLevels, heightJudgeChild, heightJudgeAt, Ahead}
-use Rattle.judge.specs.Inside.{Chained, Chain, heightsIn, Here, Room, Under, Listed, bestIn, AllAhead, levelsIn, forestJudge, Decided}
-use Rattle.judge.proofs.Best.{nobody-plays, best-ahead}
+use Rattle.judge.specs.Judge.{noDecision, judged, unlessForced}
+use Rattle.judge.specs.Inside.Heights.{heightLoss, heightLevels, heightJudgeChild, heightJudgeAt, forestEvery, forestJudge, Ahead}
+use Rattle.judge.specs.Inside.{Chained, Chain, heightsIn, Here, Room, Under, Listed, bestIn, AllAhead, levelsIn, WholeLines, Decided}
+use Rattle.judge.proofs.Choice.{some-nodes, forced, choice, none-forced}
+use Rattle.judge.proofs.Best.{best-ahead}
 use Rattle.judge.proofs.Shift.{numbered-each}
 use Rattle.judge.proofs.Worths.{numbered-worth, kids-some, best-root, all-ahead, levels-worths}
 
@@ -59,6 +63,13 @@ number-missing S G c f (pos zero) e = refl
 number-missing S G c f (pos (suc k)) e = missing S G k c f e
 number-missing S G c f (negsuc k) e = refl
 
+-- as many as there are nodes
+starts-count : (S : List ℕ) (c : ℕ) (f : Forest ℕ) → length (starts S c f) ≡ length (nodes f)
+unfolding nodes
+starts-count S c end = refl
+starts-count S c (leaf n w v rest) = ap suc (starts-count S (getD S c 0) rest)
+starts-count S c (inner n w k under rest) = ap suc (starts-count S (getD S c 0) rest)
+
 -- there is a share for every node
 present : (S : List ℕ) (G k c i : ℕ) (f : Forest ℕ) → getElem? (starts S c f) k ≡ some i → (x : Share ℕ) × (getElem? (heightShares G f) k ≡ some x)
 unfolding heightShares
@@ -87,11 +98,13 @@ play-none (some j) e = let z : _≡_ {A = ℕ} 0 1 = cc in absurd (omega arith)
 
 module _ (S : Beside) (g : Scale) (n : ℕ) (s : List ℕ) where
   -- the lines after the root's own are its children's
-  children-here : (side : Side) (f : Forest ℕ) → Lays S 0 n s f → Fits g f → length s ≡ 25 * n → Rooted f → rootOf f ≡ toPlay side → Here S g n s 1 (children f)
+  children-here : (f : Forest ℕ) → Lays S 0 n s f → Fits g f → length s ≡ 25 * n → Rooted f → Here S g n s 1 (children f)
   unfolding Lays
-  children-here side end l F h r e = absurd r
-  children-here side (leaf m w v rest) l F h r e = absurd (nobody-plays side e)
-  children-here side (inner m w k under rest) l F h r e =
+  children-here end l F h r = absurd r
+  children-here (leaf m w v rest) l F h r =
+      let stop : getD (S .stops) 0 0 ≡ n = subst (λ (f : Forest ℕ). Lays S (getD (S .stops) 0 0) n (drop (25 * (getD (S .stops) 0 0 - 0)) s) f) (r .2) (l .4) in
+      record { lays = omega (arith, l .1, stop); fits = record { filled = tt; small = tt; totals = tt } }
+  children-here (inner m w k under rest) l F h r =
       let j : ℕ = getD (S .stops) 0 0 in
       let stop : j ≡ n = subst (λ (f : Forest ℕ). Lays S j n (drop (25 * (j - 0)) s) f) (r .2) (l .3) in
       let all : take (25 * (n - 1)) (drop 25 s) ≡ drop 25 s = take-all (25 * (n - 1)) (drop 25 s) (omega (arith, length-drop 25 s)) in
@@ -100,25 +113,17 @@ module _ (S : Beside) (g : Scale) (n : ℕ) (s : List ℕ) where
         fits = record { filled = F .filled .1; small = F .small .1; totals = F .totals .1 };
       }
 
-  module _ (side : Side) (D : Decided S g n s side) where
+  module _ (W : WholeLines S g n s) where
     abbrev tree : Forest ℕ
-    tree = D .whole .ready .nodes
-
-    abbrev pub height : ℕ
-    height = firstHeight (heightShares (g .grain) tree)
-
-    abbrev pub kids : List (Share ℕ)
-    kids = heightShares (g .grain) (children tree)
+    tree = W .ready .nodes
 
     room-of : Room S g n s
     room-of =
-        let R = D .whole .ready in
+        let R = W .ready in
         record { long = omega (arith, R .long); room = R .room; few = R .few; scale = R .scale }
 
     here : Here S g n s 1 (children tree)
-    here =
-        let R = D .whole .ready in
-        children-here side tree (R .lays) (R .fits) (room-of .long) (D .whole .rooted) (D .root)
+    here = children-here tree (W .ready .lays) (W .ready .fits) (room-of .long) (W .rooted)
 
     pub chain-of : Chain (S .stops) n
     chain-of =
@@ -131,19 +136,31 @@ module _ (S : Beside) (g : Scale) (n : ℕ) (s : List ℕ) where
     pub under-of : (came : List ℕ) → 1024 ≤ length came → Under S g n s (length came)
     under-of came h = record { nodes = children tree; here = here; fits = room-of; place = omega (arith, room-of .few) }
 
+    -- the chain is as long as there are children
+    pub several-of : (r : Bool) → r ≡ ltb 1 (length (chain-of .nodes)) → r ≡ ltb 1 (length (nodes (children tree)))
+    unfolding chain-of
+    several-of r e = e ∙ ap (ltb 1) (starts-count (S .stops) 1 (children tree))
+
+  module _ (side : Side) (D : Decided S g n s side) where
+    abbrev pub height : ℕ
+    height = firstHeight (heightShares (g .grain) (tree (D .whole)))
+
+    abbrev pub kids : List (Share ℕ)
+    kids = heightShares (g .grain) (children (tree (D .whole)))
+
     -- ---- the list of the worths
 
     module _ (came list : List ℕ) (m : ℕ) (place : 1024 ≤ length came) (listed : Listed S g n s m came list) where
       told : (m ≡ length (heightsIn kids)) × (list ≡ laid (heightsIn kids) came)
       unfolding under-of
-      told = listed (under-of came place)
+      told = listed (under-of (D .whole) came place)
 
       front : take m list ≡ heightsIn kids
       front =
           ap (take m) (told .1) ∙ take-at (heightsIn kids) (drop (length (heightsIn kids)) came) m (sym (told .0))
 
       pub list-some : 0 < m
-      list-some = omega (arith, told .0, kids-some (g .grain) side tree (D .whole .ready .fits .filled) (D .root))
+      list-some = omega (arith, told .0, kids-some (g .grain) side (tree (D .whole)) (D .whole .ready .fits .filled) (D .root))
 
       pub list-room : m ≤ length list
       list-room = omega (arith, told .0, ap length (told .1), length-append (heightsIn kids) (drop (length (heightsIn kids)) came))
@@ -159,12 +176,12 @@ module _ (S : Beside) (g : Scale) (n : ℕ) (s : List ℕ) where
 
       pub best-of : (r : ℕ) → r ≡ bestIn side (take m list) → r ≡ height
       best-of r e =
-          e ∙ ap (bestIn side) front ∙ best-root (g .grain) side tree (D .whole .ready .fits .filled) (D .root)
+          e ∙ ap (bestIn side) front ∙ best-root (g .grain) side (tree (D .whole)) (D .whole .ready .fits .filled) (D .root)
 
       module _ (best : ℕ) (b : best ≡ height) where
         pub ahead-of : AllAhead side best (take m list)
         ahead-of =
-            rw (b, front) (all-ahead side height kids (best-ahead (g .grain) side tree (D .root)))
+            rw (b, front) (all-ahead side height kids (best-ahead (g .grain) side (tree (D .whole)) (D .root)))
 
         pub level-of : (r : ℕ) → r ≡ levelsIn side (g .grain) best (take m list) → r ≡ heightLevels side (g .grain) height kids
         level-of r e = e ∙ ap₂ (levelsIn side (g .grain)) b front ∙ levels-worths side (g .grain) height kids
@@ -174,31 +191,33 @@ module _ (S : Beside) (g : Scale) (n : ℕ) (s : List ℕ) where
     abbrev pub Found : ℤ → Type 0
     Found z = (x : Share ℕ) × (numbered z kids ≡ some x)
 
-    pub found : (z : ℤ) (i : ℕ) (p : Play) → p ≡ Child i → p ≡ playOf (numbered z (chain-of .nodes)) → Found z
+    pub found : (z : ℤ) (i : ℕ) (p : Play) → p ≡ Child i → p ≡ playOf (numbered z (chain-of (D .whole) .nodes)) → Found z
     unfolding chain-of
     found z i p e f =
-        number-present (S .stops) (g .grain) 1 i (children tree) z (play-child (numbered z (starts (S .stops) 1 (children tree))) i (sym e ∙ f))
+        number-present (S .stops) (g .grain) 1 i (children (tree (D .whole))) z (play-child (numbered z (starts (S .stops) 1 (children (tree (D .whole))))) i (sym e ∙ f))
 
     -- ---- the judgement
 
-    decided-judge : (z : ℤ) → forestJudge g tree z ≡ heightJudgeChild side (g .grain) height kids (numbered z kids)
-    decided-judge z = ap (λ (r : Root). heightJudgeAt r (g .grain) height kids z) (D .root)
+    decided-judge : (z : ℤ) → forestJudge (g .grain) (tree (D .whole)) z ≡ heightJudgeChild side (g .grain) height kids (numbered z kids)
+    decided-judge z =
+        choice (length (nodes (children (tree (D .whole))))) (forestEvery (g .grain) (tree (D .whole)) z) (D .choice)
+        ∙ ap (λ (r : Root). heightJudgeAt r (g .grain) height kids z) (D .root)
 
-    pub well-none : (z : ℤ) (p : Play) → p ≡ NoPlay → p ≡ playOf (numbered z (chain-of .nodes)) → refused NoChild ≡ forestJudge g tree z
+    pub well-none : (z : ℤ) (p : Play) → p ≡ NoPlay → p ≡ playOf (numbered z (chain-of (D .whole) .nodes)) → refused NoChild ≡ forestJudge (g .grain) (tree (D .whole)) z
     unfolding chain-of
     well-none z p e f =
-        let o : List ℕ = starts (S .stops) 1 (children tree) in
-        sym (decided-judge z ∙ ap (heightJudgeChild side (g .grain) height kids) (number-missing (S .stops) (g .grain) 1 (children tree) z (play-none (numbered z o) (sym e ∙ f))))
+        let o : List ℕ = starts (S .stops) 1 (children (tree (D .whole))) in
+        sym (decided-judge z ∙ ap (heightJudgeChild side (g .grain) height kids) (number-missing (S .stops) (g .grain) 1 (children (tree (D .whole))) z (play-none (numbered z o) (sym e ∙ f))))
 
     pub well-lost : (z : ℤ) (K : Found z) (best h l level : ℕ) → best ≡ height → h ≡ K .0 .worth
-        → l ≡ heightLoss side best h → level ≡ heightLevels side (g .grain) height kids → fine (judged (pos l) level) ≡ forestJudge g tree z
+        → l ≡ heightLoss side best h → level ≡ heightLevels side (g .grain) height kids → fine (judged (pos l) level) ≡ forestJudge (g .grain) (tree (D .whole)) z
     well-lost z K best h l level b w x y =
         ap₂ (λ (m : ℕ) (v : ℕ). fine (judged (pos m) v)) (x ∙ ap₂ (heightLoss side) b w) y
         ∙ sym (decided-judge z ∙ ap (heightJudgeChild side (g .grain) height kids) (K .1))
 
     pub found-ahead : (z : ℤ) (K : Found z) (best h : ℕ) → best ≡ height → h ≡ K .0 .worth → Ahead side best h
     found-ahead z K best h b w =
-        rw (b, w) (numbered-each (Ahead side height) kids z (K .0) (best-ahead (g .grain) side tree (D .root)) (K .1))
+        rw (b, w) (numbered-each (Ahead side height) kids z (K .0) (best-ahead (g .grain) side (tree (D .whole)) (D .root)) (K .1))
 
 -- ---- the root's letter
 
@@ -242,8 +261,17 @@ module _ (S : Beside) (n : ℕ) (s : List ℕ) where
     root-else (inner m w MIN under rest) l r a b = absurd (b (code ∙ l .0))
     root-else (inner m w CHANCE under rest) l r a b = refl
 
-pub whole-undecided : (g : Scale) (f : Forest ℕ) (i : ℤ) → rootOf f ≡ nobody → fine noDecision ≡ forestJudge g f i
-whole-undecided g f i e =
-    let G : ℕ = g .grain in
-    let xs : List (Share ℕ) = heightShares G (children f) in
-    sym (ap (λ (r : Root). heightJudgeAt r G (firstHeight (heightShares G f)) xs i) e)
+-- ---- roots without a decision
+
+pub nobody-judged : (G : ℕ) (f : Forest ℕ) (i : ℤ) → rootOf f ≡ nobody → fine noDecision ≡ forestJudge G f i
+nobody-judged G f i e =
+    sym
+    (ap (λ (r : Root). unlessForced (length (nodes (children f))) (heightJudgeAt r G (firstHeight (heightShares G f)) (heightShares G (children f)) i)) e
+    ∙ none-forced (length (nodes (children f))))
+
+pub few-judged : (G : ℕ) (f : Forest ℕ) (i : ℤ) → Filled f → false ≡ ltb 1 (length (nodes (children f))) → fine noDecision ≡ forestJudge G f i
+unfolding nodes
+few-judged G end i F e = refl
+few-judged G (leaf n w v rest) i F e = refl
+few-judged G (inner n w k under rest) i F e =
+    sym (forced (length (nodes under)) (forestEvery G (inner n w k under rest) i) (omega (arith, some-nodes under (F .0), ltb-false 1 (length (nodes under)) (sym e))))

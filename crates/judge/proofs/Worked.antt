@@ -9,7 +9,8 @@ use Rattle.line.specs.declared.Refusal.the-variants.{NoChild}
 use Rattle.line.specs.Refusal.{Verdict, refused, fine, unless, unlessAt, next}
 use Rattle.line.specs.Line.{climb}
 use Rattle.table.specs.Tree.{run, after, forest, weigh, nodesWhere}
-use Rattle.table.specs.Examples.{max-root, b-head, chance, b3, b4, table-b, turned-b, lone-leaf, toss}
+use Rattle.table.specs.Examples.{max-root, b-head, chance, b3, b4, table-b, turned-b, min-root, forced-head, forced1, forced2, forced3, lone-leaf, toss, forced-b}
+use Rattle.table.specs.Root.{nodes}
 use Rattle.table.specs.Table.{Table, nodeLines, complete, readText, greatest}
 use Rattle.worth.specs.Worth.{largest, smallest, weighted, total, value, shares}
 use Rattle.judge.specs.Judge.{levels, Judgement, noDecision, judged, judge}
@@ -36,30 +37,40 @@ point2 = 32 ∷ 32 ∷ 32 ∷ 50 ∷ 32 ∷ 76 ∷ 32 ∷ 32 ∷ 32 ∷ 32 ∷ 4
 
 -- table B: the second child played loses 6 and one child is level; there is no child 0, 3 or -1
 judged-b : next (readText table-b) (found (pos 2 ∷ pos 1 ∷ pos 0 ∷ pos 3 ∷ negsuc 0 ∷ [])) ≡ fine (fine (judged (pos 6) 1) ∷ fine (judged (pos 0) 1) ∷ refused NoChild ∷ refused NoChild ∷ refused NoChild ∷ [])
-unfolding found maxZ minZ floorZ largest smallest weighted total value shares levels strip digits whole signed unless unlessAt climb run after forest weigh nodesWhere nodeLines complete readText greatest
+unfolding found maxZ minZ floorZ largest smallest weighted total value shares levels strip digits whole signed unless unlessAt climb run after forest weigh nodesWhere nodeLines complete readText greatest nodes
 judged-b = refl
 
 -- B with 4 in place of 5: the second child loses 2 grains of the 4 that a point has, and both are level
 judged-near : next (readText (b-head ++ (max-root ++ (near1 ++ (chance ++ (b3 ++ b4)))))) (found (pos 2 ∷ pos 1 ∷ [])) ≡ fine (fine (judged (pos 2) 2) ∷ fine (judged (pos 0) 2) ∷ [])
-unfolding near1 found maxZ minZ floorZ largest smallest weighted total value shares levels strip digits whole signed unless unlessAt climb run after forest weigh nodesWhere nodeLines complete readText greatest
+unfolding near1 found maxZ minZ floorZ largest smallest weighted total value shares levels strip digits whole signed unless unlessAt climb run after forest weigh nodesWhere nodeLines complete readText greatest nodes
 judged-near = refl
 
 -- B turned: the same at an N root
 judged-turned : next (readText turned-b) (found (pos 2 ∷ pos 1 ∷ pos 0 ∷ pos 3 ∷ negsuc 0 ∷ [])) ≡ fine (fine (judged (pos 6) 1) ∷ fine (judged (pos 0) 1) ∷ refused NoChild ∷ refused NoChild ∷ refused NoChild ∷ [])
-unfolding found maxZ minZ floorZ largest smallest weighted total value shares levels strip digits whole signed unless unlessAt climb run after forest weigh nodesWhere nodeLines complete readText greatest
+unfolding found maxZ minZ floorZ largest smallest weighted total value shares levels strip digits whole signed unless unlessAt climb run after forest weigh nodesWhere nodeLines complete readText greatest nodes
 judged-turned = refl
 
 -- leaves of 3 and 2 under an M: a loss of just one point is not level
 judged-point : next (readText (point-head ++ (max-root ++ (point1 ++ point2)))) (found (pos 2 ∷ pos 1 ∷ [])) ≡ fine (fine (judged (pos 1) 1) ∷ fine (judged (pos 0) 1) ∷ [])
-unfolding point-head point1 point2 found maxZ minZ floorZ largest smallest weighted total value shares levels strip digits whole signed unless unlessAt climb run after forest weigh nodesWhere nodeLines complete readText greatest
+unfolding point-head point1 point2 found maxZ minZ floorZ largest smallest weighted total value shares levels strip digits whole signed unless unlessAt climb run after forest weigh nodesWhere nodeLines complete readText greatest nodes
 judged-point = refl
 
 -- a lone leaf: no decision, whatever the number
 judged-lone : next (readText lone-leaf) (found (pos 1 ∷ pos 7 ∷ pos 0 ∷ negsuc 0 ∷ [])) ≡ fine (fine noDecision ∷ fine noDecision ∷ fine noDecision ∷ fine noDecision ∷ [])
-unfolding found maxZ minZ floorZ largest smallest weighted total value shares levels strip digits whole signed unless unlessAt climb run after forest weigh nodesWhere nodeLines complete readText greatest
+unfolding found maxZ minZ floorZ largest smallest weighted total value shares levels strip digits whole signed unless unlessAt climb run after forest weigh nodesWhere nodeLines complete readText greatest nodes
 judged-lone = refl
 
 -- a C root: the same
 judged-toss : next (readText toss) (found (pos 1 ∷ pos 2 ∷ pos 3 ∷ pos 0 ∷ negsuc 0 ∷ [])) ≡ fine (fine noDecision ∷ fine noDecision ∷ fine noDecision ∷ fine noDecision ∷ fine noDecision ∷ [])
-unfolding found maxZ minZ floorZ largest smallest weighted total value shares levels strip digits whole signed unless unlessAt climb run after forest weigh nodesWhere nodeLines complete readText greatest
+unfolding found maxZ minZ floorZ largest smallest weighted total value shares levels strip digits whole signed unless unlessAt climb run after forest weigh nodesWhere nodeLines complete readText greatest nodes
 judged-toss = refl
+
+-- B's C alone under an M: forced, and no decision for its own number and for others
+judged-forced : next (readText forced-b) (found (pos 1 ∷ pos 2 ∷ pos 0 ∷ negsuc 0 ∷ [])) ≡ fine (fine noDecision ∷ fine noDecision ∷ fine noDecision ∷ fine noDecision ∷ [])
+unfolding found maxZ minZ floorZ largest smallest weighted total value shares levels strip digits whole signed unless unlessAt climb run after forest weigh nodesWhere nodeLines complete readText greatest nodes
+judged-forced = refl
+
+-- the same under an N
+judged-forced-n : next (readText (forced-head ++ (min-root ++ (forced1 ++ (forced2 ++ forced3))))) (found (pos 1 ∷ pos 2 ∷ pos 0 ∷ negsuc 0 ∷ [])) ≡ fine (fine noDecision ∷ fine noDecision ∷ fine noDecision ∷ fine noDecision ∷ [])
+unfolding found maxZ minZ floorZ largest smallest weighted total value shares levels strip digits whole signed unless unlessAt climb run after forest weigh nodesWhere nodeLines complete readText greatest nodes
+judged-forced-n = refl

@@ -12,17 +12,17 @@ use Rattle.table.specs.Tree.{MAX, Forest}
 use Rattle.table.specs.Accepted.{Rooted}
 use Rattle.table.specs.Slices.{laid}
 use Rattle.table.specs.declared.Play.{Play}
-use Rattle.table.specs.Root.{Side, AtM, AtN, toPlay, rootOf, children, numbered, playOf}
+use Rattle.table.specs.Root.{Side, AtM, AtN, toPlay, rootOf, children, nodes, numbered, playOf}
 use Rattle.scale.specs.declared.Scale.{Scale}
 use Rattle.worth.specs.Worth.{Share}
-use Rattle.worth.specs.Inside.Heights.{heightShares, firstHeight}
+use Rattle.worth.specs.Inside.Heights.{heightShares}
 use Rattle.worth.specs.Inside.{Beside, Reach, Lays, OkScale, Fits, ReadyRun}
 use Rattle.judge.specs.declared.Judged.{Judged}
 use Rattle.judge.specs.declared.Judged.the-variants.{NoDecision, Loss}
 use Rattle.judge.specs.declared.Opinion.{Opinion}
 use Rattle.judge.specs.declared.Opinion.the-variants.{Given, Refused}
 use Rattle.judge.specs.Judge.{Judgement, noDecision, judged}
-use Rattle.judge.specs.Inside.Heights.{heightLoss, heightJudgeAt, Ahead}
+use Rattle.judge.specs.Inside.Heights.{heightLoss, forestJudge, Ahead}
 
 abbrev pub sideIf : Bool → Side
 sideIf true = AtM
@@ -43,6 +43,10 @@ pub record Chain (S : List ℕ) (n : ℕ) : Type 0 where
 
 abbrev pub Played : List ℕ → ℕ → ℤ → Play → Type 0
 Played S n i r = (C : Chain S n) → r ≡ playOf (numbered i (C .nodes))
+
+-- whether there are two children or more
+abbrev pub Several : List ℕ → ℕ → Bool → Type 0
+Several S n r = (C : Chain S n) → r ≡ ltb 1 (length (C .nodes))
 
 -- ---- the worths of the root's children
 
@@ -116,23 +120,19 @@ abbrev pub meant : Opinion → Verdict Judgement
 meant (Given j) = fine (judgedOf j)
 meant (Refused r) = refused r
 
--- the judgement at the first of the nodes f; for a table's nodes this is `heightJudge`
-abbrev pub forestJudge : Scale → Forest ℕ → ℤ → Verdict Judgement
-forestJudge g f i =
-    heightJudgeAt (rootOf f) (g .grain) (firstHeight (heightShares (g .grain) f)) (heightShares (g .grain) (children f)) i
-
 -- the lines of one root with all under it
 pub record WholeLines (S : Beside) (g : Scale) (n : ℕ) (s : List ℕ) : Type 0 where
   pub ready : ReadyRun S g MAX 0 n s
   pub rooted : Rooted (ready .nodes)
 
 abbrev pub WellJudged : Beside → Scale → ℕ → List ℕ → ℤ → Opinion → Type 0
-WellJudged S g n s i r = (W : WholeLines S g n s) → meant r ≡ forestJudge g (W .ready .nodes) i
+WellJudged S g n s i r = (W : WholeLines S g n s) → meant r ≡ forestJudge (g .grain) (W .ready .nodes) i
 
--- the same of an M or N root
+-- the same of an M or N root with a choice
 pub record Decided (S : Beside) (g : Scale) (n : ℕ) (s : List ℕ) (side : Side) : Type 0 where
   pub whole : WholeLines S g n s
   pub root : rootOf (whole .ready .nodes) ≡ toPlay side
+  pub choice : 1 < length (nodes (children (whole .ready .nodes)))
 
 abbrev pub WellDecided : Beside → Scale → ℕ → List ℕ → Side → ℤ → Opinion → Type 0
-WellDecided S g n s side i r = (D : Decided S g n s side) → meant r ≡ forestJudge g (D .whole .ready .nodes) i
+WellDecided S g n s side i r = (D : Decided S g n s side) → meant r ≡ forestJudge (g .grain) (D .whole .ready .nodes) i

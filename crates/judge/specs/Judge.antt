@@ -1,14 +1,15 @@
--- The judgement of the play made at the root. Document 01, 'Judging and turning'.
+-- The judgement of the play made at the root. Document 01, 'Judging and turning', and document 02, Item 2.
 use Prim.Native.Nat.{ℕ, _+_}
 use mathlib.Core.Bool.{cond}
 use mathlib.Core.List.{List, [], _∷_}
 use mathlib.Core.Option.{Option, none, some}
+use lib.Dec.{eqb}
 use lib.IntN.{ℤ, pos, _-ℤ_}
 use lib.Signed.{ltZ}
 use Rattle.line.specs.declared.Refusal.the-variants.{NoChild}
 use Rattle.line.specs.Refusal.{Verdict, refused, fine}
 use Rattle.table.specs.Table.{Table, tree, grain}
-use Rattle.table.specs.Root.{Side, AtM, AtN, Root, nobody, toPlay, rootOf, children, numbered}
+use Rattle.table.specs.Root.{Side, AtM, AtN, Root, nobody, toPlay, rootOf, children, numbered, childCount}
 use Rattle.worth.specs.Worth.{Share, shares, worthOf}
 
 -- the root's children with their worths: "a play is worth the exact worth of the root child that it names"
@@ -40,6 +41,15 @@ abbrev pub judgeAt : Root → (G : ℕ) (exact : ℤ) (xs : List (Share ℤ)) �
 judgeAt nobody G exact xs i = fine noDecision
 judgeAt (toPlay s) G exact xs i = judgeChild s G exact xs (numbered i xs)
 
--- "Judging takes the number, from 1, of the root child played": the answer for number i
+-- Document 01's judging, of forced plays too: "Judging takes the number, from 1, of the root child played"
+abbrev pub judgeEvery : Table → ℤ → Verdict Judgement
+judgeEvery t i = judgeAt (rootOf (tree t)) (grain t) (worthOf t) (childWorths t) i
+
+-- Document 02, Item 2: "A root of kind M or N with a single child is judged "no decision", as a C or L root is, for every play number": v is
+-- what document 01 says of a root with so many children
+abbrev pub unlessForced : (children : ℕ) → Verdict Judgement → Verdict Judgement
+unlessForced children v = cond (eqb children 1) (fine noDecision) v
+
+-- the judgement of root child number i
 abbrev pub judge : Table → ℤ → Verdict Judgement
-judge t i = judgeAt (rootOf (tree t)) (grain t) (worthOf t) (childWorths t) i
+judge t i = unlessForced (childCount t) (judgeEvery t i)

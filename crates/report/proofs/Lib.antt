@@ -3,3 +3,4 @@ pub mod Small
 pub mod Rows
 pub mod Refusals
 pub mod Files
+pub mod Decisions

@@ -1,10 +1,13 @@
 -- A loss is at most the span, and so its thousandths fit. Assumes nothing.
 use Prim.Native.Nat.{ℕ, _*_, _≤_}
 use mathlib.Core.Path.{_≡_, refl, subst}
+use mathlib.Core.Bool.{Bool, true, false, cond}
 use mathlib.Core.List.{List}
 use mathlib.Core.Option.{Option, none, some}
 use native.Mathlib.Nat.{le-trans, mul-le-mul-right, div-le-of-le-mul}
 use native.Mathlib.Omega.{arith}
+use lib.Dec.{eqb}
+use lib.ListN.{length}
 use lib.IntN.{ℤ}
 use Rattle.line.specs.Refusal.{Verdict, refused, fine}
 use Rattle.line.specs.Line.{toNat}
@@ -12,15 +15,15 @@ use Rattle.table.specs.Tree.{Forest, end, leaf, inner}
 use Rattle.table.specs.Table.{Table, readText, grain}
 use Rattle.table.specs.Inside.{heightTree}
 use Rattle.table.specs.Accepted.{span}
-use Rattle.table.specs.Root.{Side, AtM, AtN, Root, nobody, toPlay, rootOf, children, numbered}
+use Rattle.table.specs.Root.{Side, AtM, AtN, Root, nobody, toPlay, rootOf, children, nodes, numbered}
 use Rattle.table.proofs.Accepted.{accepted-grain}
 use Rattle.table.proofs.Ends.{accepted-span}
 use Rattle.worth.specs.Worth.{Share}
 use Rattle.worth.specs.Inside.Heights.{heightWorth, SmallWorths}
 use Rattle.worth.proofs.Bounds.{Each, small-each}
 use Rattle.worth.proofs.Worth.{heights-small, height-within}
-use Rattle.judge.specs.Judge.{Judgement, noDecision, judged, judge}
-use Rattle.judge.specs.Inside.Heights.{heightWorths, heightLoss, heightJudgeChild, heightJudgeAt}
+use Rattle.judge.specs.Judge.{Judgement, noDecision, judged, unlessForced, judge}
+use Rattle.judge.specs.Inside.Heights.{heightWorths, heightLoss, heightJudgeChild, heightJudgeAt, forestEvery}
 use Rattle.judge.proofs.Shift.{numbered-each}
 use Rattle.judge.proofs.Judge.{some-grains, judge-heights}
 use Rattle.report.specs.Report.{lossOf}
@@ -48,9 +51,16 @@ module _ (M G best : ℕ) (xs : List (Share ℕ)) (low : best ≤ M) (each : Eac
   child-within s none e = tt
   child-within s (some x) e = loss-le M s best (x .worth) low (numbered-each (λ (y : ℕ). y ≤ M) xs i x each e)
 
-  judged-within : (r : Root) → Within M (heightJudgeAt r G best xs i)
-  judged-within nobody = tt
-  judged-within (toPlay s) = child-within s (numbered i xs) refl
+  root-within : (r : Root) → Within M (heightJudgeAt r G best xs i)
+  root-within nobody = tt
+  root-within (toPlay s) = child-within s (numbered i xs) refl
+
+forced-within : (M children : ℕ) (v : Verdict Judgement) → Within M v → Within M (unlessForced children v)
+forced-within M children v w = go (eqb children 1)
+  where
+    go : (b : Bool) → Within M (cond b (fine noDecision) v)
+    go true = tt
+    go false = w
 
 -- ---- an accepted table
 
@@ -64,7 +74,8 @@ module _ (s : List ℕ) (t : Table) (p : readText s ≡ fine t) (i : ℤ) where
   judge-within : Within most (judge t i)
   judge-within =
       rw (judge-heights s t p i)
-      (judged-within most (grain t) (heightWorth t) (heightWorths t) (height-within s t p) each-small i (rootOf (heightTree t)))
+      (forced-within most (length (nodes (children (heightTree t)))) (forestEvery (grain t) (heightTree t) i)
+      (root-within most (grain t) (heightWorth t) (heightWorths t) (height-within s t p) each-small i (rootOf (heightTree t))))
 
   small-within : (j : Judgement) → Within most (fine j) → SmallJudgement (grain t) j
   small-within noDecision w = tt

@@ -1,14 +1,16 @@
--- What the theorems on match files say (demands/specs/Matches). Document 02, Item 1.
+-- What the theorems on match files say (demands/specs/Matches and Forced). Document 02, Items 1 and 2.
 use Prim.Native.Nat.{ℕ, _+_, _≤_}
 use mathlib.Core.Path.{_≡_}
-use mathlib.Core.Bool.{false, cond}
+use mathlib.Core.Bool.{Bool, false, _&&_, cond}
 use mathlib.Core.List.{List, [], _∷_}
-use lib.Dec.{eqb}
-use lib.ListN.{length, take, drop}
+use lib.Dec.{eqb, leb}
+use lib.ListN.{length, getD, take, drop}
 use lib.IntN.{ℤ, pos, negsuc}
 use Rattle.line.specs.Refusal.{Verdict, fine, unless}
 use Rattle.line.specs.Line.{valueOf}
 use Rattle.table.specs.Table.{Table, readText}
+use Rattle.table.specs.Slices.{kindsOf}
+use Rattle.table.specs.Root.{childCount}
 use Rattle.judge.specs.declared.Opinion.the-variants.{Given}
 use Rattle.judge.specs.Judge.{Judgement}
 use Rattle.judge.specs.Call.{told, judgeCall}
@@ -29,6 +31,20 @@ pub record Alone (p : List ℕ) (r : Row) : Type 0 where
 abbrev pub EachAlone : List ℕ → List Row → Type 0
 EachAlone s [] = s ≡ []
 EachAlone s (r ∷ rs) = Alone (take (sizeOf s) s) r × EachAlone (drop (sizeOf s) s) rs
+
+-- the tables of these positions
+abbrev pub tablesOf : (s : List ℕ) (rs : List Row) → EachAlone s rs → List Table
+tablesOf s [] e = []
+tablesOf s (r ∷ rs) e = e .0 .table ∷ tablesOf (drop (sizeOf s) s) rs (e .1)
+
+-- a decision (Item 2): a root of this kind, 1 for M and 2 for N, with "two children or more"
+abbrev pub decides : (side : ℕ) → Table → Bool
+decides side t = eqb (getD (kindsOf t) 0 0) side && leb 2 (childCount t)
+
+-- in how many of the tables there is one
+unfoldable pub decisionsIn : (side : ℕ) → List Table → ℕ
+decisionsIn side [] = 0
+decisionsIn side (t ∷ ts) = cond (decides side t) 1 0 + decisionsIn side ts
 
 -- the number of nodes in the header of the position at the front, or 2, 3, 4
 abbrev pub headIs : List ℕ → Verdict ℕ

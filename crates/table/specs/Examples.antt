@@ -1,4 +1,4 @@
--- The lines of document 01's tables A and B, of B turned, of a lone leaf and of a root C, as bytes.
+-- The lines of document 01's tables A and B, of B turned, of a lone leaf, of a root C and of a forced play, as bytes.
 use Prim.Native.Nat.{ℕ}
 use mathlib.Core.List.{List, [], _∷_, _++_}
 
@@ -98,6 +98,22 @@ toss1 = 32 ∷ 32 ∷ 32 ∷ 49 ∷ 32 ∷ 76 ∷ 32 ∷ 32 ∷ 32 ∷ 32 ∷ 48
 abbrev pub toss2 : List ℕ
 toss2 = 32 ∷ 32 ∷ 32 ∷ 50 ∷ 32 ∷ 76 ∷ 32 ∷ 32 ∷ 32 ∷ 32 ∷ 48 ∷ 32 ∷ 32 ∷ 32 ∷ 32 ∷ 49 ∷ 32 ∷ 32 ∷ 32 ∷ 32 ∷ 32 ∷ 32 ∷ 32 ∷ 56 ∷ 10 ∷ []
 
+-- "   4   4       0       8"
+abbrev pub forced-head : List ℕ
+forced-head = 32 ∷ 32 ∷ 32 ∷ 52 ∷ 32 ∷ 32 ∷ 32 ∷ 52 ∷ 32 ∷ 32 ∷ 32 ∷ 32 ∷ 32 ∷ 32 ∷ 32 ∷ 48 ∷ 32 ∷ 32 ∷ 32 ∷ 32 ∷ 32 ∷ 32 ∷ 32 ∷ 56 ∷ 10 ∷ []
+
+-- "   1 C    0             "
+abbrev pub forced1 : List ℕ
+forced1 = 32 ∷ 32 ∷ 32 ∷ 49 ∷ 32 ∷ 67 ∷ 32 ∷ 32 ∷ 32 ∷ 32 ∷ 48 ∷ 32 ∷ 32 ∷ 32 ∷ 32 ∷ 32 ∷ 32 ∷ 32 ∷ 32 ∷ 32 ∷ 32 ∷ 32 ∷ 32 ∷ 32 ∷ 10 ∷ []
+
+-- "   2 L    1    3       2"
+abbrev pub forced2 : List ℕ
+forced2 = 32 ∷ 32 ∷ 32 ∷ 50 ∷ 32 ∷ 76 ∷ 32 ∷ 32 ∷ 32 ∷ 32 ∷ 49 ∷ 32 ∷ 32 ∷ 32 ∷ 32 ∷ 51 ∷ 32 ∷ 32 ∷ 32 ∷ 32 ∷ 32 ∷ 32 ∷ 32 ∷ 50 ∷ 10 ∷ []
+
+-- "   3 L    1    1       8"
+abbrev pub forced3 : List ℕ
+forced3 = 32 ∷ 32 ∷ 32 ∷ 51 ∷ 32 ∷ 76 ∷ 32 ∷ 32 ∷ 32 ∷ 32 ∷ 49 ∷ 32 ∷ 32 ∷ 32 ∷ 32 ∷ 49 ∷ 32 ∷ 32 ∷ 32 ∷ 32 ∷ 32 ∷ 32 ∷ 32 ∷ 56 ∷ 10 ∷ []
+
 -- the tables
 abbrev pub table-a : List ℕ
 table-a = a-head ++ (max-root ++ (a1 ++ (a2 ++ (a3 ++ (a4 ++ (a5 ++ a6))))))
@@ -114,3 +130,7 @@ lone-leaf = lone-head ++ lone0
 -- a root at which nobody chooses
 abbrev pub toss : List ℕ
 toss = toss-head ++ (toss-root ++ (toss1 ++ toss2))
+
+-- B without its leaf of 5: the play is forced
+abbrev pub forced-b : List ℕ
+forced-b = forced-head ++ (max-root ++ (forced1 ++ (forced2 ++ forced3)))

@@ -2,7 +2,7 @@
 use Prim.Native.Nat.{ℕ, zero, suc}
 use mathlib.Core.List.{List, [], _∷_}
 use mathlib.Core.Option.{Option, none, some}
-use lib.ListN.{getElem?}
+use lib.ListN.{length, getElem?}
 use lib.IntN.{ℤ, pos, negsuc}
 use Rattle.table.specs.Tree.{Kind, MAX, MIN, CHANCE, Forest, end, leaf, inner}
 use Rattle.table.specs.Table.{Table, tree}
@@ -13,7 +13,7 @@ use Rattle.table.specs.declared.Play.the-variants.{Child, NoPlay}
 pub data Side : Type 0 where
   AtM AtN : Side
 
--- who is to play at a root, by its kind alone; nobody is "a C or L root"
+-- who is to play at a root, by its kind alone and whatever its children; nobody is "a C or L root"
 pub data Root : Type 0 where
   nobody : Root
   toPlay : Side → Root
@@ -51,6 +51,10 @@ module _ {A : Type 0} where
 -- "The play is either a root child or none": the node number of the root child of number i
 abbrev pub childNode : Table → ℤ → Option ℕ
 childNode t i = numbered i (nodes (children (tree t)))
+
+-- how many children the root has
+abbrev pub childCount : Table → ℕ
+childCount t = length (nodes (children (tree t)))
 
 -- "an answer with cases Child(node) and NoPlay"
 abbrev pub playOf : Option ℕ → Play

@@ -26,7 +26,7 @@ find-child-requires : tie.Need-find-child-requires
 find-child-requires c κs =
     let s = c .before .before .before .before in
     let a = s .args in
-    chain-of (beside (now (a .stop)) (now (a .weight)) (now (a .height))) (a .g) (a .n) (now (a .lines)) (sideIf (a .max)) (s .pre)
+    chain-of (beside (now (a .stop)) (now (a .weight)) (now (a .height))) (a .g) (a .n) (now (a .lines)) (s .pre .whole)
 
 enum-told : tie.Need-enum-told
 enum-told c = search needs
@@ -42,11 +42,11 @@ played : (c : tie.After-find-child)
     → let s = c .before .before .before .before .before in
     let a = s .args in
     (D : At s)
-    → c .find-child .result ≡ playOf (numbered (a .number) (chain-of (beside (now (a .stop)) (now (a .weight)) (now (a .height))) (a .g) (a .n) (now (a .lines)) (sideIf (a .max)) D .nodes))
+    → c .find-child .result ≡ playOf (numbered (a .number) (chain-of (beside (now (a .stop)) (now (a .weight)) (now (a .height))) (a .g) (a .n) (now (a .lines)) (D .whole) .nodes))
 played c D =
     let s = c .before .before .before .before .before in
     let a = s .args in
-    let C = chain-of (beside (now (a .stop)) (now (a .weight)) (now (a .height))) (a .g) (a .n) (now (a .lines)) (sideIf (a .max)) D in
+    let C = chain-of (beside (now (a .stop)) (now (a .weight)) (now (a .height))) (a .g) (a .n) (now (a .lines)) (D .whole) in
     c .find-child .ensures C ∙ ap (λ (z : ℤ). playOf (numbered z (C .nodes))) (number-back s)
 
 -- the child that was found
@@ -69,7 +69,7 @@ list-worths-requires : tie.Need-list-worths-requires
 list-worths-requires c κs =
     let s = start-of (c .before) in
     let a = s .args in
-    under-of (beside (now (a .stop)) (now (a .weight)) (now (a .height))) (a .g) (a .n) (now (a .lines)) (sideIf (a .max)) (s .pre) (replicate 1024 0) (omega arith)
+    under-of (beside (now (a .stop)) (now (a .weight)) (now (a .height))) (a .g) (a .n) (now (a .lines)) (s .pre .whole) (replicate 1024 0) (omega arith)
 
 -- the start, and the list of the worths
 abbrev start-at : tie.After-list-worths → tie.Start

@@ -4,16 +4,17 @@ use mathlib.Core.Bool.{cond}
 use mathlib.Core.List.{List, [], _∷_}
 use mathlib.Core.Option.{Option, none, some}
 use lib.Dec.{ltb}
+use lib.ListN.{length}
 use lib.IntN.{ℤ, pos}
 use Rattle.line.specs.declared.Refusal.the-variants.{NoChild}
 use Rattle.line.specs.Refusal.{Verdict, refused, fine}
 use Rattle.table.specs.Tree.{Forest, end, leaf, inner}
 use Rattle.table.specs.Table.{Table, grain}
 use Rattle.table.specs.Inside.{heightTree}
-use Rattle.table.specs.Root.{Side, AtM, AtN, Root, nobody, toPlay, rootOf, children, numbered}
+use Rattle.table.specs.Root.{Side, AtM, AtN, Root, nobody, toPlay, rootOf, children, nodes, numbered}
 use Rattle.worth.specs.Worth.{Share}
-use Rattle.worth.specs.Inside.Heights.{heightShares, heightWorth}
-use Rattle.judge.specs.Judge.{Judgement, noDecision, judged}
+use Rattle.worth.specs.Inside.Heights.{heightShares, firstHeight}
+use Rattle.judge.specs.Judge.{Judgement, noDecision, judged, unlessForced}
 
 -- the root's children with their worths
 abbrev pub heightWorths : Table → List (Share ℕ)
@@ -36,8 +37,15 @@ abbrev pub heightJudgeAt : Root → (G best : ℕ) (xs : List (Share ℕ)) → �
 heightJudgeAt nobody G best xs i = fine noDecision
 heightJudgeAt (toPlay s) G best xs i = heightJudgeChild s G best xs (numbered i xs)
 
+-- the judgement at the first of the nodes F, forced plays too, and without them
+abbrev pub forestEvery : (G : ℕ) → Forest ℕ → ℤ → Verdict Judgement
+forestEvery G F i = heightJudgeAt (rootOf F) G (firstHeight (heightShares G F)) (heightShares G (children F)) i
+
+abbrev pub forestJudge : (G : ℕ) → Forest ℕ → ℤ → Verdict Judgement
+forestJudge G F i = unlessForced (length (nodes (children F))) (forestEvery G F i)
+
 abbrev pub heightJudge : Table → ℤ → Verdict Judgement
-heightJudge t i = heightJudgeAt (rootOf (heightTree t)) (grain t) (heightWorth t) (heightWorths t) i
+heightJudge t i = forestJudge (grain t) (heightTree t) i
 
 -- no child is better than the best
 abbrev pub Ahead : Side → (best height : ℕ) → Type 0

@@ -1,0 +1,102 @@
+-- Forced plays, at the public calls. Assumes nothing.
+use Prim.Native.Nat.{ℕ}
+use mathlib.Core.Path.{_≡_, refl, sym, ap, ap₂, _∙_}
+use mathlib.Core.Bool.{Bool, true, false, cond}
+use mathlib.Core.Option.{none, some}
+use native.Mathlib.Omega.{arith}
+use borrow.Author.Tests.{eqb-true}
+use lib.Dec.{eqb}
+use lib.ListN.{length, getElem?}
+use lib.IntN.{ℤ, pos, _*ℤ_}
+use Rattle.line.specs.declared.Refusal.{Refusal}
+use Rattle.line.specs.declared.Refusal.the-variants.{NoChild}
+use Rattle.line.specs.Refusal.{Verdict, refused, fine}
+use Rattle.line.specs.Line.{toNat}
+use Rattle.table.specs.Tree.{Forest, end, leaf, inner}
+use Rattle.table.specs.Table.{Table, tree, grain}
+use Rattle.table.specs.Root.{AtM, AtN, children, nodes, playOf}
+use Rattle.worth.specs.Worth.{value, shares}
+use Rattle.judge.specs.declared.Opinion.the-variants.{Refused}
+use Rattle.judge.specs.Judge.{Judgement, judge}
+use Rattle.judge.specs.Call.{judgeAnswer, judgeCall}
+use Rattle.judge.proofs.Judge.{forced-judged, choice-judged, missing-refused, refused-choice}
+use Rattle.search.specs.Search.{nodeOf}
+use Rattle.search.specs.Whole.{searched}
+use Rattle.search_call.specs.declared.Bounds.{Bounds}
+use Rattle.search_call.proofs.Answered.{answered}
+use Rattle.promise.specs.Play.{worthAt}
+use Rattle.promise.proofs.Demand.{play-named, play-near}
+use Rattle.report.specs.Report.{totalOf}
+use Rattle.report.specs.Files.{listedTotal}
+use Rattle.report.proofs.Rows.{totals-listed}
+use Rattle.report.proofs.Decisions.{decisions-are}
+use Rattle.report_call.specs.Call.{reportKinds, reportLosses}
+use Rattle.demands.specs.Forced.{ForcedUndecided, ChoiceAsBefore, FourteenNeeds, StillNamed, CountsFollow}
+use Rattle.demands.proofs.Matches.{lists-sum}
+
+-- ---- judging
+
+pub forced-undecided : ForcedUndecided
+forced-undecided s t i p one = ap (λ (v : Verdict Table). judgeCall v i) p ∙ ap judgeAnswer (forced-judged t i one)
+
+pub choice-as-before : ChoiceAsBefore
+choice-as-before s t i p h = ap (λ (v : Verdict Table). judgeCall v i) p ∙ ap judgeAnswer (choice-judged t i h)
+
+answer-refused : (v : Verdict Judgement) (r : Refusal) → judgeAnswer v ≡ Refused r → v ≡ refused r
+answer-refused (refused q) r e = cc
+answer-refused (fine j) r e = let z : _≡_ {A = ℕ} 0 1 = cc in absurd (omega arith)
+
+pub fourteen-needs : FourteenNeeds
+fourteen-needs s t i p = (
+  λ e.
+      let (side, root, several, missing) = refused-choice s t p i NoChild (answer-refused (judge t i) NoChild (sym (ap (λ (v : Verdict Table). judgeCall v i) p) ∙ e)) in
+      record { side = side; root = root; several = several; missing = missing },
+  λ F. ap (λ (v : Verdict Table). judgeCall v i) p ∙ ap judgeAnswer (missing-refused t i (F .side) (F .root) (F .several) (F .missing)),
+)
+
+-- ---- the search
+
+-- the worth found is the node's
+named : (n m : ℕ) (x v : ℤ) → cond (eqb n m) (some x) none ≡ some v → some n ≡ some m
+named n m x v = go (eqb n m) refl
+  where
+    go : (b : Bool) → eqb n m ≡ b → cond b (some x) none ≡ some v → some n ≡ some m
+    go true q e = ap some (eqb-true n m q)
+    go false q e = let z : _≡_ {A = ℕ} 0 1 = cc in absurd (omega arith)
+
+-- of a single node there is no other worth
+only-worth : (G m : ℕ) (F : Forest ℤ) (v : ℤ) → length (nodes F) ≡ 1 → worthAt G m F ≡ some v → getElem? (nodes F) 0 ≡ some m
+unfolding worthAt nodes
+only-worth G m end v one e = absurd (omega (arith, one))
+only-worth G m (leaf n w u end) v one e = named n m (u *ℤ pos G) v e
+only-worth G m (leaf n w u (leaf n₂ w₂ u₂ rest)) v one e = absurd (omega (arith, one))
+only-worth G m (leaf n w u (inner n₂ w₂ k₂ under rest)) v one e = absurd (omega (arith, one))
+only-worth G m (inner n w k under end) v one e = named n m (value k (shares G under)) v e
+only-worth G m (inner n w k under (leaf n₂ w₂ u₂ rest)) v one e = absurd (omega (arith, one))
+only-worth G m (inner n w k under (inner n₂ w₂ k₂ under₂ rest)) v one e = absurd (omega (arith, one))
+
+table-same : (t u : Table) → fine t ≡ fine u → t ≡ u
+table-same t u e = cc
+
+pub still-named : StillNamed
+still-named s t m room b side p root one e =
+    let A = answered s m room b e in
+    let ε : ℕ = toNat m in
+    let same : A .table ≡ t = table-same (A .table) t (sym (A .read) ∙ p) in
+    let (x, q, first) = play-named s t p ε side root in
+    let (v, w, above, below) = play-near s t p ε (x .node) q in (
+      x .node,
+      ap (λ (c : Bounds). c .play) (A .bounds) ∙ ap (λ (u : Table). playOf (nodeOf (searched u ε .play))) same ∙ ap playOf q,
+      only-worth (grain t) (x .node) (children (tree t)) v one w,
+    )
+
+-- ---- "The report's counts follow."
+
+pub counts-follow : CountsFollow
+counts-follow file kinds losses t e E =
+    let (m, ms, n, ns) = lists-sum file kinds losses t e in
+    let sums : (side : ℕ) → listedTotal side (λ x. 1) (reportKinds file kinds losses) (reportLosses file kinds losses) ≡ totalOf side (λ x. 1) (E .rows) =
+    λ side. ap₂ (listedTotal side (λ x. 1)) (E .in-kinds) (E .in-losses) ∙ totals-listed side (λ x. 1) (E .rows) in (
+      m ∙ sums 1 ∙ decisions-are AtM file (E .rows) (E .alone),
+      n ∙ sums 2 ∙ decisions-are AtN file (E .rows) (E .alone),
+    )

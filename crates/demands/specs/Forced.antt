@@ -1,0 +1,60 @@
+-- Forced plays. Document 02, Item 2; over texts and files, at the public calls. proofs/Forced.antt has the theorems.
+use Prim.Native.Nat.{ℕ, _≤_}
+use mathlib.Core.Path.{_≡_}
+use mathlib.Core.List.{List}
+use mathlib.Core.Option.{none, some}
+use lib.IntN.{ℤ, pos}
+use Rattle.line.specs.declared.Refusal.the-variants.{NoChild}
+use Rattle.line.specs.Refusal.{fine}
+use Rattle.table.specs.Table.{Table, tree, readText}
+use Rattle.table.specs.declared.Play.the-variants.{Child}
+use Rattle.table.specs.Root.{Side, toPlay, rootOf, childNode, childCount}
+use Rattle.judge.specs.declared.Judged.the-variants.{NoDecision}
+use Rattle.judge.specs.declared.Opinion.the-variants.{Given, Refused}
+use Rattle.judge.specs.Judge.{judgeEvery}
+use Rattle.judge.specs.Call.{judgeAnswer, judgeCall}
+use Rattle.search_call.specs.declared.Bounds.{Bounds}
+use Rattle.search_call.specs.declared.Bounded.the-variants.{Found}
+use Rattle.search_call.specs.Call.{searchCall}
+use Rattle.report.specs.declared.Totals.{Totals}
+use Rattle.report.specs.Files.{tablesOf, decisionsIn}
+use Rattle.report_call.specs.declared.Reported.the-variants.{Done}
+use Rattle.report_call.specs.Call.{reportCall}
+use Rattle.demands.specs.Matches.{Entries}
+
+-- ---- judging
+
+-- "A root of kind M or N with a single child is judged "no decision", as a C or L root is, for every play number."
+abbrev pub ForcedUndecided : Type 0
+ForcedUndecided = (s : List ℕ) (t : Table) (i : ℤ) → readText s ≡ fine t → childCount t ≡ 1 → judgeCall (readText s) i ≡ Given NoDecision
+
+-- with two children or more the answer is document 01's
+abbrev pub ChoiceAsBefore : Type 0
+ChoiceAsBefore =
+    (s : List ℕ) (t : Table) (i : ℤ) → readText s ≡ fine t → 2 ≤ childCount t → judgeCall (readText s) i ≡ judgeAnswer (judgeEvery t i)
+
+-- "Refusal 14 now needs a root with two children or more": of kind M or N; and at such a root it is given where no child has the number
+pub record Fourteen (t : Table) (i : ℤ) : Type 0 where
+  pub side : Side
+  pub root : rootOf (tree t) ≡ toPlay side
+  pub several : 2 ≤ childCount t
+  pub missing : childNode t i ≡ none
+
+abbrev pub FourteenNeeds : Type 0
+FourteenNeeds =
+    (s : List ℕ) (t : Table) (i : ℤ) → readText s ≡ fine t
+    → (judgeCall (readText s) i ≡ Refused NoChild → Fourteen t i) × (Fourteen t i → judgeCall (readText s) i ≡ Refused NoChild)
+
+-- the search goes by the root's kind alone, and still names the play at an M or N root with a single child
+abbrev pub StillNamed : Type 0
+StillNamed =
+    (s : List ℕ) (t : Table) (m : ℤ) (room : ℕ) (b : Bounds) (side : Side) → readText s ≡ fine t → rootOf (tree t) ≡ toPlay side → childCount t ≡ 1
+    → searchCall (readText s) m room ≡ Found b → (n : ℕ) × (b .play ≡ Child n) × (childNode t (pos 1) ≡ some n)
+
+-- ---- "The report's counts follow."
+
+-- a side's decisions are as many as the positions whose root is of its kind with two children or more
+abbrev pub CountsFollow : Type 0
+CountsFollow =
+    (file : List ℕ) (kinds losses : ℕ) (t : Totals) → reportCall file kinds losses ≡ Done t → (E : Entries file kinds losses t)
+    → (t .max .decisions ≡ decisionsIn 1 (tablesOf file (E .rows) (E .alone))) × (t .min .decisions ≡ decisionsIn 2 (tablesOf file (E .rows) (E .alone)))
