@@ -62,10 +62,11 @@ uint64_t margin_read(const uint8_t *text, size_t text_len, int64_t *numbers, siz
 uint64_t margin_worth(const uint8_t *text, size_t text_len, int64_t *numbers, size_t numbers_len);
 
 /*
- * Judges the play of root child `number`, counted from 1. Refuses 1 to 10, and 14 where an M or N root has no such child.
+ * Judges the play of root child `number`, counted from 1. Refuses 1 to 10, and 14 where an M or N root with two children or more has no
+ * such child.
  *
- * numbers (3 or 1), without sign: at an M or N root 1, the loss, the number of level children; at a C or L root, where nobody chooses, 0
- * alone. The loss is the root's worth minus the child's at M, the child's minus the root's at N. A child is level with the best where its
+ * numbers (3 or 1), without sign: at an M or N root with two children or more 1, the loss, the number of level children; elsewhere there is
+ * no decision, for every `number`, and 0 alone is written: nobody chooses at a C or L root, and a single play is forced. The loss is the root's worth minus the child's at M, the child's minus the root's at N. A child is level with the best where its
  * loss is less than one point, G grains (margin_worth tells G).
  */
 uint64_t margin_judge(const uint8_t *text, size_t text_len, int64_t number, uint64_t *numbers, size_t numbers_len);
@@ -114,11 +115,10 @@ uint64_t margin_rollout(const uint8_t *text, size_t text_len, const uint8_t *pol
 /*
  * The report on a match file: positions one after another, each a play number in 4 columns and a newline, and then a table as long as its
  * header's count says. Each play is judged as by margin_judge. Refuses with the position's number, from 1: 15 where a position begins after
- * 500, 16 where a play-number line is ill-written or the file ends in a position, 2 to 10 for its table, 14 where an M or N root has no such
- * child. At the end 11, with position 0, where `kinds` or `losses` has fewer entries than there are positions.
+ * 500, 16 where a play-number line is ill-written or the file ends in a position, 2 to 10 for its table, 14 as margin_judge does. At the end 11, with position 0, where `kinds` or `losses` has fewer entries than there are positions.
  *
  * kinds: for each position the kind of its root, as in margin_read.
- * losses: for each position its loss in thousandths of a point, rounded down; -1 at a C or L root, where there is no decision.
+ * losses: for each position its loss in thousandths of a point, rounded down; -1 where there is no decision, as by margin_judge.
  * numbers (5): the number of positions, the number of decisions at M, the sum of their losses as listed, the same two at N.
  */
 uint64_t margin_report(const uint8_t *file, size_t file_len, uint8_t *kinds, size_t kinds_len, int64_t *losses, size_t losses_len,

@@ -6,19 +6,21 @@ use crate::refusal::{Refusal, answered};
 /// What there is to say of the play made at the root.
 #[derive(Clone, Copy, Debug, PartialEq, Eq)]
 pub enum Judgement {
-    /// The root is a choice of MAX or MIN.
+    /// MAX or MIN has a choice: two plays or more.
     Loss {
         /// What the play loses against the best, in grains.
         grains: i64,
         /// How many plays are level with the best: they lose less than a point.
         level: usize,
     },
-    /// Nobody chooses at a C or L root.
+    /// Nobody chooses at a C or L root, and where an M or N root has a single child
+    /// the play is forced.
     NoDecision,
 }
 
 /// Judges the play of the root child with this number, counted from 1 in the order
-/// of the lines. Refuses 1 to 10, and 14 where an M or N root has no such child.
+/// of the lines. Refuses 1 to 10, and 14 where an M or N root with two children or
+/// more has no such child.
 ///
 /// ```
 /// use margin_engine::{Judgement, judge};
@@ -27,6 +29,10 @@ pub enum Judgement {
 /// // The roll is worth 3.5 points, and the sure play 5.
 /// assert_eq!(judge(&text, 2)?, Judgement::Loss { grains: 6, level: 1 });
 /// assert_eq!(judge(&text, 3).unwrap_err().number, 14);
+///
+/// // The roll alone: it must be played, so there is nothing to judge.
+/// let text = std::fs::read("../examples/forced.txt")?;
+/// assert_eq!(judge(&text, 3)?, Judgement::NoDecision);
 /// # Ok::<(), Box<dyn std::error::Error>>(())
 /// ```
 pub fn judge(text: &[u8], number: i64) -> Result<Judgement, Refusal> {

@@ -146,9 +146,8 @@ pub fn exact_worth(text: &[u8], numbers: &mut [i64]) -> u64 {
     }
 }
 
-/// Judges the play of the root child with this number, from 1. `numbers`: at an M
-/// or N root 1, the loss in grains, the number of level children; at a C or L root
-/// a 0 alone.
+/// Judges the play of the root child with this number, from 1. `numbers`: 1, the loss
+/// in grains, the number of level children; or a 0 alone where there is no decision.
 pub fn judge(text: &[u8], number: i64, numbers: &mut [u64]) -> u64 {
     unsafe {
         abi::margin_judge(

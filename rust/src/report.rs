@@ -40,7 +40,8 @@ pub struct Position {
 pub enum Loss {
     /// Thousandths of a point, rounded down.
     Thousandths(i64),
-    /// Nobody chooses at a C or L root.
+    /// As in [`Judgement::NoDecision`](crate::Judgement::NoDecision): a C or L root,
+    /// or a forced play.
     NoDecision,
 }
 

@@ -88,7 +88,7 @@ pub fn formed(answer: &dyn Answer, tsv: bool) -> Vec<u8> {
     page.into_bytes()
 }
 
-/// The play that a verb speaks of.
+/// The play that a verb speaks of; in judging none where there is no decision.
 struct Played {
     play: Play,
     /// The root's kind, which says why there is no play where there is none.
@@ -107,11 +107,13 @@ impl Played {
                 page.named("play", format_args!("{number}, node {node}"));
             }
             Play::None => {
-                let root = match self.root {
-                    Kind::Leaf => "an L",
-                    _ => "a C",
+                let why = match self.root {
+                    Kind::Chance => "nobody chooses at a C root",
+                    Kind::Leaf => "nobody chooses at an L root",
+                    // In judging alone: a search names it.
+                    Kind::Max | Kind::Min => "forced, node 1 is the only play",
                 };
-                page.named("play", format_args!("none: nobody chooses at {root} root"));
+                page.named("play", format_args!("none: {why}"));
             }
         }
     }

@@ -22,9 +22,10 @@ pub const VERB: Verb = Verb {
     more: &["\
 A match is positions one after another: each a play number in 4 columns and a
 newline, then a table. A position's loss is in points, rounded down to a
-thousandth; `no decision` is a C or L root. At the end, for MAX (M) and MIN (N):
-how many decisions, the sum of the listed losses, and the average. Several files
-each get their own, and at the end one line over all.
+thousandth; `no decision` is a C or L root, or one with a single play, which is
+forced. At the end, for MAX (M) and MIN (N): how many decisions, the sum of the
+listed losses, and the average. Several files each get their own, and at the end
+one line over all.
 "],
     ask: |words| words.about_matches(),
 };
