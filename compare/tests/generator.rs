@@ -3,7 +3,7 @@
 //! were.
 
 use compare::hold::best_plays;
-use compare::hold::seen::Seen;
+use compare::hold::seen::{Seen, ROOTS, SIDES};
 use compare::random::{seed, Random};
 use compare::second::{self, root_children, Kind, Table, MOST_CHANCES, MOST_TOTAL};
 use compare::texts::examples::escaped;
@@ -75,8 +75,8 @@ fn broken_knob(knobs: &Knobs, table: &Table) -> Option<&'static str> {
     let fewer = knobs.stops > 0 || knobs.weights == Weights::Dice;
     let nodes = table.nodes.len();
     let ends = (table.lowest, table.highest);
-    let decision = matches!(table.nodes[0].kind, Kind::Max | Kind::Min);
-    let forced = !decision || root_children(table) == 1;
+    let side = matches!(table.nodes[0].kind, Kind::Max | Kind::Min);
+    let forced = !side || root_children(table) == 1;
     let knobs_and_tables = [
         (
             "nodes",
@@ -233,6 +233,25 @@ fn knobs_move_what_they_should() {
         seen.count_chances(&make(Knobs::dice));
     }
     seen.demand(150);
+}
+
+/// Plays of every kind are forced on M and on N.
+#[test]
+fn forced_plays_are_of_every_kind() {
+    let mut seen = Seen::default();
+    for number in 0..5_000 {
+        let mut random = Random::of_case(seed(), number);
+        let text = texts::make(Knobs::forced, &mut random);
+        let table = second::read(&text).expect("valid");
+        assert_eq!(root_children(&table), 1);
+        for side in SIDES {
+            for play in ROOTS {
+                let is_one = (table.nodes[0].kind, table.nodes[1].kind) == (side, play);
+                seen.count(&format!("{play:?} forced on {side:?}"), is_one);
+            }
+        }
+    }
+    seen.demand(100);
 }
 
 /// The benchmark's figures are compared with those of earlier runs, so every byte

@@ -1,13 +1,15 @@
-//! Judging, held to the second engine and to document 01's tables.
+//! Judging, held to the second engine and to judgements that are known.
 //!
 //! The environment variable SEED sets the seed of the random texts, CASES their
 //! number.
 
 use compare::hold::judging::{hold_to, Comparison};
 use compare::hold::numbers::ROOM;
-use compare::hold::tally::OF_TABLES;
+use compare::hold::tally::{say, OF_TABLES};
 use compare::random::{number_from_environment, seed, Random};
-use compare::second::{self, root_children, Judgement, Node, Refusal, FARTHEST_END, MOST_NODES};
+use compare::second::{
+    self, root_children, Judgement, Kind, Node, Refusal, FARTHEST_END, MOST_NODES,
+};
 use compare::texts::examples::*;
 use compare::texts::knobs::Knobs;
 use compare::texts::small::{for_each, six_nodes};
@@ -46,6 +48,7 @@ fn plays(random: &mut Random, children: usize) -> Vec<i64> {
 fn random_texts() {
     let mut comparison = Comparison::new("judging on random texts");
     let cases = number_from_environment("CASES", 125_000);
+    let mut tables = 0;
     for number in 0..cases {
         let mut random = Random::of_case(comparison.tally.seed, number);
         let text = match number % 10 {
@@ -54,7 +57,7 @@ fn random_texts() {
             9 => texts::make(Knobs::forced, &mut random),
             _ => texts::case(&mut random).text,
         };
-        let _ = comparison.hold(&text, |children| match children {
+        let table = comparison.hold(&text, |children| match children {
             Some(children) => plays(&mut random, children),
             // The refusal is the same for every number, so two will do.
             None => vec![
@@ -62,11 +65,25 @@ fn random_texts() {
                 random.bits() as i64,
             ],
         });
+        tables += u64::from(table.is_ok());
     }
     comparison.tally.report();
     comparison.seen.demand(100);
     comparison.tally.demand(&OF_TABLES);
     comparison.tally.demand(&[14]);
+    demand_forced(&comparison, tables);
+}
+
+/// Says how many of the accepted tables have a root M or N with one child, and
+/// fails the test where they are less than a tenth.
+fn demand_forced(comparison: &Comparison, tables: u64) {
+    let roots = ["root Max with one child", "root Min with one child"];
+    let forced: u64 = roots.map(|root| comparison.seen.of(root)).iter().sum();
+    let share = 100.0 * forced as f64 / tables as f64;
+    say(&format!(
+        "forced plays: {forced} of {tables} accepted tables, {share:.1} %"
+    ));
+    assert!(10 * forced >= tables, "too few forced plays");
 }
 
 // ---------------------------------------------------------------------------
@@ -173,17 +190,25 @@ fn largest_tables() {
 }
 
 // ---------------------------------------------------------------------------
-// Document 01's tables
+// Judgements that are known
 // ---------------------------------------------------------------------------
 
-/// Texts, each with a number and its judgement.
-fn known() -> Vec<(Vec<u8>, i64, Result<Judgement, Refusal>)> {
-    let loss = |grains, level| Ok(Judgement::Loss { grains, level });
-    let none = Ok(Judgement::NoDecision);
-    let no_such = Err(Refusal {
-        number: 14,
-        line: 0,
-    });
+/// A text, a number and its judgement.
+type Known = (Vec<u8>, i64, Result<Judgement, Refusal>);
+
+const NONE: Result<Judgement, Refusal> = Ok(Judgement::NoDecision);
+
+const NO_SUCH: Result<Judgement, Refusal> = Err(Refusal {
+    number: 14,
+    line: 0,
+});
+
+fn loss(grains: i64, level: usize) -> Result<Judgement, Refusal> {
+    Ok(Judgement::Loss { grains, level })
+}
+
+/// Document 01's tables, then those with one play or two.
+fn known() -> Vec<Known> {
     let mut known = vec![
         // A's second N is worth 2, a whole point less than the first.
         (dotted(TABLE_A), 1, loss(0, 1)),
@@ -199,14 +224,48 @@ fn known() -> Vec<(Vec<u8>, i64, Result<Judgement, Refusal>)> {
         known.push((dotted(table), 1, loss(0, 1)));
         known.push((dotted(table), 2, loss(6, 1)));
         for number in [0, -1, 3, 4, 5, i64::MIN, i64::MAX] {
-            known.push((dotted(table), number, no_such));
+            known.push((dotted(table), number, NO_SUCH));
         }
     }
     for number in [0, 1, 2, 3, -1, i64::MIN, i64::MAX] {
-        known.push((dotted(LONE_LEAF), number, none));
-        known.push((table_b_under_chance(), number, none));
+        known.push((dotted(LONE_LEAF), number, NONE));
+        known.push((table_b_under_chance(), number, NONE));
     }
+    known.extend(forced());
+    known.extend(least_choices());
     known
+}
+
+/// One play at a root M or N is no decision, whatever stands under it and
+/// whatever the number (document 02, Item 2).
+fn forced() -> Vec<Known> {
+    let mut forced = Vec::new();
+    for table in [FORCED_LEAF, FORCED_CHANCE, FORCED_MIN] {
+        for root in ['M', 'N'] {
+            for number in [1, 0, 2, 3, -1, i64::MIN, i64::MAX] {
+                forced.push((with_root(table, root), number, NONE));
+            }
+        }
+    }
+    forced
+}
+
+/// Two plays are a choice, and other numbers are refused (document 02, Item 2).
+fn least_choices() -> Vec<Known> {
+    let mut choices = Vec::new();
+    // The leaves are worth 4 and 7; the C is worth 14 grains, and the leaf on the
+    // last line 20. So M loses by the first play, N by the second.
+    for (table, lost) in [(TWO_LEAVES, 3), (LAST_LINE, 6)] {
+        for (root, losses) in [('M', [lost, 0]), ('N', [0, lost])] {
+            for (number, grains) in (1..).zip(losses) {
+                choices.push((with_root(table, root), number, loss(grains, 1)));
+            }
+            for number in [0, 3, -1, i64::MIN, i64::MAX] {
+                choices.push((with_root(table, root), number, NO_SUCH));
+            }
+        }
+    }
+    choices
 }
 
 #[test]
@@ -219,16 +278,17 @@ fn second_engine_has_the_known_judgements() {
 
 /// A play without loss is among those of every root where there is a choice,
 /// and the level plays are as many as the children whose worths are less than a
-/// point from the root's.
+/// point from the root's. A forced play has no loss.
 #[test]
 fn second_engine_counts_the_level_plays() {
-    let mut roots = 0;
+    let (mut roots, mut forced) = (0, 0);
     for number in 0..2_000 {
         let mut random = Random::of_case(seed(), number);
         let Ok(table) = second::read(&texts::case(&mut random).text) else {
             continue;
         };
-        let losses: Vec<(i64, usize)> = (1..=root_children(&table) as i64)
+        let children = root_children(&table);
+        let losses: Vec<(i64, usize)> = (1..=children as i64)
             .filter_map(|number| match second::judge(&table, number) {
                 Ok(Judgement::Loss { grains, level }) => Some((grains, level)),
                 other => {
@@ -237,9 +297,13 @@ fn second_engine_counts_the_level_plays() {
                 }
             })
             .collect();
-        if losses.is_empty() {
+        let side = matches!(table.nodes[0].kind, Kind::Max | Kind::Min);
+        if !side || children == 1 {
+            assert_eq!(losses, []);
+            forced += u32::from(side);
             continue;
         }
+        assert_eq!(losses.len(), children);
         roots += 1;
         let worths = second::worths(&table);
         let close = |(node, worth): &(&Node, &i64)| {
@@ -250,6 +314,7 @@ fn second_engine_counts_the_level_plays() {
         assert!(losses.iter().all(|(_, level)| *level == close));
     }
     assert!(roots >= 100, "only {roots} roots");
+    assert!(forced >= 100, "only {forced} forced plays");
 }
 
 /// The known judgements and the refused examples, given to both engines; the

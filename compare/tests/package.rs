@@ -7,11 +7,11 @@
 
 use std::fmt::Debug;
 
-use compare::hold::seen::{Seen, ROOTS};
+use compare::hold::seen::{Seen, ROOTS, SIDES};
 use compare::hold::tally::{Tally, OF_TABLES};
 use compare::hold::{code, span};
 use compare::random::{number_from_environment, Random};
-use compare::second::{self, root_children, Bounds, Refusal, Stop, Table, PLAY_LINE};
+use compare::second::{self, root_children, Bounds, Entry, Refusal, Stop, Table, PLAY_LINE};
 use compare::texts::examples::escaped;
 use compare::texts::knobs::Knobs;
 use compare::texts::{self, matches};
@@ -192,7 +192,10 @@ fn typed_calls() {
         let table = second::read(&text).ok();
         let children = table.as_ref().map_or(0, root_children) as i64;
         let span = table.as_ref().map_or(0, span);
-        let number = random.between(0, children + 1);
+        let number = match random.below(8) {
+            0 => random.pick(&[-1, i64::MIN, i64::MAX]),
+            _ => random.between(0, children + 1),
+        };
         let margin = random.pick(&[-1, 0, 1, span / 10, span / 2, span]);
         let policy: Vec<u8> = (0..random.below(40)).map(|_| random.bits() as u8).collect();
         let codes = hold(&text, number, margin, &policy, &tally.place());
@@ -201,6 +204,9 @@ fn typed_calls() {
             seen.count_root(&ROOTS, table);
             seen.count_table(table);
             seen.count_chances(table);
+            if second::judge(table, number) == Ok(second::Judgement::NoDecision) {
+                seen.count_forced(table, &[number]);
+            }
         }
     }
     tally.report();
@@ -261,6 +267,7 @@ fn hold_places(file: &[u8], position: usize) {
 #[test]
 fn typed_report() {
     let mut tally = Tally::new("the package's typed report");
+    let mut seen = Seen::default();
     for case in 0..15_000 {
         let mut random = Random::of_case(tally.seed, case);
         let file = matches::case(&mut random);
@@ -269,11 +276,23 @@ fn typed_report() {
         if let Err((_, _, position)) = expected {
             hold_places(&file, position);
         }
+        count_forced(&mut seen, &file);
         tally.add(&[expected.err().map_or(0, |(number, ..)| u64::from(number))]);
     }
     tally.report();
+    seen.demand(100);
     tally.demand_refusals(&[2, 3, 4, 5, 6, 7, 8, 9, 10, 14, 15, 16]);
     assert!(tally.counts[0] >= 1_000, "too few reports");
+}
+
+/// Counts the reports where a root M or N is listed as "no decision".
+fn count_forced(seen: &mut Seen, file: &[u8]) {
+    let entries = second::report(file, usize::MAX).map_or(vec![], |report| report.entries);
+    for root in SIDES {
+        let forced = Entry { root, loss: None };
+        let sort = format!("a forced play at {root:?}");
+        seen.count(&sort, entries.contains(&forced));
+    }
 }
 
 // ---------------------------------------------------------------------------

@@ -43,6 +43,7 @@ fn random_files() {
     assert!(tally.cases >= 20_000, "only {} files", tally.cases);
     comparison.accepted.demand(50);
     comparison.refused.demand(50);
+    comparison.forced.demand(100);
     tally.demand_refusals(&REFUSALS);
     for (number, count) in tally.counts.iter().enumerate().skip(1) {
         let given = REFUSALS.contains(&number);
@@ -250,13 +251,13 @@ fn hold_known(tally: &mut Tally, file: &[u8], lent: Lent, expected: &Result<Repo
     tally.add(&[code(expected)]);
 }
 
-/// The report with these entries; a side's total is taken from them.
+/// The report with these entries; a side's total is taken from those with a loss.
 fn report_of(entries: &[Entry]) -> Report {
     let mut report = Report::default();
     let sides = [(Kind::Max, &mut report.max), (Kind::Min, &mut report.min)];
     for (kind, total) in sides {
         let here = entries.iter().filter(|entry| entry.root == kind);
-        let losses: Vec<i64> = here.map(|entry| entry.loss.expect("a loss")).collect();
+        let losses: Vec<i64> = here.filter_map(|entry| entry.loss).collect();
         total.decisions = losses.len() as i64;
         total.sum = losses.iter().sum();
     }
@@ -278,7 +279,8 @@ fn no_decision(root: Kind) -> Entry {
     Entry { root, loss: None }
 }
 
-/// Positions of document 01's tables, each with its entry.
+/// Positions of document 01's tables and two with a forced play, each with its
+/// entry.
 fn known() -> Vec<(Position, Entry)> {
     let chance = Position::new(9_999, table_b_under_chance());
     let at = |play, table: &str| Position::new(play, dotted(table));
@@ -292,7 +294,14 @@ fn known() -> Vec<(Position, Entry)> {
         (at(0, LONE_LEAF), no_decision(Kind::Leaf)),
         (at(-999, LONE_LEAF), no_decision(Kind::Leaf)),
         (chance, no_decision(Kind::Chance)),
+        (forced_at('M', 0), no_decision(Kind::Max)),
+        (forced_at('N', 2), no_decision(Kind::Min)),
     ]
+}
+
+/// A position with one child at a root of this kind, and this play number.
+fn forced_at(root: char, play: i64) -> Position {
+    Position::new(play, with_root(FORCED_CHANCE, root))
 }
 
 /// Every two of the known positions, with every room for the numbers; and all of
@@ -320,11 +329,41 @@ fn known_positions() {
     }
     let (positions, entries): (Vec<_>, Vec<_>) = known.into_iter().unzip();
     let report = report_of(&entries);
-    assert_eq!(numbers(&report), [9, 4, 2_500, 2, 1_500]);
+    assert_eq!(numbers(&report), [11, 4, 2_500, 2, 1_500]);
     let lent = Lent::lists(entries.len());
     hold_known(&mut tally, &file(&positions), lent, &Ok(report));
     // Nothing lent and nothing in the file.
     hold_known(&mut tally, b"", Lent::lists(0), &Ok(Report::default()));
+    tally.report();
+}
+
+/// A forced play of either side between two decisions counts for neither side,
+/// whatever its number (document 02, Item 2).
+#[test]
+fn a_forced_play_between_decisions() {
+    let mut tally = Tally::new("reports of a forced play between decisions");
+    let first = |table: &str| Position::new(2, dotted(table));
+    let last = |play, root| Position::new(play, with_root(TWO_LEAVES, root));
+    let decisions = [
+        (Kind::Max, first(TABLE_B), last(1, 'M'), [3, 2, 4_500, 0, 0]),
+        (
+            Kind::Min,
+            first(TABLE_B_TURNED),
+            last(2, 'N'),
+            [3, 0, 0, 2, 4_500],
+        ),
+    ];
+    for (kind, first, last, totals) in decisions {
+        for (root, forced) in [('M', Kind::Max), ('N', Kind::Min)] {
+            for play in [1, 0, 2, -1, -999, 9_999] {
+                let file = file(&[first.clone(), forced_at(root, play), last.clone()]);
+                let entries = [lost(kind, 1_500), no_decision(forced), lost(kind, 3_000)];
+                let report = report_of(&entries);
+                assert_eq!(numbers(&report), totals);
+                hold_known(&mut tally, &file, Lent::lists(3), &Ok(report));
+            }
+        }
+    }
     tally.report();
 }
 
@@ -352,7 +391,8 @@ fn every_cut() {
     assert_eq!((tally.counts[0], tally.cases), (4, whole.len() as u64 + 1));
 }
 
-/// Every play number in table B, where two are a child's.
+/// Every play number in table B, where two are a child's, and where the play is
+/// forced.
 #[test]
 fn every_play_number() {
     let mut tally = Tally::new("reports of every play number");
@@ -364,6 +404,11 @@ fn every_play_number() {
         };
         let file = file(&[Position::new(play, dotted(TABLE_B))]);
         hold_known(&mut tally, &file, Lent::lists(1), &expected);
+        for (root, kind) in [('M', Kind::Max), ('N', Kind::Min)] {
+            let file = matches::file(&[forced_at(root, play)]);
+            let expected = Ok(report_of(&[no_decision(kind)]));
+            hold_known(&mut tally, &file, Lent::lists(1), &expected);
+        }
     }
     tally.report();
 }

@@ -117,12 +117,13 @@ fn worth(sorts: &[Sort]) {
 
 fn judging(sorts: &[Sort]) {
     println!();
-    println!("Judging from the text, where the second child of the root is played, or the only");
-    println!("one. The second engine reads the table, then judges.");
+    println!("Judging from the text, where the second child of the root is played. The second");
+    println!("engine reads the table, then judges. A single path is a forced play, which is not");
+    println!("judged: the growth of the deep ones is over that with 256 lines.");
     println!();
     let mut numbers = [0; 3];
     measure(
-        sorts,
+        sorts.iter().filter(|sort| sort.played == 2),
         |sort, text| {
             let numbers = black_box(&mut numbers);
             black_box(raw::judge(black_box(text), sort.played, numbers));
@@ -356,13 +357,13 @@ fn check_rollouts(sorts: &[Sort]) {
 }
 
 /// Times a call of each engine on all texts, and prints the times.
-fn measure(
-    sorts: &[Sort],
+fn measure<'a>(
+    sorts: impl IntoIterator<Item = &'a Sort>,
     mut proved: impl FnMut(&Sort, &[u8]),
     mut second: impl FnMut(&Sort, &[u8]),
 ) {
     let mut cases: Vec<Case> = sorts
-        .iter()
+        .into_iter()
         .map(|sort| Case::new(sort, &mut proved, &mut second))
         .collect();
 
@@ -426,7 +427,7 @@ fn print(cases: &[Case]) {
         "{:<8}{:>6}  {:>10}{:>10}  {:>9}{:>9}  {:>8}  {:>8}{:>8}",
         "shape", "lines", "ns/call", "ns/call", "ns/line", "ns/line", "second", "growth", "growth"
     );
-    for sizes in cases.chunks(SIZES.len()) {
+    for sizes in cases.chunk_by(|one, next| one.sort.shape == next.sort.shape) {
         let per_line = |case: &Case| {
             let lines = case.sort.size as f64;
             (case.proved / lines, case.second / lines)
@@ -470,9 +471,9 @@ struct Match {
 fn reports(seed: u64, shapes: [(&'static str, Shape); 3]) {
     println!();
     println!("The report of a match of {POSITIONS} positions with {MATCH_LINES} node lines each, where the");
-    println!("second child of the root is played, or the only one. Judging is a call of the");
-    println!("proved engine for each of its tables. The lists are allocated outside of the");
-    println!("timing; the second engine allocates its tables and lists in each call.");
+    println!("second child of the root is played. Judging is a call of the proved engine for");
+    println!("each of its tables. The lists are allocated outside of the timing; the second");
+    println!("engine allocates its tables and lists in each call.");
     println!();
     let mut matches = shapes.map(|(shape, knobs)| Match::new(shape, &knobs(MATCH_LINES), seed));
     for round in 0..ROUNDS {
@@ -506,7 +507,8 @@ impl Match {
             let text = knobs.text(&mut random);
             let table = second::read(&text).expect("a valid table");
             assert_eq!(table.nodes.len(), MATCH_LINES);
-            Position::new(root_children(&table).min(2) as i64, text)
+            assert!(root_children(&table) >= 2, "a choice");
+            Position::new(2, text)
         });
         let positions: Vec<Position> = positions.collect();
         let made = Match {

@@ -3,7 +3,7 @@
 
 use super::code;
 use super::numbers::{agree, ROOM};
-use super::seen::{Seen, ROOTS};
+use super::seen::{Seen, ROOTS, SIDES};
 use super::tally::Tally;
 use crate::engine;
 use crate::second::{self, root_children, Judgement, Kind, Refusal, Table};
@@ -34,29 +34,32 @@ impl Comparison {
     ) -> Result<Table, Refusal> {
         let table = second::read(text);
         let plays = plays(table.as_ref().ok().map(root_children));
-        let mut codes = Vec::with_capacity(plays.len());
+        let mut answers = Vec::with_capacity(plays.len());
         for number in plays {
             let answer = match &table {
                 Ok(table) => second::judge(table, number),
                 Err(refusal) => Err(*refusal),
             };
             hold_to(&self.tally, text, number, ROOM, &answer);
-            let turn = (self.tally.cases as usize + codes.len()) % 8;
+            let turn = (self.tally.cases as usize + answers.len()) % 8;
             if turn <= 3 {
                 hold_to(&self.tally, text, number, turn, &answer);
             }
-            codes.push(code(&answer));
-            if let (Ok(table), Ok(judgement)) = (&table, &answer) {
-                count(&mut self.seen, table, *judgement);
-            }
+            answers.push((number, answer));
         }
+        let codes: Vec<u64> = answers.iter().map(|(_, answer)| code(answer)).collect();
         self.tally.add(&codes);
         if let Ok(table) = &table {
             self.seen.count_root(&ROOTS, table);
+            self.seen.count_choice(table);
+            count(&mut self.seen, table, &answers);
         }
         table
     }
 }
+
+/// A number played, and what was answered.
+type Answer = (i64, Result<Judgement, Refusal>);
 
 /// Holds the proved engine to this answer.
 pub fn hold_to(
@@ -77,33 +80,71 @@ pub fn hold_to(
     });
 }
 
-/// Counts what a judgement is like.
-fn count(seen: &mut Seen, table: &Table, judgement: Judgement) {
-    let point = table.grains;
-    let children = root_children(table);
-    let (decision, grains, level) = match judgement {
-        Judgement::Loss { grains, level } => {
-            assert!(grains >= 0, "a play lost {grains}");
-            assert!((1..=children).contains(&level), "{level} of {children}");
-            (true, grains, level)
+/// Counts what the answers for a table are like: "no decision" at a root C or L
+/// and where the play is forced (document 02, Item 2), and nowhere else.
+fn count(seen: &mut Seen, table: &Table, answers: &[Answer]) {
+    let (mut none, mut losses, mut refused) = (Vec::new(), Vec::new(), 0);
+    for &(number, answer) in answers {
+        match answer {
+            Ok(Judgement::NoDecision) => none.push(number),
+            Ok(Judgement::Loss { grains, level }) => losses.push((grains, level)),
+            Err(refusal) => {
+                assert_eq!((refusal.number, refusal.line), (14, 0));
+                refused += 1;
+            }
         }
-        Judgement::NoDecision => (false, 0, 0),
-    };
-    seen.count("no decision", !decision);
-    for kind in [Kind::Max, Kind::Min] {
-        let here = decision && table.nodes[0].kind == kind;
-        let mut count = |sort: &str, is_one: bool| {
-            seen.count(&format!("{sort} at {kind:?}"), here && is_one);
-        };
-        count("no loss", grains == 0);
-        count("less than a point lost", 0 < grains && grains < point);
-        count("a point lost", grains == point);
-        count("more lost", grains > point);
-        count("a forced play", children == 1);
     }
-    let fine = grains == point && point > 1;
-    seen.count("a point of several grains lost", fine);
-    seen.count("one child level", level == 1);
-    seen.count("several level, not all", 1 < level && level < children);
-    seen.count("all of several level", 1 < level && level == children);
+    let (root, children) = (table.nodes[0].kind, root_children(table));
+    let choice = SIDES.contains(&root) && children > 1;
+    let expected = if choice { 0 } else { answers.len() };
+    assert_eq!(none.len(), expected, "{root:?} with {children} children");
+
+    for kind in [Kind::Chance, Kind::Leaf] {
+        let found = if root == kind { none.len() } else { 0 };
+        seen.add(&format!("no decision at {kind:?}"), found as u64);
+    }
+    seen.count_forced(table, &none);
+    for kind in SIDES {
+        let here = root == kind && children == 2;
+        let found = if here { refused } else { 0 };
+        seen.add(&format!("14 at {kind:?} with two children"), found);
+    }
+    count_losses(seen, table, &losses);
+}
+
+/// Counts what losses are like, each with its number of level children.
+fn count_losses(seen: &mut Seen, table: &Table, losses: &[(i64, usize)]) {
+    let (point, children) = (table.grains, root_children(table));
+    for (grains, level) in losses {
+        assert!(*grains >= 0, "a play lost {grains}");
+        assert!((1..=children).contains(level), "{level} of {children}");
+    }
+    let lost = |least, most| {
+        let range = least..=most;
+        let found = losses.iter().filter(|(grains, _)| range.contains(grains));
+        found.count() as u64
+    };
+    for kind in SIDES {
+        let here = table.nodes[0].kind == kind;
+        let mut add = |sort: &str, found| {
+            let found = if here { found } else { 0 };
+            seen.add(&format!("{sort} at {kind:?}"), found);
+        };
+        add("no loss", lost(0, 0));
+        add("less than a point lost", lost(1, point - 1));
+        add("a point lost", lost(point, point));
+        add("more lost", lost(point + 1, i64::MAX));
+    }
+    let fine = if point > 1 { lost(point, point) } else { 0 };
+    seen.add("a point of several grains lost", fine);
+
+    let mut levels = |sort: &str, is_one: &dyn Fn(usize) -> bool| {
+        let found = losses.iter().filter(|(_, level)| is_one(*level));
+        seen.add(sort, found.count() as u64);
+    };
+    levels("one child level", &|level| level == 1);
+    levels("several level, not all", &|level| {
+        1 < level && level < children
+    });
+    levels("all level", &|level| level == children);
 }

@@ -3,11 +3,12 @@
 
 use super::kind_number;
 use super::numbers::{agree, ROOM};
-use super::seen::{Seen, ROOTS};
+use super::seen::{Seen, ROOTS, SIDES};
 use super::tally::Tally;
 use crate::engine;
 use crate::second::{
-    self, Entry, Refusal, Report, Stop, LINE, MOST_NODES, MOST_POSITIONS, PLAY_LINE,
+    self, root_children, Entry, Kind, Position, Refusal, Report, Stop, LINE, MOST_NODES,
+    MOST_POSITIONS, PLAY_LINE,
 };
 use crate::texts::examples::escaped;
 
@@ -111,6 +112,8 @@ pub struct Comparison {
     /// files were like.
     pub accepted: Seen,
     pub refused: Seen,
+    /// What the forced plays of accepted files were like.
+    pub forced: Seen,
     /// Files compared so far; it sets the lengths lent next.
     turn: usize,
 }
@@ -121,6 +124,7 @@ impl Comparison {
             tally: Tally::new(name),
             accepted: Seen::default(),
             refused: Seen::default(),
+            forced: Seen::default(),
             turn: 0,
         }
     }
@@ -142,7 +146,10 @@ impl Comparison {
         }
         self.tally.add(&codes);
         match &answer {
-            Ok(report) => count_report(&mut self.accepted, report),
+            Ok(report) => {
+                count_report(&mut self.accepted, report);
+                count_forced(&mut self.forced, file, report);
+            }
             Err(stop) => count_stop(&mut self.refused, file, *stop),
         }
         answer
@@ -232,6 +239,28 @@ fn count_report(seen: &mut Seen, report: &Report) {
     seen.count("other sums at M and N", both && max.sum != min.sum);
 }
 
+/// Counts the forced plays, which are listed as "no decision" (document 02, Item
+/// 2), and the reports that have some beside decisions of the same side.
+fn count_forced(seen: &mut Seen, file: &[u8], report: &Report) {
+    for (kind, total) in [(Kind::Max, report.max), (Kind::Min, report.min)] {
+        let forced = Entry {
+            root: kind,
+            loss: None,
+        };
+        let beside = total.decisions > 0 && report.entries.contains(&forced);
+        let sort = format!("forced plays beside decisions at {kind:?}");
+        seen.count(&sort, beside);
+    }
+    let positions = second::positions(file);
+    for (position, entry) in positions.iter().zip(&report.entries) {
+        if entry.loss.is_none() && SIDES.contains(&entry.root) {
+            let table = second::read(position.text).expect("accepted");
+            assert_eq!(root_children(&table), 1, "no decision");
+            seen.count_forced(&table, &[position.play]);
+        }
+    }
+}
+
 /// Counts where a report stopped, and why.
 fn count_stop(seen: &mut Seen, file: &[u8], stop: Stop) {
     let position = stop.position;
@@ -243,9 +272,23 @@ fn count_stop(seen: &mut Seen, file: &[u8], stop: Stop) {
     let before = positions[..position - 1].iter();
     let start: usize = before.map(|before| PLAY_LINE + before.text.len()).sum();
     let rest = &file[start..];
+    count_fourteen(seen, &positions, stop);
     count_header(seen, rest, stop.refusal);
     count_fifteen(seen, rest, stop.refusal.number == 15);
     count_sixteen(seen, rest, stop.refusal.number == 16);
+}
+
+/// Counts play numbers that were refused at the least choice.
+fn count_fourteen(seen: &mut Seen, positions: &[Position], stop: Stop) {
+    let position = positions.get(stop.position - 1);
+    let refused = position.filter(|_| stop.refusal.number == 14);
+    let table = refused.map(|refused| second::read(refused.text).expect("accepted"));
+    for kind in SIDES {
+        let is_one = table
+            .as_ref()
+            .is_some_and(|table| table.nodes[0].kind == kind && root_children(table) == 2);
+        seen.count(&format!("14 at {kind:?} with two children"), is_one);
+    }
 }
 
 /// Counts refusals of a header, or of the lines after it.

@@ -2,10 +2,28 @@
 //! whose texts were too much alike to mean anything fails.
 
 use super::tally::say;
-use crate::second::{Kind, Table, FARTHEST_END, LONGEST_PATH, MOST_NODES};
+use crate::second::{root_children, Kind, Table, FARTHEST_END, LONGEST_PATH, MOST_NODES};
 
 /// The kinds that a root may have.
 pub const ROOTS: [Kind; 4] = [Kind::Max, Kind::Min, Kind::Chance, Kind::Leaf];
+
+/// The two of them where a side is to play.
+pub const SIDES: [Kind; 2] = [Kind::Max, Kind::Min];
+
+/// A sort of numbers played, and whether a number is one.
+type Numbers = (&'static str, fn(i64) -> bool);
+
+/// Numbers that may be given where the play is forced: the only child's, and
+/// those of no child. No root has so many children that one far off is theirs.
+const FORCED: [Numbers; 5] = [
+    ("the child's number", |number| number == 1),
+    ("number 0", |number| number == 0),
+    ("number 2", |number| number == 2),
+    ("a number below zero", |number| number < 0),
+    ("a number far off", |number| {
+        number.unsigned_abs() > MOST_NODES as u64
+    }),
+];
 
 /// Every sort, by name, and how often it was seen.
 #[derive(Default)]
@@ -87,6 +105,31 @@ impl Seen {
     pub fn count_root(&mut self, kinds: &[Kind], table: &Table) {
         for kind in kinds {
             self.count(&format!("root {kind:?}"), table.nodes[0].kind == *kind);
+        }
+    }
+
+    /// Counts whether a root M or N has one child, so that the play is forced, or
+    /// two, which is the least choice.
+    pub fn count_choice(&mut self, table: &Table) {
+        for kind in SIDES {
+            let here = table.nodes[0].kind == kind;
+            for (sort, children) in [("one child", 1), ("two children", 2)] {
+                let is_one = here && root_children(table) == children;
+                self.count(&format!("root {kind:?} with {sort}"), is_one);
+            }
+        }
+    }
+
+    /// Counts the numbers that were judged "no decision" on a table if its root is
+    /// an M or N with one child.
+    pub fn count_forced(&mut self, table: &Table, numbers: &[i64]) {
+        for kind in SIDES {
+            let here = table.nodes[0].kind == kind && root_children(table) == 1;
+            for (sort, is_one) in FORCED {
+                let found = numbers.iter().filter(|number| here && is_one(**number));
+                let sort = format!("forced at {kind:?}, {sort}");
+                self.add(&sort, found.count() as u64);
+            }
         }
     }
 

@@ -1,23 +1,28 @@
-//! The judgement of the play made at the root: refusal 14.
+//! The judgement of the play made at the root: refusal 14. A forced play is no
+//! decision (document 02, Item 2).
 
 use super::table::*;
 use super::worth::worths;
 
 #[derive(Clone, Copy, Debug, PartialEq, Eq)]
 pub enum Judgement {
-    /// Nobody chooses at the root.
+    /// Nobody chooses at the root: it is a C or L, or has a single child.
     NoDecision,
     /// What the play lost, in grains, and how many plays lose less than a point.
     Loss { grains: i64, level: usize },
 }
 
 /// Judges the play of the root child with this number; the first has number 1.
+/// Where nobody chooses, every number will do.
 pub fn judge(table: &Table, number: i64) -> Result<Judgement, Refusal> {
     let sign = match table.nodes[0].kind {
         Kind::Max => 1,
         Kind::Min => -1,
         Kind::Chance | Kind::Leaf => return Ok(Judgement::NoDecision),
     };
+    if root_children(table) == 1 {
+        return Ok(Judgement::NoDecision);
+    }
 
     let worths = worths(table);
     let losses: Vec<i64> = table

@@ -1,5 +1,6 @@
 //! The report of a match (document 02, Item 1): refusals 11, 15 and 16, besides
-//! those of a table and of judging.
+//! those of a table and of judging. A forced play counts for neither side
+//! (document 02, Item 2).
 
 use super::judge::{judge, Judgement};
 use super::read::{field, read, Header};

@@ -10,7 +10,7 @@ pub const GREATEST_MARGIN: i64 = 40_000_000_000_000;
 pub struct Found {
     pub low: i64,
     pub high: i64,
-    /// The root child to play; none where nobody chooses at the root.
+    /// The root child to play, the only one too; none at a root C or L.
     pub play: Option<usize>,
     /// How many leaves were read. Their node numbers stand first in the list.
     pub read: usize,

@@ -1,5 +1,5 @@
-//! Example texts: document 01's tables, chains, and one table or more for each
-//! refusal.
+//! Example texts: document 01's tables, tables where the play is forced or nearly
+//! so, chains, and one table or more for each refusal.
 
 use crate::second::LINE;
 
@@ -40,6 +40,58 @@ pub const LONE_LEAF: &str = "\
 ...1...1.......7.......7
 ...0.L.................7
 ";
+
+/// A root M whose only child is a leaf.
+pub const FORCED_LEAF: &str = "\
+...2...1.......0......10
+...0.M..................
+...1.L....0............4
+";
+
+/// A root M whose only child is a C; three lines stand under that.
+pub const FORCED_CHANCE: &str = "\
+...5...4.......0.......8
+...0.M..................
+...1.C....0.............
+...2.L....1....1.......5
+...3.L....1....1.......0
+...4.L....1....2.......8
+";
+
+/// A root M whose only child is an N with a choice of its own.
+pub const FORCED_MIN: &str = "\
+...6...1.......0......10
+...0.M..................
+...1.N....0.............
+...2.L....1............3
+...3.M....1.............
+...4.L....3............9
+...5.L....1............5
+";
+
+/// A root M with two leaves: the least choice.
+pub const TWO_LEAVES: &str = "\
+...3...1.......0......10
+...0.M..................
+...1.L....0............4
+...2.L....0............7
+";
+
+/// The two plays of table B the other way round: the last line is all of the
+/// second play.
+pub const LAST_LINE: &str = "\
+...5...4.......0.......8
+...0.M..................
+...1.C....0.............
+...2.L....1....3.......2
+...3.L....1....1.......8
+...4.L....0............5
+";
+
+/// One of these tables with a root of this kind in place of its M.
+pub fn with_root(table: &str, kind: char) -> Vec<u8> {
+    dotted(&table.replacen("...0.M", &format!("...0.{kind}"), 1))
+}
 
 /// The text of a table that is written with dots.
 pub fn dotted(table: &str) -> Vec<u8> {

@@ -3,9 +3,10 @@
 
 use super::{any_number, file, play_line, tiny, whole, whole_of, Position};
 use crate::random::Random;
-use crate::second::{self, root_children, LINE, MOST_POSITIONS, PLAY_LINE};
+use crate::second::{self, root_children, LINE, LONGEST_PATH, MOST_POSITIONS, PLAY_LINE};
 use crate::texts::broken::broken;
 use crate::texts::damage;
+use crate::texts::knobs::{Kinds, Knobs, Shape};
 
 /// A damaged match.
 pub fn damaged(random: &mut Random) -> Vec<u8> {
@@ -62,7 +63,7 @@ type OnPosition = fn(&mut Position, &mut Random);
 
 const ON_POSITION: &[OnPosition] = &[
     no_such_play,
-    no_such_play,
+    neither_play,
     ill_written_play,
     other_newline,
     other_table,
@@ -76,7 +77,8 @@ const ON_POSITION: &[OnPosition] = &[
     table_bytes,
 ];
 
-/// A play number that no child has, or that is a child's if bits are lost.
+/// A play number that no child has, or that is a child's if bits are lost; it is
+/// refused where there is a choice.
 fn no_such_play(position: &mut Position, random: &mut Random) {
     let children = second::read(&position.table).map_or(1, |table| root_children(&table));
     let children = children.max(1) as i64;
@@ -89,6 +91,23 @@ fn no_such_play(position: &mut Position, random: &mut Random) {
         _ => any_number(random),
     };
     position.play = play_line(play);
+}
+
+/// Most often a play number that no child has where the root has two, which is the
+/// least choice.
+fn neither_play(position: &mut Position, random: &mut Random) {
+    *position = super::position(two_plays, random);
+    no_such_play(position, random);
+}
+
+fn two_plays(random: &mut Random) -> Knobs {
+    Knobs {
+        nodes: 3 + random.below(20),
+        root: Kinds::either(0),
+        path: LONGEST_PATH,
+        shape: Shape::Bushy(2, 2),
+        ..Knobs::any(random)
+    }
 }
 
 fn ill_written_play(position: &mut Position, random: &mut Random) {

@@ -67,13 +67,13 @@ pub fn whole_of(count: usize, random: &mut Random) -> Vec<Position> {
 }
 
 /// A position by this setting of the knobs: the play is one of the root's
-/// children, or any number where nobody chooses.
+/// children, or any number where nobody chooses, as at a root with one child.
 pub fn position(setting: fn(&mut Random) -> Knobs, random: &mut Random) -> Position {
     let text = setting(random).text(random);
     let table = second::read(&text).expect("a valid table");
-    let play = match table.nodes[0].kind {
-        Kind::Max | Kind::Min => random.between(1, root_children(&table) as i64),
-        Kind::Chance | Kind::Leaf => any_number(random),
+    let play = match (table.nodes[0].kind, root_children(&table)) {
+        (Kind::Chance | Kind::Leaf, _) | (_, 1) => any_number(random),
+        (Kind::Max | Kind::Min, children) => random.between(1, children as i64),
     };
     Position::new(play, text)
 }
