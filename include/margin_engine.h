@@ -65,9 +65,10 @@ uint64_t margin_worth(const uint8_t *text, size_t text_len, int64_t *numbers, si
  * Judges the play of root child `number`, counted from 1. Refuses 1 to 10, and 14 where an M or N root with two children or more has no
  * such child.
  *
- * numbers (3 or 1), without sign: at an M or N root with two children or more 1, the loss, the number of level children; elsewhere there is
- * no decision, for every `number`, and 0 alone is written: nobody chooses at a C or L root, and a single play is forced. The loss is the root's worth minus the child's at M, the child's minus the root's at N. A child is level with the best where its
- * loss is less than one point, G grains (margin_worth tells G).
+ * numbers (3 or 1), without sign: 1, the loss and the number of level children, at an M or N root with two children or more; elsewhere 0
+ * alone, for every `number`, as there is no decision: nobody chooses at a C or L root, and a single play is forced. The loss is the root's
+ * worth minus the child's at M, the child's minus the root's at N. A child is level with the best where its loss is less than one point, G
+ * grains (margin_worth tells G).
  */
 uint64_t margin_judge(const uint8_t *text, size_t text_len, int64_t number, uint64_t *numbers, size_t numbers_len);
 
@@ -115,7 +116,8 @@ uint64_t margin_rollout(const uint8_t *text, size_t text_len, const uint8_t *pol
 /*
  * The report on a match file: positions one after another, each a play number in 4 columns and a newline, and then a table as long as its
  * header's count says. Each play is judged as by margin_judge. Refuses with the position's number, from 1: 15 where a position begins after
- * 500, 16 where a play-number line is ill-written or the file ends in a position, 2 to 10 for its table, 14 as margin_judge does. At the end 11, with position 0, where `kinds` or `losses` has fewer entries than there are positions.
+ * 500, 16 where a play-number line is ill-written or the file ends in a position, 2 to 10 for its table, 14 as margin_judge does. At the end
+ * 11, with position 0, where `kinds` or `losses` has fewer entries than there are positions.
  *
  * kinds: for each position the kind of its root, as in margin_read.
  * losses: for each position its loss in thousandths of a point, rounded down; -1 where there is no decision, as by margin_judge.

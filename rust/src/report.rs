@@ -26,8 +26,8 @@ pub struct Report {
 pub struct Position {
     /// Who moves at the root.
     pub kind: Kind,
-    /// The play number, which counts the root's children from 1. At a C or L root any
-    /// number may stand.
+    /// The play number, which counts the root's children from 1. Where there is no
+    /// decision any number may stand.
     pub play: i64,
     /// What the play loses.
     pub loss: Loss,

@@ -46,7 +46,7 @@ pub extern "C" fn margin_worth(text: &[u8], numbers: &mut [i64]) -> u64
 }
 
 // Root child `number`, counted from 1, judged: 1, the loss in grains and the number of level children go to `numbers`, or 0 alone
-// where there is no decision. Where the table is refused, or there is no such child, nothing is written.
+// where there is no decision. Where the call is refused, nothing is written.
 #[no_mangle]
 pub extern "C" fn margin_judge(text: &[u8], number: i64, numbers: &mut [u64]) -> u64
     ensures code { λ r. ⌜ r ≡ judgeCode (judgeCall (readText (now (text .entry))) number) ⌝ }

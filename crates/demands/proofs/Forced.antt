@@ -31,13 +31,13 @@ use Rattle.report.specs.Files.{listedTotal}
 use Rattle.report.proofs.Rows.{totals-listed}
 use Rattle.report.proofs.Decisions.{decisions-are}
 use Rattle.report_call.specs.Call.{reportKinds, reportLosses}
-use Rattle.demands.specs.Forced.{ForcedUndecided, ChoiceAsBefore, FourteenNeeds, StillNamed, CountsFollow}
-use Rattle.demands.proofs.Matches.{lists-sum}
+use Rattle.demands.specs.Forced.{ForcedNoDecision, ChoiceAsBefore, FourteenNeeds, StillNamed, CountsFollow}
+use Rattle.demands.proofs.Matches.{totals-summed}
 
 -- ---- judging
 
-pub forced-undecided : ForcedUndecided
-forced-undecided s t i p one = ap (λ (v : Verdict Table). judgeCall v i) p ∙ ap judgeAnswer (forced-judged t i one)
+pub forced-no-decision : ForcedNoDecision
+forced-no-decision s t i p one = ap (λ (v : Verdict Table). judgeCall v i) p ∙ ap judgeAnswer (forced-judged t i one)
 
 pub choice-as-before : ChoiceAsBefore
 choice-as-before s t i p h = ap (λ (v : Verdict Table). judgeCall v i) p ∙ ap judgeAnswer (choice-judged t i h)
@@ -94,7 +94,7 @@ still-named s t m room b side p root one e =
 
 pub counts-follow : CountsFollow
 counts-follow file kinds losses t e E =
-    let (m, ms, n, ns) = lists-sum file kinds losses t e in
+    let (m, ms, n, ns) = totals-summed file kinds losses t e in
     let sums : (side : ℕ) → listedTotal side (λ x. 1) (reportKinds file kinds losses) (reportLosses file kinds losses) ≡ totalOf side (λ x. 1) (E .rows) =
     λ side. ap₂ (listedTotal side (λ x. 1)) (E .in-kinds) (E .in-losses) ∙ totals-listed side (λ x. 1) (E .rows) in (
       m ∙ sums 1 ∙ decisions-are AtM file (E .rows) (E .alone),

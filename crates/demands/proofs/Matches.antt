@@ -65,8 +65,8 @@ entries-alone file kinds losses t e =
       in-losses = listed-losses file kinds losses t G;
     }
 
-pub lists-sum : ListsSum
-lists-sum file kinds losses t e =
+pub totals-summed : ListsSum
+totals-summed file kinds losses t e =
     let G = given file kinds losses t e in
     let by : (side : ℕ) (n : ℕ → ℕ) → listedTotal side n (kindsIn (G .all)) (lossesIn (G .all)) ≡ listedTotal side n (reportKinds file kinds losses) (reportLosses file kinds losses) =
     λ side n. λ i. listedTotal side n (sym (listed-kinds file kinds losses t G) i) (sym (listed-losses file kinds losses t G) i) in
@@ -76,6 +76,9 @@ lists-sum file kinds losses t e =
       of (λ (x : Totals). x .min .decisions) ∙ sym (totals-listed 2 (λ x. 1) (G .all)) ∙ by 2 (λ x. 1),
       of (λ (x : Totals). x .min .sum) ∙ sym (totals-listed 2 (λ x. x) (G .all)) ∙ by 2 (λ x. x),
     )
+
+pub lists-sum : ListsSum
+lists-sum = totals-summed
 
 -- ---- files put together
 

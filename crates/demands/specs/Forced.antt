@@ -24,9 +24,10 @@ use Rattle.demands.specs.Matches.{Entries}
 
 -- ---- judging
 
--- "A root of kind M or N with a single child is judged "no decision", as a C or L root is, for every play number."
-abbrev pub ForcedUndecided : Type 0
-ForcedUndecided = (s : List ℕ) (t : Table) (i : ℤ) → readText s ≡ fine t → childCount t ≡ 1 → judgeCall (readText s) i ≡ Given NoDecision
+-- "A root of kind M or N with a single child is judged "no decision", as a C or L root is, for every play number." A C with a single child is one
+-- of the latter, so the kind is not asked for.
+abbrev pub ForcedNoDecision : Type 0
+ForcedNoDecision = (s : List ℕ) (t : Table) (i : ℤ) → readText s ≡ fine t → childCount t ≡ 1 → judgeCall (readText s) i ≡ Given NoDecision
 
 -- with two children or more the answer is document 01's
 abbrev pub ChoiceAsBefore : Type 0
@@ -45,7 +46,8 @@ FourteenNeeds =
     (s : List ℕ) (t : Table) (i : ℤ) → readText s ≡ fine t
     → (judgeCall (readText s) i ≡ Refused NoChild → Fourteen t i) × (Fourteen t i → judgeCall (readText s) i ≡ Refused NoChild)
 
--- the search goes by the root's kind alone, and still names the play at an M or N root with a single child
+-- Item 2 is about judging: the search still names the play at an M or N root with a single child. Document 01, 'The search': "At an M root it is
+-- the first child entered that has the highest low; at an N root the first with the lowest high"
 abbrev pub StillNamed : Type 0
 StillNamed =
     (s : List ℕ) (t : Table) (m : ℤ) (room : ℕ) (b : Bounds) (side : Side) → readText s ≡ fine t → rootOf (tree t) ≡ toPlay side → childCount t ≡ 1
@@ -53,7 +55,8 @@ StillNamed =
 
 -- ---- "The report's counts follow."
 
--- a side's decisions are as many as the positions whose root is of its kind with two children or more
+-- a side's decisions are as many as the positions whose root is of its kind with two children or more; every report has such entries E
+-- (Matches.EntriesAlone)
 abbrev pub CountsFollow : Type 0
 CountsFollow =
     (file : List ℕ) (kinds losses : ℕ) (t : Totals) → reportCall file kinds losses ≡ Done t → (E : Entries file kinds losses t)

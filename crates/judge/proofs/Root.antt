@@ -1,13 +1,10 @@
 -- A root with all under it in the lines: its children by number, the best worth, and the judgement. Assumes nothing.
 use Prim.Native.Nat.{ℕ, zero, suc, _+_, _-_, _*_, _≤_, _<_}
 use mathlib.Core.Path.{_≡_, refl, sym, ap, ap₂, subst, _∙_}
-use mathlib.Core.Bool.{Bool, false}
 use mathlib.Core.List.{List, [], _∷_}
 use mathlib.Core.Option.{Option, none, some}
 use native.Mathlib.Omega.{arith}
-use borrow.Author.Tests.{ltb-false}
 use lib.ListN.{length, getD, getElem?, take, drop, length-append, length-drop, List·getD-append}
-use lib.Dec.{ltb}
 use lib.Seq.{take-all, take-at, getD-take}
 use lib.IntN.{ℤ, pos, negsuc}
 use Rattle.line.specs.declared.Refusal.the-variants.{NoChild}
@@ -94,6 +91,17 @@ play-none : (o : Option ℕ) → NoPlay ≡ playOf o → o ≡ none
 play-none none e = refl
 play-none (some j) e = let z : _≡_ {A = ℕ} 0 1 = cc in absurd (omega arith)
 
+-- a list with a second entry, or without
+no-second : (ns : List ℕ) → getElem? ns 1 ≡ none → length ns ≤ 1
+no-second [] e = omega arith
+no-second (m ∷ []) e = omega arith
+no-second (m ∷ k ∷ ms) e = let z : _≡_ {A = ℕ} 0 1 = cc in absurd (omega arith)
+
+a-second : (ns : List ℕ) (i : ℕ) → getElem? ns 1 ≡ some i → 1 < length ns
+a-second [] i e = let z : _≡_ {A = ℕ} 0 1 = cc in absurd (omega arith)
+a-second (m ∷ []) i e = let z : _≡_ {A = ℕ} 0 1 = cc in absurd (omega arith)
+a-second (m ∷ k ∷ ms) i e = omega arith
+
 -- ---- the root
 
 module _ (S : Beside) (g : Scale) (n : ℕ) (s : List ℕ) where
@@ -136,10 +144,18 @@ module _ (S : Beside) (g : Scale) (n : ℕ) (s : List ℕ) where
     pub under-of : (came : List ℕ) → 1024 ≤ length came → Under S g n s (length came)
     under-of came h = record { nodes = children tree; here = here; fits = room-of; place = omega (arith, room-of .few) }
 
-    -- the chain is as long as there are children
-    pub several-of : (r : Bool) → r ≡ ltb 1 (length (chain-of .nodes)) → r ≡ ltb 1 (length (nodes (children tree)))
+    -- whether there is a second child
+    pub one-of : (p : Play) → p ≡ NoPlay → p ≡ playOf (numbered (pos 2) (chain-of .nodes)) → length (nodes (children tree)) ≤ 1
     unfolding chain-of
-    several-of r e = e ∙ ap (ltb 1) (starts-count (S .stops) 1 (children tree))
+    one-of p e f =
+        let s : List ℕ = starts (S .stops) 1 (children tree) in
+        omega (arith, starts-count (S .stops) 1 (children tree), no-second s (play-none (getElem? s 1) (sym e ∙ f)))
+
+    pub several-of : (i : ℕ) (p : Play) → p ≡ Child i → p ≡ playOf (numbered (pos 2) (chain-of .nodes)) → 1 < length (nodes (children tree))
+    unfolding chain-of
+    several-of i p e f =
+        let s : List ℕ = starts (S .stops) 1 (children tree) in
+        omega (arith, starts-count (S .stops) 1 (children tree), a-second s i (play-child (getElem? s 1) i (sym e ∙ f)))
 
   module _ (side : Side) (D : Decided S g n s side) where
     abbrev pub height : ℕ
@@ -263,15 +279,15 @@ module _ (S : Beside) (n : ℕ) (s : List ℕ) where
 
 -- ---- roots without a decision
 
-pub nobody-judged : (G : ℕ) (f : Forest ℕ) (i : ℤ) → rootOf f ≡ nobody → fine noDecision ≡ forestJudge G f i
-nobody-judged G f i e =
+pub none-judged : (G : ℕ) (f : Forest ℕ) (i : ℤ) → rootOf f ≡ nobody → fine noDecision ≡ forestJudge G f i
+none-judged G f i e =
     sym
     (ap (λ (r : Root). unlessForced (length (nodes (children f))) (heightJudgeAt r G (firstHeight (heightShares G f)) (heightShares G (children f)) i)) e
     ∙ none-forced (length (nodes (children f))))
 
-pub few-judged : (G : ℕ) (f : Forest ℕ) (i : ℤ) → Filled f → false ≡ ltb 1 (length (nodes (children f))) → fine noDecision ≡ forestJudge G f i
+pub few-judged : (G : ℕ) (f : Forest ℕ) (i : ℤ) → Filled f → length (nodes (children f)) ≤ 1 → fine noDecision ≡ forestJudge G f i
 unfolding nodes
 few-judged G end i F e = refl
 few-judged G (leaf n w v rest) i F e = refl
 few-judged G (inner n w k under rest) i F e =
-    sym (forced (length (nodes under)) (forestEvery G (inner n w k under rest) i) (omega (arith, some-nodes under (F .0), ltb-false 1 (length (nodes under)) (sym e))))
+    sym (forced (length (nodes under)) (forestEvery G (inner n w k under rest) i) (omega (arith, e, some-nodes under (F .0))))

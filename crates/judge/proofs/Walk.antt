@@ -1,13 +1,10 @@
--- From child to child by the stops: whether there are several, and the child of a number. Assumes nothing.
+-- From child to child by the stops: the child of a number. Assumes nothing.
 use Prim.Native.Nat.{ℕ, zero, suc, _-_, _≤_, _<_}
 use mathlib.Core.Path.{_≡_, refl, sym, ap, _∙_}
-use mathlib.Core.Bool.{false}
 use mathlib.Core.List.{List, [], _∷_}
 use mathlib.Core.Option.{Option, none, some}
 use native.Mathlib.Omega.{arith}
-use borrow.Author.Tests.{le-leb, lt-leb, lt-ltb}
-use lib.Dec.{ltb, leb}
-use lib.ListN.{length, getD, getElem?}
+use lib.ListN.{getD, getElem?}
 use lib.IntN.{ℤ, pos, negsuc}
 use Rattle.line.specs.Line.{toNat}
 use Rattle.table.specs.Root.{numbered}
@@ -36,23 +33,6 @@ module _ {A : Type 0} where
 pub chained-le : (S : List ℕ) (n i : ℕ) (ns : List ℕ) → Chained S n i ns → i ≤ n
 chained-le S n i [] c = omega (arith, c)
 chained-le S n i (m ∷ ms) c = omega (arith, c .1, chained-le S n (getD S i 0) ms (c .2))
-
--- ---- two children or more
-
--- a chain that ends at once has no second node
-pub several-none : (S : List ℕ) (n : ℕ) (ns : List ℕ) → Chained S n 1 ns → n < 2 → false ≡ ltb 1 (length ns)
-several-none S n [] c h = refl
-several-none S n (m ∷ ms) c h = absurd (omega (arith, c .1, chained-le S n (getD S 1 0) ms (c .2)))
-
--- there is one where the first node's stop is a node
-pub several-second : (S : List ℕ) (n j : ℕ) (ns : List ℕ) → Chained S n 1 ns → 2 ≤ n → j ≡ getD S 1 0 → leb j (n - 1) ≡ ltb 1 (length ns)
-several-second S n j [] c h e = absurd (omega (arith, c))
-several-second S n j (m ∷ []) c h e = lt-leb j (n - 1) (omega (arith, e, c .2))
-several-second S n j (m ∷ k ∷ ms) c h e =
-    let d = c .2 in
-    le-leb j (n - 1) (omega (arith, e, d .1, chained-le S n (getD S (getD S 1 0) 0) ms (d .2))) ∙ sym (lt-ltb 1 (length (m ∷ k ∷ ms)) (omega arith))
-
--- ---- the child of a number
 
 -- the first node that is left
 pub record Ahead (S : List ℕ) (n i : ℕ) (ns : List ℕ) : Type 0 where

@@ -44,10 +44,6 @@ pub record Chain (S : List ℕ) (n : ℕ) : Type 0 where
 abbrev pub Played : List ℕ → ℕ → ℤ → Play → Type 0
 Played S n i r = (C : Chain S n) → r ≡ playOf (numbered i (C .nodes))
 
--- whether there are two children or more
-abbrev pub Several : List ℕ → ℕ → Bool → Type 0
-Several S n r = (C : Chain S n) → r ≡ ltb 1 (length (C .nodes))
-
 -- ---- the worths of the root's children
 
 -- the worths without the weights

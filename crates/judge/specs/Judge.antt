@@ -46,7 +46,7 @@ abbrev pub judgeEvery : Table → ℤ → Verdict Judgement
 judgeEvery t i = judgeAt (rootOf (tree t)) (grain t) (worthOf t) (childWorths t) i
 
 -- Document 02, Item 2: "A root of kind M or N with a single child is judged "no decision", as a C or L root is, for every play number": v is
--- what document 01 says of a root with so many children
+-- what document 01 says of a root with so many children, and of a C it is "no decision" anyway
 abbrev pub unlessForced : (children : ℕ) → Verdict Judgement → Verdict Judgement
 unlessForced children v = cond (eqb children 1) (fine noDecision) v
 

@@ -7,7 +7,7 @@ ghost use Rattle.table.specs.Table.{readText};
 ghost use Rattle.worth.specs.Inside.{beside};
 ghost use Rattle.judge.specs.Call.{judgeCall};
 ghost use Rattle.judge.specs.Inside.Heights.{heightLoss, Ahead};
-ghost use Rattle.judge.specs.Inside.{sideIf, Chain, Played, Several, Under, Listed, better, bestIn, AllAhead, levelOne, levelsIn, WholeLines, WellJudged, Decided, WellDecided};
+ghost use Rattle.judge.specs.Inside.{sideIf, Chain, Played, Under, Listed, better, bestIn, AllAhead, levelOne, levelsIn, WholeLines, WellJudged, Decided, WellDecided};
 use line::Refusal;
 use scale::Scale;
 use table::Play;
@@ -43,18 +43,6 @@ fn find_child(stop: &[u16], n: usize, number: i64) -> Play
         i = numbers::node_at(stop, i);
     }
     Play::NoPlay
-}
-
-// Whether the root has two children or more: a second one begins where the first one's lines stop, if that is not past the last node.
-fn has_choice(stop: &[u16], n: usize) -> bool
-    requires { ⌜ Chain (now stop) n ⌝ }
-    ensures { λ r. ⌜ Several (now (stop .entry)) n r ⌝ }
-{
-    if n < 2 {
-        return false;
-    }
-    let last = n - 1;
-    numbers::node_at(stop, 1) <= last
 }
 
 fn loss(max: bool, best: u64, h: u64) -> u64
@@ -148,7 +136,7 @@ fn count_levels(list: &[u64], m: usize, max: bool, best: u64, grain: u64) -> u64
     count
 }
 
-// With a choice, at an M root, where `max`, or at an N root. Each child is evaluated once: the one played is taken from the list.
+// At an M root, where `max`, or at an N root, with two children or more. Each child is evaluated once: the one played is taken from the list.
 fn judge_root(
     lines: &[u8],
     stop: &[u16],
@@ -175,7 +163,7 @@ fn judge_root(
     }
 }
 
-// The judgement of root child `number`, by the node lines of a table. Without a second child there is nothing to decide, whatever the root's kind.
+// The judgement of root child `number`, by the node lines of a table. Without a second child there is no decision, whatever the root's kind.
 pub fn judge_table(
     lines: &[u8],
     stop: &[u16],
@@ -188,17 +176,19 @@ pub fn judge_table(
     requires { ⌜ WholeLines (beside (now stop) (now weight) (now height)) g n (now lines) ⌝ }
     ensures { λ r. ⌜ WellJudged (beside (now (stop .entry)) (now (weight .entry)) (now (height .entry))) g n (now (lines .entry)) number r ⌝ }
 {
-    if !has_choice(stop, n) {
-        return Opinion::Given(Judged::NoDecision);
+    match find_child(stop, n, 2) {
+        Play::NoPlay => Opinion::Given(Judged::NoDecision),
+        Play::Child(_) => {
+            let kind = line::letter_code(lines[5]);
+            if kind == 1 {
+                return judge_root(lines, stop, weight, height, n, g, true, number);
+            }
+            if kind == 2 {
+                return judge_root(lines, stop, weight, height, n, g, false, number);
+            }
+            Opinion::Given(Judged::NoDecision)
+        }
     }
-    let kind = line::letter_code(lines[5]);
-    if kind == 1 {
-        return judge_root(lines, stop, weight, height, n, g, true, number);
-    }
-    if kind == 2 {
-        return judge_root(lines, stop, weight, height, n, g, false, number);
-    }
-    Opinion::Given(Judged::NoDecision)
 }
 
 // The play of root child `number`, counted from 1, judged: for any text and any number.

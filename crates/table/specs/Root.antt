@@ -1,4 +1,4 @@
--- A table's root: who plays there, its children, and plays. Document 01, 'The search' and 'Judging and turning'.
+-- A table's root: who plays there, its children, and plays. Document 01, 'The search' and 'Judging and turning'; document 02, Item 2.
 use Prim.Native.Nat.{ℕ, zero, suc}
 use mathlib.Core.List.{List, [], _∷_}
 use mathlib.Core.Option.{Option, none, some}
@@ -52,7 +52,7 @@ module _ {A : Type 0} where
 abbrev pub childNode : Table → ℤ → Option ℕ
 childNode t i = numbered i (nodes (children (tree t)))
 
--- how many children the root has
+-- how many children the root has. Document 02, Item 2: "a single child", "two children or more"
 abbrev pub childCount : Table → ℕ
 childCount t = length (nodes (children (tree t)))
 

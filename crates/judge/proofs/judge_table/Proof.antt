@@ -1,19 +1,18 @@
 -- `judge::judge_table` meets its contract. Assumes nothing.
 use Prim.Native.Nat.{_<_}
-use mathlib.Core.Path.{_≡_, sym, ap, _∙_}
+use mathlib.Core.Path.{_≡_, ap, _∙_}
 use native.Mathlib.Omega.{arith}
 use borrow.Author.Needs.{needs}
-use borrow.Author.Tests.{not-true, not-false, ltb-true}
 use denote.Ref.{now}
-use lib.Dec.{ltb}
+use lib.IntN.{pos}
 use lib.ListN.{length}
 use mir.Syntax.{w64}
 use mir.ValLaws.{toZ-ofZ}
-use Rattle.table.specs.Root.{AtM, AtN, children, nodes}
+use Rattle.table.specs.Root.{AtM, AtN, children, nodes, numbered, playOf}
 use Rattle.worth.specs.Inside.{Beside, beside}
 use Rattle.judge.specs.Inside.Heights.{forestJudge}
-use Rattle.judge.specs.Inside.{Chain, WholeLines, Decided}
-use Rattle.judge.proofs.Root.{chain-of, several-of, root-line, root-m, root-n, root-else, nobody-judged, few-judged}
+use Rattle.judge.specs.Inside.{WholeLines, Decided}
+use Rattle.judge.proofs.Root.{chain-of, one-of, several-of, root-line, root-m, root-n, root-else, none-judged, few-judged}
 use Rattle.judge.proofs.judge_table.Statement.{statement}
 use Rattle.judge.proofs.judge_table.Tie as tie
 
@@ -24,109 +23,115 @@ slices s = beside (now (s .args .stop)) (now (s .args .weight)) (now (s .args .h
 abbrev At : tie.Start → Type 0
 At s = WholeLines (slices s) (s .args .g) (s .args .n) (now (s .args .lines))
 
--- ---- whether there is a choice
+-- ---- the second child
 
-abbrev start-of : tie.After-has-choice → tie.Start
-start-of H = H .before .before .before .before .before
+abbrev start-of : tie.After-find-child → tie.Start
+start-of F = F .before .before .before .before .before
 
-chain : (s : tie.Start) → At s → Chain (now (s .args .stop)) (s .args .n)
-chain s W = chain-of (slices s) (s .args .g) (s .args .n) (now (s .args .lines)) W
+find-child-requires : tie.Need-find-child-requires
+find-child-requires c κs =
+    let s = c .before .before .before .before in
+    chain-of (slices s) (s .args .g) (s .args .n) (now (s .args .lines)) (s .pre)
 
-has-choice-requires : tie.Need-has-choice-requires
-has-choice-requires c κs = let s = c .before .before .before .before in chain s (s .pre)
+enum-told : tie.Need-enum-told
+enum-told c = search needs
 
-several : (H : tie.After-has-choice) (W : At (start-of H)) → H .has-choice .result ≡ ltb 1 (length (nodes (children (W .ready .nodes))))
-unfolding chain
-several H W =
-    let s = start-of H in
-    several-of (slices s) (s .args .g) (s .args .n) (now (s .args .lines)) W (H .has-choice .result) (H .has-choice .ensures (chain s W))
+enum-told-2 : tie.Need-enum-told-2
+enum-told-2 c = search needs
 
-returns : tie.Need-returns
-returns c =
-    let H = c .before in
-    let a = start-of H .args in
-    λ W. few-judged (a .g .grain) (W .ready .nodes) (a .number) (W .ready .fits .filled) (sym (not-true (H .has-choice .result) (c .if1 .taken)) ∙ several H W)
+second : (F : tie.After-find-child)
+    → let s = start-of F in
+    (W : At s) → F .find-child .result ≡ playOf (numbered (pos 2) (chain-of (slices s) (s .args .g) (s .args .n) (now (s .args .lines)) W .nodes))
+second F W = let s = start-of F in F .find-child .ensures (chain-of (slices s) (s .args .g) (s .args .n) (now (s .args .lines)) W)
 
-choice : (c : tie.Else1) (W : At (start-of (c .before))) → 1 < length (nodes (children (W .ready .nodes)))
-choice c W =
-    let H = c .before in
-    ltb-true 1 (length (nodes (children (W .ready .nodes)))) (sym (several H W) ∙ not-false (H .has-choice .result) (c .if1 .left))
+choice : (E : tie.After-enum-told2) (W : At (start-of (E .before .before))) → 1 < length (nodes (children (W .ready .nodes)))
+choice E W =
+    let F = E .before .before in
+    let s = start-of F in
+    several-of (slices s) (s .args .g) (s .args .n) (now (s .args .lines)) W (E .enum-told2 .given .0 .0) (F .find-child .result) (E .enum-told2 .given .1) (second F W)
 
 -- ---- the roots by letter
 
 shared-slice-read-letter-code : tie.Need-shared-slice-read-letter-code
 shared-slice-read-letter-code c =
-    let s = start-of (c .before .before) in
-    let a = s .args in
+    let s = start-of (c .before .before .before) in
     let R = s .pre .ready in
-    omega (arith, R .long, root-line (slices s) (a .n) (now (a .lines)) (R .nodes) (R .lays) (s .pre .rooted))
+    omega (arith, R .long, root-line (slices s) (s .args .n) (now (s .args .lines)) (R .nodes) (R .lays) (s .pre .rooted))
 
 letter-code-requires : tie.Need-letter-code-requires
 letter-code-requires c κs = search needs
 
-abbrev else-of : tie.After-letter-code → tie.Else1
-else-of L = L .before .before
+abbrev told-of : tie.After-letter-code → tie.After-enum-told2
+told-of L = L .before .before
 
 abbrev start-at : tie.After-letter-code → tie.Start
-start-at L = start-of (else-of L .before)
+start-at L = start-of (told-of L .before .before)
 
-at-m : (c : tie.Then2) → let s = start-at (c .before) in At s → Decided (slices s) (s .args .g) (s .args .n) (now (s .args .lines)) AtM
+at-m : (c : tie.Then1) → let s = start-at (c .before) in At s → Decided (slices s) (s .args .g) (s .args .n) (now (s .args .lines)) AtM
 at-m c W =
     let L = c .before in
     let s = start-at L in
-    let a = s .args in
     record {
       whole = W;
-      root = root-m (slices s) (a .n) (now (a .lines)) (L .letter-code .result) (L .letter-code .ensures) (W .ready .nodes) (W .ready .lays) (W .rooted) (c .if2 .taken);
-      choice = choice (else-of L) W;
+      root = root-m (slices s) (s .args .n) (now (s .args .lines)) (L .letter-code .result) (L .letter-code .ensures) (W .ready .nodes) (W .ready .lays) (W .rooted) (c .if1 .taken);
+      choice = choice (told-of L) W;
     }
 
-at-n : (c : tie.Then3) → let s = start-at (c .before .before) in At s → Decided (slices s) (s .args .g) (s .args .n) (now (s .args .lines)) AtN
+at-n : (c : tie.Then2) → let s = start-at (c .before .before) in At s → Decided (slices s) (s .args .g) (s .args .n) (now (s .args .lines)) AtN
 at-n c W =
     let L = c .before .before in
     let s = start-at L in
-    let a = s .args in
     record {
       whole = W;
-      root = root-n (slices s) (a .n) (now (a .lines)) (L .letter-code .result) (L .letter-code .ensures) (W .ready .nodes) (W .ready .lays) (W .rooted) (c .if3 .taken);
-      choice = choice (else-of L) W;
+      root = root-n (slices s) (s .args .n) (now (s .args .lines)) (L .letter-code .result) (L .letter-code .ensures) (W .ready .nodes) (W .ready .lays) (W .rooted) (c .if2 .taken);
+      choice = choice (told-of L) W;
     }
 
 judge-root-requires : tie.Need-judge-root-requires
 judge-root-requires c κs = at-m c (start-at (c .before) .pre)
 
-returns-2 : tie.Need-returns-2
+returns : tie.Need-returns
 unfolding at-m
-returns-2 c =
+returns c =
     let s = start-at (c .before .before) in
     λ W. c .judge-root .ensures (at-m (c .before) W) ∙ ap (forestJudge (s .args .g .grain) (W .ready .nodes)) (toZ-ofZ w64 (s .args .number) (s .fits .number))
 
 judge-root-requires-2 : tie.Need-judge-root-requires-2
 judge-root-requires-2 c κs = at-n c (start-at (c .before .before) .pre)
 
-returns-3 : tie.Need-returns-3
+returns-2 : tie.Need-returns-2
 unfolding at-n
-returns-3 c =
+returns-2 c =
     let s = start-at (c .before .before .before) in
     λ W. c .judge-root2 .ensures (at-n (c .before) W) ∙ ap (forestJudge (s .args .g .grain) (W .ready .nodes)) (toZ-ofZ w64 (s .args .number) (s .fits .number))
+
+-- ---- without a decision
+
+returns-3 : tie.Need-returns-3
+returns-3 c =
+    let F = c .before .before in
+    let s = start-of F in
+    λ W. few-judged (s .args .g .grain) (W .ready .nodes) (s .args .number) (W .ready .fits .filled)
+        (one-of (slices s) (s .args .g) (s .args .n) (now (s .args .lines)) W (F .find-child .result) (c .enum-told .given .1) (second F W))
 
 returns-4 : tie.Need-returns-4
 returns-4 c =
     let L = c .before .before in
     let s = start-at L in
-    let a = s .args in
-    λ W. nobody-judged (a .g .grain) (W .ready .nodes) (a .number) (root-else (slices s) (a .n) (now (a .lines)) (L .letter-code .result) (L .letter-code .ensures) (W .ready .nodes) (W .ready .lays) (W .rooted) (c .before .if2 .left) (c .if3 .left))
+    λ W. none-judged (s .args .g .grain) (W .ready .nodes) (s .args .number) (root-else (slices s) (s .args .n) (now (s .args .lines)) (L .letter-code .result) (L .letter-code .ensures) (W .ready .nodes) (W .ready .lays) (W .rooted) (c .before .if1 .left) (c .if2 .left))
 
 pub judge-table-spec : {M : Type 1} → statement M
 judge-table-spec =
     tie.close
     (tie.spec
-    has-choice-requires
-    returns
+    find-child-requires
+    enum-told
+    enum-told-2
     shared-slice-read-letter-code
     letter-code-requires
     judge-root-requires
-    returns-2
+    returns
     judge-root-requires-2
+    returns-2
     returns-3
     returns-4)

@@ -36,7 +36,7 @@ impl Question for Asked {
         let table = read(text)?;
         let plays: Vec<usize> = table.children(0).collect();
         let play = match judgement {
-            // The engine refuses a number that no child has.
+            // Where there is a choice the engine refuses a number that no child has.
             Judgement::Loss { .. } => Play::Child {
                 number,
                 node: plays[number as usize - 1],

@@ -108,12 +108,12 @@ impl Played {
             }
             Play::None => {
                 let why = match self.root {
-                    Kind::Chance => "nobody chooses at a C root",
-                    Kind::Leaf => "nobody chooses at an L root",
+                    Kind::Chance => "none: nobody chooses at a C root",
+                    Kind::Leaf => "none: nobody chooses at an L root",
                     // In judging alone: a search names it.
-                    Kind::Max | Kind::Min => "forced, node 1 is the only play",
+                    Kind::Max | Kind::Min => "no decision: node 1 is the only play",
                 };
-                page.named("play", format_args!("none: {why}"));
+                page.named("play", why);
             }
         }
     }

@@ -95,8 +95,8 @@ impl Drawn {
         Some(read)
     }
 
-    /// How each child of the root stands; empty where nothing was searched or
-    /// nobody chooses.
+    /// How each child of the root stands; empty where nothing was searched, and at
+    /// a C or L root.
     fn standings(&self) -> Vec<Standing> {
         let Some(searched) = &self.searched else {
             return Vec::new();
