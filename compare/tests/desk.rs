@@ -11,10 +11,10 @@ use compare::hold;
 use compare::hold::desk::Question::{Judge, Rollout, Search, Show, ShowTo, Turn, Worth};
 use compare::hold::desk::*;
 use compare::hold::rolling::policies;
-use compare::hold::seen::{Seen, ROOTS};
+use compare::hold::seen::{Seen, ROOTS, SIDES};
 use compare::random::Random;
 use compare::second::desk::{self, Form, FORMS};
-use compare::second::{self, Refusal, Table};
+use compare::second::{self, root_children, Refusal, Table};
 use compare::texts::examples::*;
 use compare::texts::knobs::{Kinds, Knobs};
 
@@ -36,7 +36,7 @@ fn every_verb_on_the_examples() {
     for name in EXAMPLES {
         let (file, text) = example(name);
         let table = second::read(&text).expect("accepted");
-        let children = second::root_children(&table) as i64;
+        let children = root_children(&table) as i64;
         assert!(children >= 2, "{name}: nothing to judge");
         let mut questions = vec![Show, Worth, Turn];
         questions.extend((1..=children).map(Judge));
@@ -85,6 +85,68 @@ fn every_verb_by_every_way() {
     comparison.demand(48);
 }
 
+const FORCED_JUDGED: &str = "\
+play    no decision: node 1 is the only play
+grain   4g to the point
+";
+
+const FORCED_SEARCHED: &str = "\
+margin  0.000 points (0g)
+low     3.500 points (14g)
+high    3.500 points (14g)
+play    1, node 1
+leaves  2 of 2 read
+leaf    2 3
+grain   4g to the point
+";
+
+const FORCED_SHOWN: &str = "\
+table   4 nodes, 2 leaves, T 4, ends 0 and 8, K 1
+margin  0.000 points (0g)
+low     3.500 points (14g)
+high    3.500 points (14g)
+play    1, node 1
+leaves  2 of 2 read
+grain   4g to the point
+
+tree               worth
+0 M                3.500 (14g)
+└── 1 C            3.500 (14g)
+    ├── 3/4 2 L 2  2.000 (8g)   read
+    └── 1/4 3 L 8  8.000 (32g)  read
+
+number  node  worth        loss        standing
+     1     1  3.500 (14g)  0.000 (0g)  play, best, within the margin
+";
+
+/// The example of a forced play by the words that are printed; the other verbs and
+/// the other form too.
+#[test]
+fn the_example_of_a_forced_play() {
+    let (file, text) = example("forced");
+    let printed = [
+        (Judge(3), FORCED_JUDGED),
+        (Judge(1), FORCED_JUDGED),
+        (Judge(0), FORCED_JUDGED),
+        (Judge(2), FORCED_JUDGED),
+        (Judge(-1), FORCED_JUDGED),
+        (Search("0".to_string()), FORCED_SEARCHED),
+        (ShowTo("0".to_string()), FORCED_SHOWN),
+    ];
+    let mut comparison = Comparison::new("desk on the example of a forced play");
+    for (question, words) in printed {
+        let answer = question.answer(&text, Form::People).expect("an answer");
+        assert_eq!(answer, words, "{question:?}");
+        comparison.answered(&question, &text, Way::File(&file));
+    }
+    let in_fields = Judge(3).answer(&text, Form::Tsv).expect("an answer");
+    assert_eq!(in_fields, "play\t0\t0\ngrain\t4\n");
+    for question in [Show, Worth, Turn] {
+        comparison.answered(&question, &text, Way::File(&file));
+    }
+    comparison.demand(20);
+}
+
 /// A random margin as it may be written, for a table of this span.
 fn random_margin(table: &Table, random: &mut Random) -> String {
     let span = hold::span(table);
@@ -106,13 +168,19 @@ fn as_a_word(mut policy: Vec<u8>) -> Vec<u8> {
     policy
 }
 
+/// A play number: most often that of a child of the root where there is one.
+fn random_number(table: &Table, random: &mut Random) -> i64 {
+    let children = root_children(table) as i64;
+    match random.below(3) {
+        0 => random.pick(&[0, -1, children + 1, 1_024, i64::MAX, i64::MIN]),
+        _ => random.between(1, children.max(1)),
+    }
+}
+
 fn random_question(table: &Table, random: &mut Random) -> Question {
     match random.below(8) {
         0 => Worth,
-        1 => {
-            let children = second::root_children(table) as i64;
-            Judge(random.between(1, children.max(1)))
-        }
+        1 => Judge(random_number(table, random)),
         2 => Search(random_margin(table, random)),
         3 => Turn,
         4 => {
@@ -131,6 +199,31 @@ fn random_question(table: &Table, random: &mut Random) -> Question {
     }
 }
 
+/// Tables of every sort, by turns.
+fn random_text(number: u64, random: &mut Random) -> Vec<u8> {
+    let knobs = match number % 12 {
+        0 => Knobs::close(random),
+        1 => Knobs::narrow(random),
+        2 => Knobs::ties(random),
+        3 => Knobs::forced(random),
+        4 => Knobs::dice(random),
+        5 => Knobs::plain(random),
+        6 => Knobs::largest(random),
+        7 => Knobs::largest_flat(b"MN", random),
+        8 => Knobs::largest_chains(random),
+        9 => Knobs {
+            nodes: 1,
+            ..Knobs::any(random)
+        },
+        10 => Knobs {
+            root: Kinds::either(1),
+            ..Knobs::any(random)
+        },
+        _ => Knobs::any(random),
+    };
+    knobs.text(random)
+}
+
 /// Tables of every sort, a question each. It also fails where the tables or the
 /// answers were too much alike to mean anything.
 #[test]
@@ -139,27 +232,7 @@ fn random_tables() {
     let mut seen = Seen::default();
     for number in 0..360 {
         let random = &mut Random::of_case(comparison.tally.seed, number);
-        let knobs = match number % 12 {
-            0 => Knobs::close(random),
-            1 => Knobs::narrow(random),
-            2 => Knobs::ties(random),
-            3 => Knobs::forced(random),
-            4 => Knobs::dice(random),
-            5 => Knobs::plain(random),
-            6 => Knobs::largest(random),
-            7 => Knobs::largest_flat(b"MN", random),
-            8 => Knobs::largest_chains(random),
-            9 => Knobs {
-                nodes: 1,
-                ..Knobs::any(random)
-            },
-            10 => Knobs {
-                root: Kinds::either(1),
-                ..Knobs::any(random)
-            },
-            _ => Knobs::any(random),
-        };
-        let text = knobs.text(random);
+        let text = random_text(number, random);
         let table = second::read(&text).expect("valid");
         let question = random_question(&table, random);
         let form = random.pick(&FORMS);
@@ -190,6 +263,67 @@ fn random_tables() {
     }
     comparison.demand(360);
     seen.demand(2);
+}
+
+/// What `judge` prints of a forced play, whatever its number.
+fn forced_and_judged(table: &Table, form: Form) -> String {
+    let grains = table.grains;
+    match form {
+        Form::People => FORCED_JUDGED.replace("4g", &format!("{grains}g")),
+        Form::Tsv => format!("play\t0\t0\ngrain\t{grains}\n"),
+    }
+}
+
+/// The tables of every sort where the play is forced: `judge` prints no decision,
+/// whatever the number; `search` and `show --margin` name the only play. It also
+/// fails where one of these was asked too seldom at an M or at an N.
+#[test]
+fn random_forced_plays() {
+    let mut comparison = Comparison::new("desk on random forced plays");
+    let mut seen = Seen::default();
+    for number in 0..360 {
+        let random = &mut Random::of_case(comparison.tally.seed, number);
+        let text = random_text(number, random);
+        let table = second::read(&text).expect("valid");
+        let root = table.nodes[0].kind;
+        if !SIDES.contains(&root) || root_children(&table) > 1 {
+            continue;
+        }
+        let below = random.pick(&[-1, -2, -1_024, i64::MIN]);
+        let far = random.pick(&[3, 1_023, 1_024, i64::MAX]);
+        let questions = [
+            ("the child's number", Judge(1)),
+            ("number 0", Judge(0)),
+            ("number 2", Judge(2)),
+            ("a number below zero", Judge(below)),
+            ("a greater number", Judge(far)),
+            ("searched", Search(random_margin(&table, random))),
+            ("shown", ShowTo(random_margin(&table, random))),
+        ];
+        let file = written("desk-forced.txt", &text);
+        for (sort, question) in questions {
+            for form in FORMS {
+                let way = [Way::File(&file), Way::Input, Way::Dash][random.below(3)];
+                let answer = comparison.hold(&question, &text, form, way);
+                let answer = answer.expect("an answer");
+                if matches!(question, Judge(_)) {
+                    assert_eq!(answer, forced_and_judged(&table, form), "{question:?}");
+                } else {
+                    let named = match form {
+                        Form::People => "\nplay    1, node 1\n",
+                        Form::Tsv => "\nplay\t1\t1\n",
+                    };
+                    assert!(answer.contains(named), "{question:?}: {answer}");
+                }
+                for kind in SIDES {
+                    let sort = format!("forced at {kind:?}, {sort} for {form:?}");
+                    seen.count(&sort, root == kind);
+                }
+            }
+        }
+    }
+    comparison.demand(600);
+    seen.demand(10);
 }
 
 /// Rollouts of random tables without C, by several policies.
@@ -365,7 +499,7 @@ fn hold_margin(answer: &Result<String, Refusal>, grains: i64, form: Form) {
 }
 
 /// Numbers of any length are numbers, and refused where there is no such margin
-/// or play.
+/// or play; where the play is forced every number will do.
 #[test]
 fn numbers_of_any_length() {
     let mut comparison = Comparison::new("desk on numbers of any length");
@@ -380,6 +514,8 @@ fn numbers_of_any_length() {
 
     let minus = format!("-{SIXTY_DIGITS}");
     let grains = format!("{SIXTY_DIGITS}g");
+    let (_, forced) = example("forced");
+    let table = second::read(&forced).expect("accepted");
     let mut refused = 0;
     for number in [SIXTY_DIGITS, &minus, &grains] {
         for words in [&["search", number][..], &["show", "--margin", number]] {
@@ -388,6 +524,10 @@ fn numbers_of_any_length() {
     }
     for number in ["0", "3", "-1", "9223372036854775808", SIXTY_DIGITS, &minus] {
         refused += hold_number(&["judge", number], &file, &text, 14);
+        for form in FORMS {
+            let ran = ask(words(&["judge", number]), &forced, form, Way::Input, 0);
+            ran.answers(&forced_and_judged(&table, form));
+        }
     }
     assert_eq!(refused, 24);
 }
@@ -413,6 +553,7 @@ fn examples_in_the_description() {
     let examples = [
         ("b", Worth, "worth"),
         ("b", Judge(2), "judge 2"),
+        ("forced", Judge(3), "judge 3"),
         ("b", Search("3".to_string()), "search 3"),
         ("a", Rollout(Vec::new()), "rollout"),
         ("b", Show, "show"),

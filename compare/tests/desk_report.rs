@@ -12,7 +12,7 @@ use std::slice::from_ref;
 use std::time::{Duration, Instant};
 
 use compare::hold::desk::*;
-use compare::hold::seen::{Seen, ROOTS};
+use compare::hold::seen::{Seen, ROOTS, SIDES};
 use compare::hold::tally::Tally;
 use compare::random::Random;
 use compare::second::desk::{self, Form, Reported, Stretch, FORMS};
@@ -27,6 +27,11 @@ use compare::texts::matches::{self, file, whole, whole_of, Position};
 /// The position of this play in a table that is written with dots.
 fn position(play: i64, table: &str) -> Position {
     Position::new(play, dotted(table))
+}
+
+/// A position with one child at a root of this kind, and this play number.
+fn forced(root: char, play: i64) -> Position {
+    Position::new(play, with_root(FORCED_CHANCE, root))
 }
 
 /// A position that loses so many thousandths.
@@ -115,6 +120,79 @@ fn one_file_and_several() {
     }
 }
 
+const FORCED_REPORTED: &str = "\
+position  side  play         loss
+       1  M        2        1.500
+       2  M        1  no decision
+       3  N        0  no decision
+       4  M       -1  no decision
+       5  M        1        0.000
+       6  N        1  no decision
+       7  M        2  no decision
+       8  N     -999  no decision
+       9  M     9999  no decision
+
+M       2 decisions, 1.500 points lost, 0.7500 each
+N       no decisions
+";
+
+const FORCED_IN_FIELDS: &str = "\
+file\tstandard input
+position\t1\tM\t2\t1500\t1.500
+position\t2\tM\t1\t\t
+position\t3\tN\t0\t\t
+position\t4\tM\t-1\t\t
+position\t5\tM\t1\t0\t0.000
+position\t6\tN\t1\t\t
+position\t7\tM\t2\t\t
+position\t8\tN\t-999\t\t
+position\t9\tM\t9999\t\t
+positions\t9
+total\tM\t2\t1500\t1.500\t0.7500
+total\tN\t0\t0\t0.000\t
+";
+
+/// A forced play counts for neither side, whatever its number: by the words that
+/// are printed, and with the same match among several.
+#[test]
+fn forced_plays() {
+    let bytes = file(&[
+        position(2, TABLE_B),
+        forced('M', 1),
+        forced('N', 0),
+        forced('M', -1),
+        position(1, TABLE_B),
+        forced('N', 1),
+        forced('M', 2),
+        forced('N', -999),
+        forced('M', 9_999),
+    ]);
+    let given = Given::input(&bytes);
+    let printed = [
+        (Form::People, FORCED_REPORTED),
+        (Form::Tsv, FORCED_IN_FIELDS),
+    ];
+    for (form, printed) in printed {
+        let (words, input) = report_words(from_ref(&given), form, 0);
+        let ran = run(&words, input);
+        ran.answers(printed);
+        hold_reported(&ran, from_ref(&given), form, "forced plays");
+
+        let several = [Given::dash(&bytes), in_file("forced", &bytes)];
+        let (words, input) = report_words(&several, form, 0);
+        let ran = run(&words, input);
+        hold_reported(&ran, &several, form, "forced plays in two files");
+        let all = match form {
+            Form::People => {
+                "all     2 files, 18 positions; M 4 decisions, 3.000 points lost, 0.7500 each; \
+                 N no decisions"
+            }
+            Form::Tsv => "all\t2\t18\t4\t3000\t3.000\t0.7500\t0\t0\t0.000\t",
+        };
+        assert_eq!(ran.out.lines().last(), Some(all));
+    }
+}
+
 /// Losses of one side in thousandths, and what is said of them: exact averages, then
 /// some that go down or up, then 0.00025 and 0.00075.
 const AVERAGES: &str = "\
@@ -170,7 +248,8 @@ fn averages() {
 fn random_matches() {
     let mut tally = Tally::new("desk on random matches");
     let (mut files, mut runs) = (Seen::default(), Seen::default());
-    for number in 0..900 {
+    let mut forced = Seen::default();
+    for number in 0..1_500 {
         let random = &mut Random::of_case(tally.seed, number);
         let given = random_files(random);
         let form = random.pick(&FORMS);
@@ -181,6 +260,7 @@ fn random_matches() {
                 Outcome::Reported(reported) => {
                     codes.push(0);
                     count_report(&mut files, reported.report());
+                    count_forced(&mut forced, reported, form);
                 }
                 Outcome::Refused(refused) => codes.push(u64::from(refused.refusal.number)),
                 Outcome::Unread => {}
@@ -192,6 +272,7 @@ fn random_matches() {
     tally.report();
     files.demand(5);
     runs.demand(5);
+    forced.demand(30);
 }
 
 fn random_files(random: &mut Random) -> Vec<Given> {
@@ -236,6 +317,33 @@ fn count_report(seen: &mut Seen, report: &Report) {
     }
     let (max, min) = (report.max, report.min);
     seen.count("other totals at M and N", max != min);
+}
+
+/// Counts whether a report has forced plays at M and at N: by the number played, and
+/// by whether that side has decisions besides.
+fn count_forced(seen: &mut Seen, reported: &Reported, form: Form) {
+    let report = reported.report();
+    for (kind, total) in SIDES.into_iter().zip([report.max, report.min]) {
+        let entries = report.entries.iter().zip(reported.plays());
+        let plays: Vec<i64> = entries
+            .filter(|(entry, _)| entry.root == kind && entry.loss.is_none())
+            .map(|(_, &play)| play)
+            .collect();
+        for one in FORMS {
+            let mut count = |sort: &str, is_one| {
+                let sort = format!("forced at {kind:?}, {sort} for {one:?}");
+                seen.count(&sort, form == one && is_one);
+            };
+            count("number 1", plays.contains(&1));
+            count("number 0", plays.contains(&0));
+            count("number 2", plays.contains(&2));
+            count("below zero", plays.iter().any(|&play| play < 0));
+            count("a greater number", plays.iter().any(|&play| play > 2));
+            let forced = !plays.is_empty();
+            count("decisions besides", forced && total.decisions > 0);
+            count("no decision besides", forced && total.decisions == 0);
+        }
+    }
 }
 
 fn count_run(seen: &mut Seen, outcomes: &[Outcome], form: Form) {

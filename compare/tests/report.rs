@@ -325,6 +325,10 @@ fn known_positions() {
                 let lent = Lent::lists(length);
                 hold_known(&mut tally, &file, lent, &refused(11, 0, 0));
             }
+            for length in 3..5 {
+                let lent = Lent::lists(length);
+                hold_known(&mut tally, &file, lent, &Ok(report.clone()));
+            }
         }
     }
     let (positions, entries): (Vec<_>, Vec<_>) = known.into_iter().unzip();

@@ -41,7 +41,8 @@ struct Sort {
     texts: Vec<Vec<u8>>,
     /// From the lowest end to the highest, in grains.
     span: i64,
-    /// The number of the root child to judge: the second, or the only one.
+    /// The number of the root child to judge: the second. The only child of a root
+    /// has 1, and is not judged.
     played: i64,
 }
 
@@ -118,8 +119,8 @@ fn worth(sorts: &[Sort]) {
 fn judging(sorts: &[Sort]) {
     println!();
     println!("Judging from the text, where the second child of the root is played. The second");
-    println!("engine reads the table, then judges. A single path is a forced play, which is not");
-    println!("judged: the growth of the deep ones is over that with 256 lines.");
+    println!("engine reads the table, then judges. The deep table of 64 lines is one path, a");
+    println!("forced play: it is left out, and growth on deep tables is over that with 256.");
     println!();
     let mut numbers = [0; 3];
     measure(

@@ -6,14 +6,14 @@ use super::worth::worths;
 
 #[derive(Clone, Copy, Debug, PartialEq, Eq)]
 pub enum Judgement {
-    /// Nobody chooses at the root: it is a C or L, or has a single child.
+    /// There is no choice at the root: it is a C or L, or has a single child.
     NoDecision,
     /// What the play lost, in grains, and how many plays lose less than a point.
     Loss { grains: i64, level: usize },
 }
 
 /// Judges the play of the root child with this number; the first has number 1.
-/// Where nobody chooses, every number will do.
+/// Where there is no choice, every number will do.
 pub fn judge(table: &Table, number: i64) -> Result<Judgement, Refusal> {
     let sign = match table.nodes[0].kind {
         Kind::Max => 1,

@@ -33,6 +33,11 @@ impl Reported {
     pub fn report(&self) -> &Report {
         &self.report
     }
+
+    /// The play number of each position.
+    pub fn plays(&self) -> &[i64] {
+        &self.plays
+    }
 }
 
 /// What is printed of one match; `several` where it is not the only one named.

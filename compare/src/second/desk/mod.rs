@@ -67,11 +67,15 @@ pub fn worth(table: &Table, form: Form) -> String {
     }
 }
 
-/// Judges the root child with this number; the first has number 1.
+/// Judges the root child with this number; the first has number 1. Where there is
+/// no decision, every number will do.
 pub fn judge(table: &Table, number: i64, form: Form) -> Result<String, Refusal> {
     let plays = plays(table);
     let judged = match second::judge(table, number)? {
-        Judgement::NoDecision => None,
+        Judgement::NoDecision => {
+            assert!(plays.len() < 2, "no decision between several plays");
+            None
+        }
         Judgement::Loss { grains, level } => {
             let play = &plays[number as usize - 1];
             assert_eq!(play.loss, grains, "one loss in two ways");
@@ -79,8 +83,8 @@ pub fn judge(table: &Table, number: i64, form: Form) -> Result<String, Refusal> 
         }
     };
     Ok(match form {
-        Form::People => people::judge(table, judged, plays.len()),
-        Form::Tsv => tsv::judge(table, judged, plays.len()),
+        Form::People => people::judge(table, judged, &plays),
+        Form::Tsv => tsv::judge(table, judged, &plays),
     })
 }
 
@@ -141,7 +145,7 @@ fn searched(table: &Table, margin: i64) -> Result<Searched, Refusal> {
     })
 }
 
-/// The plays at the root; none at a C or L.
+/// The plays at the root, a forced one too; none at a C or L.
 fn plays(table: &Table) -> Vec<Play> {
     let sign = match table.nodes[0].kind {
         Kind::Max => 1,

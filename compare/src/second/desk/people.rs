@@ -17,14 +17,24 @@ pub fn worth(table: &Table, worth: i64) -> String {
     amount("worth", table, worth) + &grain(table)
 }
 
-/// The play judged and how many are level, and how many plays there are.
-pub fn judge(table: &Table, judged: Option<(&Play, usize)>, plays: usize) -> String {
-    let mut answer = play(table, judged.map(|(play, _)| (play.number, play.node)));
+/// The play judged and how many are level, none where there is no decision; then
+/// all plays.
+pub fn judge(table: &Table, judged: Option<(&Play, usize)>, plays: &[Play]) -> String {
+    let mut answer = match (judged, plays) {
+        (None, [only]) => forced(only),
+        _ => play(table, judged.map(|(play, _)| (play.number, play.node))),
+    };
     if let Some((play, level)) = judged {
         answer += &amount("loss", table, play.loss);
-        answer += &line("level", format!("{level} of {plays} plays"));
+        answer += &line("level", format!("{level} of {} plays", plays.len()));
     }
     answer + &grain(table)
+}
+
+/// The line of a forced play, which is not judged.
+fn forced(only: &Play) -> String {
+    let said = format!("no decision: node {} is the only play", only.node);
+    line("play", said)
 }
 
 pub fn search(table: &Table, searched: &Searched) -> String {
@@ -75,7 +85,7 @@ fn drawn(table: &Table, searched: Option<&Searched>) -> String {
     side_by_side(&columns)
 }
 
-/// How each play stands to the search's margin; nothing where nobody chooses.
+/// How each play stands to the search's margin; nothing at a C or L root.
 fn standings(table: &Table, searched: &Searched) -> String {
     let plays = plays(table);
     if plays.is_empty() {

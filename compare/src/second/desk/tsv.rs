@@ -11,13 +11,14 @@ pub fn worth(table: &Table, worth: i64) -> String {
     row("worth", &[&amount(table, worth)]) + &grain(table)
 }
 
-/// The play judged and how many are level, and how many plays there are.
-pub fn judge(table: &Table, judged: Option<(&Play, usize)>, plays: usize) -> String {
+/// The play judged and how many are level, none where there is no decision; then
+/// all plays.
+pub fn judge(table: &Table, judged: Option<(&Play, usize)>, plays: &[Play]) -> String {
     let mut answer = play(judged.map(|(play, _)| (play.number, play.node)));
     if let Some((play, level)) = judged {
         answer += &row("loss", &[&amount(table, play.loss)]);
         answer += &row("level", &[&level]);
-        answer += &row("plays", &[&plays]);
+        answer += &row("plays", &[&plays.len()]);
     }
     answer + &grain(table)
 }

@@ -67,7 +67,7 @@ pub fn whole_of(count: usize, random: &mut Random) -> Vec<Position> {
 }
 
 /// A position by this setting of the knobs: the play is one of the root's
-/// children, or any number where nobody chooses, as at a root with one child.
+/// children, or any number where there is no choice, as at a root with one child.
 pub fn position(setting: fn(&mut Random) -> Knobs, random: &mut Random) -> Position {
     let text = setting(random).text(random);
     let table = second::read(&text).expect("a valid table");
