@@ -1,7 +1,8 @@
 -- Forced plays, at the public calls. Assumes nothing.
-use Prim.Native.Nat.{ℕ}
+use Prim.Native.Nat.{ℕ, _≤_}
 use mathlib.Core.Path.{_≡_, refl, sym, ap, ap₂, _∙_}
 use mathlib.Core.Bool.{Bool, true, false, cond}
+use mathlib.Core.List.{List}
 use mathlib.Core.Option.{none, some}
 use native.Mathlib.Omega.{arith}
 use borrow.Author.Tests.{eqb-true}
@@ -10,11 +11,12 @@ use lib.ListN.{length, getElem?}
 use lib.IntN.{ℤ, pos, _*ℤ_}
 use Rattle.line.specs.declared.Refusal.{Refusal}
 use Rattle.line.specs.declared.Refusal.the-variants.{NoChild}
-use Rattle.line.specs.Refusal.{Verdict, refused, fine}
-use Rattle.line.specs.Line.{toNat}
+use Rattle.line.specs.Refusal.{Verdict, refused, fine, next, numberOf}
+use Rattle.line.specs.Line.{toNat, valueOf}
 use Rattle.table.specs.Tree.{Forest, end, leaf, inner}
-use Rattle.table.specs.Table.{Table, tree, grain}
+use Rattle.table.specs.Table.{Table, tree, readText, grain}
 use Rattle.table.specs.Root.{AtM, AtN, children, nodes, playOf}
+use Rattle.table.proofs.Places.{refused-number}
 use Rattle.worth.specs.Worth.{value, shares}
 use Rattle.judge.specs.declared.Opinion.the-variants.{Refused}
 use Rattle.judge.specs.Judge.{Judgement, judge}
@@ -26,12 +28,15 @@ use Rattle.search_call.specs.declared.Bounds.{Bounds}
 use Rattle.search_call.proofs.Answered.{answered}
 use Rattle.promise.specs.Play.{worthAt}
 use Rattle.promise.proofs.Demand.{play-named, play-near}
-use Rattle.report.specs.Report.{totalOf}
+use Rattle.report.specs.declared.Row.{Row}
+use Rattle.report.specs.Report.{playIn, tableIn, rowOf, scored, totalOf}
 use Rattle.report.specs.Files.{listedTotal}
+use Rattle.report.proofs.Cases.{by-cases}
 use Rattle.report.proofs.Rows.{totals-listed}
+use Rattle.report.proofs.Refusals.{head-named}
 use Rattle.report.proofs.Decisions.{decisions-are}
 use Rattle.report_call.specs.Call.{reportKinds, reportLosses}
-use Rattle.demands.specs.Forced.{ForcedNoDecision, ChoiceAsBefore, FourteenNeeds, StillNamed, CountsFollow}
+use Rattle.demands.specs.Forced.{ForcedNoDecision, ChoiceAsBefore, Fourteen, FourteenNeeds, PositionFourteen, StillNamed, CountsFollow}
 use Rattle.demands.proofs.Matches.{totals-summed}
 
 -- ---- judging
@@ -42,17 +47,47 @@ forced-no-decision s t i p one = ap (λ (v : Verdict Table). judgeCall v i) p �
 pub choice-as-before : ChoiceAsBefore
 choice-as-before s t i p h = ap (λ (v : Verdict Table). judgeCall v i) p ∙ ap judgeAnswer (choice-judged t i h)
 
+-- a table's own refusals go up to 10
+not-fourteen : {P : Type 0} (r : Refusal) → numberOf r ≤ 10 → r ≡ NoChild → P
+not-fourteen r h e = absurd (omega (arith, ap numberOf e, h))
+
 answer-refused : (v : Verdict Judgement) (r : Refusal) → judgeAnswer v ≡ Refused r → v ≡ refused r
 answer-refused (refused q) r e = cc
 answer-refused (fine j) r e = let z : _≡_ {A = ℕ} 0 1 = cc in absurd (omega arith)
 
+judged-fourteen : (s : List ℕ) (i : ℤ) → judgeCall (readText s) i ≡ Refused NoChild → Fourteen s i
+judged-fourteen s i = go (readText s) refl
+  where
+    go : (v : Verdict Table) → readText s ≡ v → judgeCall v i ≡ Refused NoChild → Fourteen s i
+    go (refused r) p e = not-fourteen r (refused-number s r p) cc
+    go (fine t) p e =
+        let (side, root, several, missing) = refused-choice s t p i NoChild (answer-refused (judge t i) NoChild e) in
+        record { table = t; read = p; side = side; root = root; several = several; missing = missing }
+
 pub fourteen-needs : FourteenNeeds
-fourteen-needs s t i p = (
-  λ e.
-      let (side, root, several, missing) = refused-choice s t p i NoChild (answer-refused (judge t i) NoChild (sym (ap (λ (v : Verdict Table). judgeCall v i) p) ∙ e)) in
-      record { side = side; root = root; several = several; missing = missing },
-  λ F. ap (λ (v : Verdict Table). judgeCall v i) p ∙ ap judgeAnswer (missing-refused t i (F .side) (F .root) (F .several) (F .missing)),
+fourteen-needs s i = (
+  judged-fourteen s i,
+  λ F. ap (λ (v : Verdict Table). judgeCall v i) (F .read) ∙ ap judgeAnswer (missing-refused (F .table) i (F .side) (F .root) (F .several) (F .missing)),
 )
+
+-- what a position is refused with by judging
+scored-judged : (i : ℤ) (text : List ℕ) → scored i text ≡ refused NoChild → judgeCall (readText text) i ≡ Refused NoChild
+scored-judged i text = go (readText text)
+  where
+    at : (t : Table) (v : Verdict Judgement) → next v (λ (j : Judgement). fine (rowOf t j)) ≡ refused NoChild → judgeAnswer v ≡ Refused NoChild
+    at t (refused r) e = cc
+    at t (fine j) e = let z : _≡_ {A = ℕ} 0 1 = cc in absurd (omega arith)
+
+    go : (v : Verdict Table) → next v (λ (t : Table). next (judge t i) (λ (j : Judgement). fine (rowOf t j))) ≡ refused NoChild → judgeCall v i ≡ Refused NoChild
+    go (refused r) e = cc
+    go (fine t) e = at t (judge t i) e
+
+pub position-fourteen : PositionFourteen
+position-fourteen s =
+    by-cases s (λ (v : Verdict Row). v ≡ refused NoChild → Fourteen (tableIn s) (valueOf (playIn s)))
+    (λ e. let z : _≡_ {A = ℕ} 0 1 = cc in absurd (omega arith))
+    (λ r h e. not-fourteen r (head-named s r h .1) cc)
+    (λ n h l e. judged-fourteen (tableIn s) (valueOf (playIn s)) (scored-judged (valueOf (playIn s)) (tableIn s) e))
 
 -- ---- the search
 

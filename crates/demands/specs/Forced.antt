@@ -5,7 +5,8 @@ use mathlib.Core.List.{List}
 use mathlib.Core.Option.{none, some}
 use lib.IntN.{ℤ, pos}
 use Rattle.line.specs.declared.Refusal.the-variants.{NoChild}
-use Rattle.line.specs.Refusal.{fine}
+use Rattle.line.specs.Refusal.{refused, fine}
+use Rattle.line.specs.Line.{valueOf}
 use Rattle.table.specs.Table.{Table, tree, readText}
 use Rattle.table.specs.declared.Play.the-variants.{Child}
 use Rattle.table.specs.Root.{Side, toPlay, rootOf, childNode, childCount}
@@ -17,6 +18,7 @@ use Rattle.search_call.specs.declared.Bounds.{Bounds}
 use Rattle.search_call.specs.declared.Bounded.the-variants.{Found}
 use Rattle.search_call.specs.Call.{searchCall}
 use Rattle.report.specs.declared.Totals.{Totals}
+use Rattle.report.specs.Report.{playIn, tableIn, positionOf}
 use Rattle.report.specs.Files.{tablesOf, decisionsIn}
 use Rattle.report_call.specs.declared.Reported.the-variants.{Done}
 use Rattle.report_call.specs.Call.{reportCall}
@@ -34,17 +36,23 @@ abbrev pub ChoiceAsBefore : Type 0
 ChoiceAsBefore =
     (s : List ℕ) (t : Table) (i : ℤ) → readText s ≡ fine t → 2 ≤ childCount t → judgeCall (readText s) i ≡ judgeAnswer (judgeEvery t i)
 
--- "Refusal 14 now needs a root with two children or more": of kind M or N; and at such a root it is given where no child has the number
-pub record Fourteen (t : Table) (i : ℤ) : Type 0 where
+-- "Refusal 14 now needs a root with two children or more": of kind M or N, in an accepted text s, and no child with the number i
+pub record Fourteen (s : List ℕ) (i : ℤ) : Type 0 where
+  pub table : Table
+  pub read : readText s ≡ fine table
   pub side : Side
-  pub root : rootOf (tree t) ≡ toPlay side
-  pub several : 2 ≤ childCount t
-  pub missing : childNode t i ≡ none
+  pub root : rootOf (tree table) ≡ toPlay side
+  pub several : 2 ≤ childCount table
+  pub missing : childNode table i ≡ none
 
+-- judging refuses 14 there, and only there
 abbrev pub FourteenNeeds : Type 0
 FourteenNeeds =
-    (s : List ℕ) (t : Table) (i : ℤ) → readText s ≡ fine t
-    → (judgeCall (readText s) i ≡ Refused NoChild → Fourteen t i) × (Fourteen t i → judgeCall (readText s) i ≡ Refused NoChild)
+    (s : List ℕ) (i : ℤ) → (judgeCall (readText s) i ≡ Refused NoChild → Fourteen s i) × (Fourteen s i → judgeCall (readText s) i ≡ Refused NoChild)
+
+-- so does a position of a match file only there
+abbrev pub PositionFourteen : Type 0
+PositionFourteen = (s : List ℕ) → positionOf s ≡ refused NoChild → Fourteen (tableIn s) (valueOf (playIn s))
 
 -- Item 2 is about judging: the search still names the play at an M or N root with a single child. Document 01, 'The search': "At an M root it is
 -- the first child entered that has the highest low; at an N root the first with the lowest high"

@@ -11,10 +11,10 @@ use lib.Seq.{length-take-le}
 use lib.IntN.{ℤ}
 use Rattle.line.specs.declared.Refusal.{Refusal}
 use Rattle.line.specs.declared.Refusal.the-variants.{TooMany}
-use Rattle.line.specs.Refusal.{Verdict, refused, fine}
+use Rattle.line.specs.Refusal.{Verdict, refused, fine, numberOf, lineOf}
 use Rattle.line.specs.Line.{valueOf}
 use Rattle.table.specs.Table.{Table, badLength, readText}
-use Rattle.table.proofs.Places.{Named, Upto, unless-upto, next-upto, refused-named}
+use Rattle.table.proofs.Places.{Upto, OfTable, unless-upto, next-upto, refused-named}
 use Rattle.judge.specs.Judge.{Judgement, judge}
 use Rattle.judge.proofs.Judge.{judge-refused}
 use Rattle.report.specs.declared.Row.{Row}
@@ -26,6 +26,10 @@ use Rattle.report.proofs.Rows.{row-small, AllSmall}
 
 -- ---- a position
 
+-- a refusal at line m or before, another than 1
+abbrev pub Named : ℕ → Refusal → Type 0
+Named m r = (2 ≤ numberOf r) × (lineOf r ≤ m)
+
 good-length : (n : ℕ) → 1 ≤ n → n ≤ 1024 → badLength (25 + 25 * n) ≡ false
 good-length n p q =
     let m : (25 + 25 * n) % 25 ≡ 0 = omega arith in
@@ -34,23 +38,27 @@ good-length n p q =
     ∙ le-ltb 25625 (25 + 25 * n) (omega arith)
 
 -- a verdict on a text
-read-upto : (s : List ℕ) → badLength (length s) ≡ false → (v : Verdict Table) → readText s ≡ v → Upto 1024 v
-read-upto s g (refused r) e = refused-named s r g e
+read-upto : (s : List ℕ) → badLength (length s) ≡ false → (v : Verdict Table) → readText s ≡ v → Upto (Named 1024) v
+read-upto s g (refused r) e = let n = refused-named s r g e in (n .0, n .2)
 read-upto s g (fine t) e = tt
 
-judge-upto : (t : Table) (i : ℤ) (v : Verdict Judgement) → judge t i ≡ v → Upto 1024 v
+judge-upto : (t : Table) (i : ℤ) (v : Verdict Judgement) → judge t i ≡ v → Upto (Named 1024) v
 judge-upto t i (refused r) e = subst (Named 1024) (judge-refused t i r e) (omega arith, omega arith)
 judge-upto t i (fine j) e = tt
 
-scored-upto : (i : ℤ) (text : List ℕ) → badLength (length text) ≡ false → Upto 1024 (scored i text)
+scored-upto : (i : ℤ) (text : List ℕ) → badLength (length text) ≡ false → Upto (Named 1024) (scored i text)
 scored-upto i text g =
-    next-upto 1024 (readText text) _ (read-upto text g (readText text) refl)
-    (λ (t : Table) p. next-upto 1024 (judge t i) (λ (j : Judgement). fine (rowOf t j)) (judge-upto t i (judge t i) refl) (λ j q. tt))
+    next-upto (Named 1024) (readText text) _ (read-upto text g (readText text) refl)
+    (λ (t : Table) p. next-upto (Named 1024) (judge t i) (λ (j : Judgement). fine (rowOf t j)) (judge-upto t i (judge t i) refl) (λ j q. tt))
 
 module _ (s : List ℕ) where
-  head-upto : Upto 1024 (headIs s)
+  head-upto : Upto (OfTable 1024) (headIs s)
   head-upto =
-      unless-upto 1024 (headChecks (headIn s)) (nodesIn s) ((omega arith, omega arith), ((omega arith, omega arith), ((omega arith, omega arith), tt)))
+      unless-upto (OfTable 1024) (headChecks (headIn s)) (nodesIn s)
+      ((omega arith, omega arith, omega arith), ((omega arith, omega arith, omega arith), ((omega arith, omega arith, omega arith), tt)))
+
+  pub head-named : (r : Refusal) → headIs s ≡ refused r → OfTable 1024 r
+  head-named r e = subst (Upto (OfTable 1024)) e head-upto
 
   -- the table's text is as long as its count says
   table-good : (n : ℕ) → headIs s ≡ fine n → sizeOf s ≤ length s → badLength (length (tableIn s)) ≡ false
@@ -59,14 +67,14 @@ module _ (s : List ℕ) where
       ap badLength (length-take-le (25 + 25 * nodesIn s) (drop 5 s) (omega (arith, length-drop 5 s)))
       ∙ good-length (nodesIn s) (omega (arith, r .0, r .1)) (omega (arith, r .0, r .2))
 
-  position-upto : Upto 1024 (positionOf s)
+  position-upto : Upto (Named 1024) (positionOf s)
   position-upto =
-      by-cases s (Upto 1024) (omega arith, omega arith) (λ r e. subst (Upto 1024) e head-upto)
+      by-cases s (Upto (Named 1024)) (omega arith, omega arith) (λ r e. let n = head-named r e in (n .0, n .2))
       (λ n e l. scored-upto (valueOf (playIn s)) (tableIn s) (table-good n e l))
 
   -- "1 is not given here"
   pub position-named : (r : Refusal) → positionOf s ≡ refused r → Named 1024 r
-  position-named r e = subst (Upto 1024) e position-upto
+  position-named r e = subst (Upto (Named 1024)) e position-upto
 
 -- ---- the match
 

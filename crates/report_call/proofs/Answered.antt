@@ -8,12 +8,11 @@ use lib.Dec.{ltb}
 use lib.ListN.{length}
 use Rattle.line.specs.declared.Refusal.{Refusal}
 use Rattle.line.specs.declared.Refusal.the-variants.{NoRoom}
-use Rattle.table.proofs.Places.{Named}
 use Rattle.report.specs.declared.Totals.{Totals}
 use Rattle.report.specs.Report.{Outcome, stopped, rows, matchOf}
 use Rattle.report.specs.Inside.{SmallTotals}
 use Rattle.report.proofs.Rows.{totals-small}
-use Rattle.report.proofs.Refusals.{match-refused, match-rows}
+use Rattle.report.proofs.Refusals.{Named, match-refused, match-rows}
 use Rattle.report_call.specs.declared.Reported.{Reported}
 use Rattle.report_call.specs.declared.Reported.the-variants.{Done, Refused}
 use Rattle.report_call.specs.Call.{fit, reportAnswer, reportCall}
