@@ -112,7 +112,7 @@ returns-3 c =
     let F = c .before .before in
     let s = start-of F in
     λ W. few-judged (s .args .g .grain) (W .ready .nodes) (s .args .number) (W .ready .fits .filled)
-        (one-of (slices s) (s .args .g) (s .args .n) (now (s .args .lines)) W (F .find-child .result) (c .enum-told .given .1) (second F W))
+    (one-of (slices s) (s .args .g) (s .args .n) (now (s .args .lines)) W (F .find-child .result) (c .enum-told .given .1) (second F W))
 
 returns-4 : tie.Need-returns-4
 returns-4 c =
