@@ -275,7 +275,7 @@ module _ (s : List ℕ) (t : Table) (h : readText s ≡ fine t) where
       let (side, n, r, p, q) = root-judged (rootOf (heightTree t)) (grain t) (heightWorth t) (heightWorths t) i loss level (sym (every-heights i) ∙ judged-every t i loss level e .0) in
       (not-below n loss p, rw q at (level-heights side (sym root-heights ∙ r)))
 
-  -- where somebody plays, and not a single child is there, they are two or more
+  -- where somebody plays and the children are not one, they are two or more
   several : (side : Side) → rootOf (tree t) ≡ toPlay side → (childCount t ≡ 1 → ⊥) → 2 ≤ childCount t
   several side e one =
       let some : 1 ≤ childCount t = root-some side (tree t) (accepted-filled s t h) e in
