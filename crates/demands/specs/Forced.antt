@@ -50,7 +50,7 @@ abbrev pub FourteenNeeds : Type 0
 FourteenNeeds =
     (s : List ℕ) (i : ℤ) → (judgeCall (readText s) i ≡ Refused NoChild → Fourteen s i) × (Fourteen s i → judgeCall (readText s) i ≡ Refused NoChild)
 
--- so does a position of a match file only there
+-- and a position of a match file is refused 14 only there
 abbrev pub PositionFourteen : Type 0
 PositionFourteen = (s : List ℕ) → positionOf s ≡ refused NoChild → Fourteen (tableIn s) (valueOf (playIn s))
 
