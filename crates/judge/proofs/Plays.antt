@@ -69,4 +69,4 @@ module _ (s : List ℕ) (t : Table) (h : readText s ≡ fine t) (a : List ℕ) (
 
   pub played-child : (i : ℤ) (r : Play) → Played (fitted (stopsOf t) a) (length (t .lines)) i r → r ≡ playOf (childNode t i)
   unfolding accepted-chain
-  played-child i r p = p accepted-chain ∙ ap (λ (ns : List ℕ). playOf (numbered i ns)) (nodes-heights s t h)
+  played-child i r p = p .by accepted-chain ∙ ap (λ (ns : List ℕ). playOf (numbered i ns)) (nodes-heights s t h)

@@ -23,7 +23,7 @@ use Rattle.worth.specs.Inside.{kindIn, Beside, Lays, Fits}
 use Rattle.worth.proofs.Run.{lays-le}
 use Rattle.judge.specs.Judge.{noDecision, judged, unlessForced}
 use Rattle.judge.specs.Inside.Heights.{heightLoss, heightLevels, heightJudgeChild, heightJudgeAt, forestEvery, forestJudge, Ahead}
-use Rattle.judge.specs.Inside.{Chained, Chain, heightsIn, Here, Room, Under, Listed, bestIn, AllAhead, levelsIn, WholeLines, Decided}
+use Rattle.judge.specs.Inside.{Chained, Chain, Played, heightsIn, Here, Room, Under, Listed, bestIn, AllAhead, levelsIn, WholeLines, Decided}
 use Rattle.judge.proofs.Choice.{some-nodes, forced, choice, none-forced}
 use Rattle.judge.proofs.Best.{best-ahead}
 use Rattle.judge.proofs.Shift.{numbered-each}
@@ -91,16 +91,26 @@ play-none : (o : Option ℕ) → NoPlay ≡ playOf o → o ≡ none
 play-none none e = refl
 play-none (some j) e = let z : _≡_ {A = ℕ} 0 1 = cc in absurd (omega arith)
 
--- a list with a second entry, or without
-no-second : (ns : List ℕ) → getElem? ns 1 ≡ none → length ns ≤ 1
-no-second [] e = omega arith
-no-second (m ∷ []) e = omega arith
-no-second (m ∷ k ∷ ms) e = let z : _≡_ {A = ℕ} 0 1 = cc in absurd (omega arith)
+-- and of how many there are
+entry-none : (ns : List ℕ) (k : ℕ) → getElem? ns k ≡ none → length ns ≤ k
+entry-none [] k e = omega arith
+entry-none (m ∷ ms) zero e = let z : _≡_ {A = ℕ} 0 1 = cc in absurd (omega arith)
+entry-none (m ∷ ms) (suc k) e = omega (arith, entry-none ms k e)
 
-a-second : (ns : List ℕ) (i : ℕ) → getElem? ns 1 ≡ some i → 1 < length ns
-a-second [] i e = let z : _≡_ {A = ℕ} 0 1 = cc in absurd (omega arith)
-a-second (m ∷ []) i e = let z : _≡_ {A = ℕ} 0 1 = cc in absurd (omega arith)
-a-second (m ∷ k ∷ ms) i e = omega arith
+entry-some : (ns : List ℕ) (k i : ℕ) → getElem? ns k ≡ some i → k < length ns
+entry-some [] k i e = let z : _≡_ {A = ℕ} 0 1 = cc in absurd (omega arith)
+entry-some (m ∷ ms) zero i e = omega arith
+entry-some (m ∷ ms) (suc k) i e = omega (arith, entry-some ms k i e)
+
+count-none : (ns : List ℕ) (z : ℤ) → 1 ≤ toNat z → NoPlay ≡ playOf (numbered z ns) → length ns < toNat z
+count-none ns (pos zero) h e = absurd (omega arith)
+count-none ns (pos (suc k)) h e = omega (arith, entry-none ns k (play-none (getElem? ns k) e))
+count-none ns (negsuc k) h e = absurd (omega arith)
+
+count-some : (ns : List ℕ) (z : ℤ) (i : ℕ) → Child i ≡ playOf (numbered z ns) → toNat z ≤ length ns
+count-some ns (pos zero) i e = omega arith
+count-some ns (pos (suc k)) i e = entry-some ns k i (play-child (getElem? ns k) i e)
+count-some ns (negsuc k) i e = omega arith
 
 -- ---- the root
 
@@ -144,18 +154,16 @@ module _ (S : Beside) (g : Scale) (n : ℕ) (s : List ℕ) where
     pub under-of : (came : List ℕ) → 1024 ≤ length came → Under S g n s (length came)
     under-of came h = record { nodes = children tree; here = here; fits = room-of; place = omega (arith, room-of .few) }
 
-    -- whether there is a second child
-    pub one-of : (p : Play) → p ≡ NoPlay → p ≡ playOf (numbered (pos 2) (chain-of .nodes)) → length (nodes (children tree)) ≤ 1
+    -- a number without a child, and one with a child
+    pub fewer-of : {z : ℤ} {p : Play} → Played (S .stops) n z p → p ≡ NoPlay → 1 ≤ toNat z → length (nodes (children tree)) < toNat z
     unfolding chain-of
-    one-of p e f =
-        let s : List ℕ = starts (S .stops) 1 (children tree) in
-        omega (arith, starts-count (S .stops) 1 (children tree), no-second s (play-none (getElem? s 1) (sym e ∙ f)))
+    fewer-of {z} P e h =
+        omega (arith, starts-count (S .stops) 1 (children tree), count-none (starts (S .stops) 1 (children tree)) z h (sym e ∙ P .by chain-of))
 
-    pub several-of : (i : ℕ) (p : Play) → p ≡ Child i → p ≡ playOf (numbered (pos 2) (chain-of .nodes)) → 1 < length (nodes (children tree))
+    pub so-many-of : {z : ℤ} {p : Play} → Played (S .stops) n z p → (i : ℕ) → p ≡ Child i → toNat z ≤ length (nodes (children tree))
     unfolding chain-of
-    several-of i p e f =
-        let s : List ℕ = starts (S .stops) 1 (children tree) in
-        omega (arith, starts-count (S .stops) 1 (children tree), a-second s i (play-child (getElem? s 1) i (sym e ∙ f)))
+    so-many-of {z} P i e =
+        omega (arith, starts-count (S .stops) 1 (children tree), count-some (starts (S .stops) 1 (children tree)) z i (sym e ∙ P .by chain-of))
 
   module _ (side : Side) (D : Decided S g n s side) where
     abbrev pub height : ℕ
@@ -285,7 +293,7 @@ none-judged G f i e =
     (ap (λ (r : Root). unlessForced (length (nodes (children f))) (heightJudgeAt r G (firstHeight (heightShares G f)) (heightShares G (children f)) i)) e
     ∙ none-forced (length (nodes (children f))))
 
-pub few-judged : (G : ℕ) (f : Forest ℕ) (i : ℤ) → Filled f → length (nodes (children f)) ≤ 1 → fine noDecision ≡ forestJudge G f i
+pub few-judged : (G : ℕ) (f : Forest ℕ) (i : ℤ) → Filled f → length (nodes (children f)) < 2 → fine noDecision ≡ forestJudge G f i
 unfolding nodes
 few-judged G end i F e = refl
 few-judged G (leaf n w v rest) i F e = refl

@@ -41,8 +41,9 @@ pub record Chain (S : List ℕ) (n : ℕ) : Type 0 where
   pub chained : Chained S n 1 nodes
   pub room : n ≤ length S
 
-abbrev pub Played : List ℕ → ℕ → ℤ → Play → Type 0
-Played S n i r = (C : Chain S n) → r ≡ playOf (numbered i (C .nodes))
+-- r is the child of number i, or none where there is no such child
+pub record Played (S : List ℕ) (n : ℕ) (i : ℤ) (r : Play) : Type 0 where
+  pub by : (C : Chain S n) → r ≡ playOf (numbered i (C .nodes))
 
 -- ---- the worths of the root's children
 

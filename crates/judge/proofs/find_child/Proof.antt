@@ -30,7 +30,7 @@ k-is c ns =
     ∙ ap (λ (m : ℕ). nth m ns) (sym (c .natural .ensures ∙ ap toNat (toZ-ofZ w64 (s .args .number) (s .fits .number))))
 
 returns : tie.Need-returns Inv-loop μ-loop
-returns c = λ C. sym (ap playOf (k-is (c .before) (C .nodes) ∙ ap (λ (m : ℕ). nth m (C .nodes)) (c .if1 .taken)))
+returns c = record { by = λ C. sym (ap playOf (k-is (c .before) (C .nodes) ∙ ap (λ (m : ℕ). nth m (C .nodes)) (c .if1 .taken))) }
 
 loop-holds : tie.Need-loop-holds Inv-loop μ-loop
 loop-holds c =
@@ -43,7 +43,7 @@ returns-2 c =
     let l = c .before .before in
     let N = l .before .before in
     let a = N .before .before .args in
-    λ C. sym (ap playOf (k-is N (C .nodes) ∙ walk-found (now (a .stop)) (a .n) (N .natural .result) (l .loop .left) (l .loop .i) (C .nodes) (l .loop .inv .1 C) (c .before .loop-test .taken) (c .if2 .taken)))
+    record { by = λ C. sym (ap playOf (k-is N (C .nodes) ∙ walk-found (now (a .stop)) (a .n) (N .natural .result) (l .loop .left) (l .loop .i) (C .nodes) (l .loop .inv .1 C) (c .before .loop-test .taken) (c .if2 .taken))) }
 
 sub-left : tie.Need-sub-left Inv-loop μ-loop
 sub-left c = c .before .before .loop .inv .0
@@ -79,7 +79,7 @@ returns-3 c =
     let l = c .before in
     let N = l .before .before in
     let a = N .before .before .args in
-    λ C. sym (ap playOf (k-is N (C .nodes) ∙ walk-none (now (a .stop)) (a .n) (N .natural .result) (l .loop .left) (l .loop .i) (C .nodes) (l .loop .inv .1 C) (c .loop-test .left)))
+    record { by = λ C. sym (ap playOf (k-is N (C .nodes) ∙ walk-none (now (a .stop)) (a .n) (N .natural .result) (l .loop .left) (l .loop .i) (C .nodes) (l .loop .inv .1 C) (c .loop-test .left))) }
 
 pub find-child-spec : {M : Type 1} → statement M
 find-child-spec =

@@ -47,7 +47,7 @@ played c D =
     let s = c .before .before .before .before .before in
     let a = s .args in
     let C = chain-of (beside (now (a .stop)) (now (a .weight)) (now (a .height))) (a .g) (a .n) (now (a .lines)) (D .whole) in
-    c .find-child .ensures C ∙ ap (λ (z : ℤ). playOf (numbered z (C .nodes))) (number-back s)
+    c .find-child .ensures .by C ∙ ap (λ (z : ℤ). playOf (numbered z (C .nodes))) (number-back s)
 
 -- the child that was found
 abbrev start-of : tie.After-enum-told2 → tie.Start

@@ -1,18 +1,17 @@
 -- `judge::judge_table` meets its contract. Assumes nothing.
 use Prim.Native.Nat.{_<_}
-use mathlib.Core.Path.{_≡_, ap, _∙_}
+use mathlib.Core.Path.{ap, _∙_}
 use native.Mathlib.Omega.{arith}
 use borrow.Author.Needs.{needs}
 use denote.Ref.{now}
-use lib.IntN.{pos}
 use lib.ListN.{length}
 use mir.Syntax.{w64}
 use mir.ValLaws.{toZ-ofZ}
-use Rattle.table.specs.Root.{AtM, AtN, children, nodes, numbered, playOf}
+use Rattle.table.specs.Root.{AtM, AtN, children, nodes}
 use Rattle.worth.specs.Inside.{Beside, beside}
 use Rattle.judge.specs.Inside.Heights.{forestJudge}
 use Rattle.judge.specs.Inside.{WholeLines, Decided}
-use Rattle.judge.proofs.Root.{chain-of, one-of, several-of, root-line, root-m, root-n, root-else, none-judged, few-judged}
+use Rattle.judge.proofs.Root.{chain-of, fewer-of, so-many-of, root-line, root-m, root-n, root-else, none-judged, few-judged}
 use Rattle.judge.proofs.judge_table.Statement.{statement}
 use Rattle.judge.proofs.judge_table.Tie as tie
 
@@ -39,16 +38,11 @@ enum-told c = search needs
 enum-told-2 : tie.Need-enum-told-2
 enum-told-2 c = search needs
 
-second : (F : tie.After-find-child)
-    → let s = start-of F in
-    (W : At s) → F .find-child .result ≡ playOf (numbered (pos 2) (chain-of (slices s) (s .args .g) (s .args .n) (now (s .args .lines)) W .nodes))
-second F W = let s = start-of F in F .find-child .ensures (chain-of (slices s) (s .args .g) (s .args .n) (now (s .args .lines)) W)
-
 choice : (E : tie.After-enum-told2) (W : At (start-of (E .before .before))) → 1 < length (nodes (children (W .ready .nodes)))
 choice E W =
     let F = E .before .before in
     let s = start-of F in
-    several-of (slices s) (s .args .g) (s .args .n) (now (s .args .lines)) W (E .enum-told2 .given .0 .0) (F .find-child .result) (E .enum-told2 .given .1) (second F W)
+    omega (arith, so-many-of (slices s) (s .args .g) (s .args .n) (now (s .args .lines)) W (F .find-child .ensures) (E .enum-told2 .given .0 .0) (E .enum-told2 .given .1))
 
 -- ---- the roots by letter
 
@@ -112,7 +106,7 @@ returns-3 c =
     let F = c .before .before in
     let s = start-of F in
     λ W. few-judged (s .args .g .grain) (W .ready .nodes) (s .args .number) (W .ready .fits .filled)
-    (one-of (slices s) (s .args .g) (s .args .n) (now (s .args .lines)) W (F .find-child .result) (c .enum-told .given .1) (second F W))
+    (omega (arith, fewer-of (slices s) (s .args .g) (s .args .n) (now (s .args .lines)) W (F .find-child .ensures) (c .enum-told .given .1) (omega arith)))
 
 returns-4 : tie.Need-returns-4
 returns-4 c =
