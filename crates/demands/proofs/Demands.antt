@@ -100,7 +100,7 @@ same-sought : (t u : Table) (ε : ℕ) → grain u ≡ grain t → searched u ε
 same-sought t u ε g e =
     ap₂ (λ (x : Seen ℤ) (y : ℕ). record { low = x .low; high = x .high; play = playOf (nodeOf (x .play)); leaves = length (x .read); grain = y }) e g
 
-fine-same : (t u : Table) → fine t ≡ fine u → t ≡ u
+pub fine-same : (t u : Table) → fine t ≡ fine u → t ≡ u
 fine-same t u e = cc
 
 pub sentence2 : Sentence2

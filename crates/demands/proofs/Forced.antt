@@ -37,6 +37,7 @@ use Rattle.report.proofs.Refusals.{head-named}
 use Rattle.report.proofs.Decisions.{decisions-are}
 use Rattle.report_call.specs.Call.{reportKinds, reportLosses}
 use Rattle.demands.specs.Forced.{ForcedNoDecision, ChoiceAsBefore, Fourteen, FourteenNeeds, PositionFourteen, StillNamed, CountsFollow}
+use Rattle.demands.proofs.Demands.{fine-same}
 use Rattle.demands.proofs.Matches.{totals-summed}
 
 -- ---- judging
@@ -67,7 +68,7 @@ judged-fourteen s i = go (readText s) refl
 pub fourteen-needs : FourteenNeeds
 fourteen-needs s i = (
   judged-fourteen s i,
-  λ F. ap (λ (v : Verdict Table). judgeCall v i) (F .read) ∙ ap judgeAnswer (missing-refused (F .table) i (F .side) (F .root) (F .several) (F .missing)),
+  λ F. ap (λ (v : Verdict Table). judgeCall v i) (F .read) ∙ ap judgeAnswer (missing-refused s (F .table) (F .read) i (F .side) (F .root) (F .several) (F .missing)),
 )
 
 -- what a position is refused with by judging
@@ -110,14 +111,11 @@ only-worth G m (inner n w k under end) v one e = named n m (value k (shares G un
 only-worth G m (inner n w k under (leaf n₂ w₂ u₂ rest)) v one e = absurd (omega (arith, one))
 only-worth G m (inner n w k under (inner n₂ w₂ k₂ under₂ rest)) v one e = absurd (omega (arith, one))
 
-table-same : (t u : Table) → fine t ≡ fine u → t ≡ u
-table-same t u e = cc
-
 pub still-named : StillNamed
 still-named s t m room b side p root one e =
     let A = answered s m room b e in
     let ε : ℕ = toNat m in
-    let same : A .table ≡ t = table-same (A .table) t (sym (A .read) ∙ p) in
+    let same : A .table ≡ t = fine-same (A .table) t (sym (A .read) ∙ p) in
     let (x, q, first) = play-named s t p ε side root in
     let (v, w, above, below) = play-near s t p ε (x .node) q in (
       x .node,

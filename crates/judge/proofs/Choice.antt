@@ -1,5 +1,5 @@
 -- A root with a single child, and one with several. Assumes nothing.
-use Prim.Native.Nat.{ℕ, _≤_, _<_}
+use Prim.Native.Nat.{ℕ, suc, _≤_, _<_}
 use mathlib.Core.Path.{_≡_, refl, ap}
 use mathlib.Core.Bool.{Bool, true, false, cond}
 use native.Mathlib.Omega.{arith}
@@ -10,6 +10,7 @@ use Rattle.line.specs.Refusal.{Verdict, fine}
 use Rattle.line.proofs.Signs.{true-ne-false}
 use Rattle.table.specs.Tree.{Forest, end, leaf, inner, isEnd}
 use Rattle.table.specs.Root.{nodes}
+use Rattle.worth.specs.Inside.Heights.{heightShares}
 use Rattle.judge.specs.Judge.{Judgement, noDecision, unlessForced}
 
 pub some-nodes : {A : Type 0} (f : Forest A) → isEnd f ≡ false → 1 ≤ length (nodes f)
@@ -17,6 +18,13 @@ unfolding nodes
 some-nodes end e = absurd (true-ne-false e)
 some-nodes (leaf n w v rest) e = omega arith
 some-nodes (inner n w k under rest) e = omega arith
+
+-- there is a worth for each node
+pub shares-count : (G : ℕ) (f : Forest ℕ) → length (heightShares G f) ≡ length (nodes f)
+unfolding heightShares nodes
+shares-count G end = refl
+shares-count G (leaf n w v rest) = ap suc (shares-count G rest)
+shares-count G (inner n w k under rest) = ap suc (shares-count G rest)
 
 -- where there is no decision anyway
 pub none-forced : (n : ℕ) → unlessForced n (fine noDecision) ≡ fine noDecision

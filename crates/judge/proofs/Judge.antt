@@ -1,5 +1,5 @@
 -- The judgement of every accepted table: its losses over heights, none negative, and a best child. Assumes nothing.
-use Prim.Native.Nat.{ℕ, zero, suc, _+_, _≤_}
+use Prim.Native.Nat.{ℕ, suc, _+_, _≤_}
 use mathlib.Core.Path.{_≡_, refl, sym, ap, ap₂, _∙_}
 use mathlib.Core.Bool.{Bool, true, false}
 use mathlib.Core.List.{List, _∷_, map}
@@ -7,8 +7,8 @@ use mathlib.Core.Option.{Option, none, some}
 use native.Mathlib.Nat.{one-le-pow}
 use native.Mathlib.Decide.{decLe}
 use native.Mathlib.Omega.{arith}
-use lib.ListN.{length, getElem?}
-use lib.IntN.{ℤ, pos, negsuc, _+ℤ_, _*ℤ_}
+use lib.ListN.{length, length-map}
+use lib.IntN.{ℤ, pos, _+ℤ_, _*ℤ_}
 use lib.Signed.{leZ}
 use lib.Dec.{leb·zero}
 use Rattle.line.specs.declared.Head.{Head}
@@ -16,7 +16,6 @@ use Rattle.line.specs.declared.Refusal.{Refusal}
 use Rattle.line.specs.declared.Refusal.the-variants.{NoChild}
 use Rattle.line.specs.Refusal.{Verdict, refused, fine}
 use Rattle.line.specs.Line.{Within}
-use Rattle.line.proofs.Signs.{true-ne-false}
 use Rattle.table.specs.Tree.{Forest, end, leaf, inner, isChance}
 use Rattle.table.specs.Table.{Table, tree, readText, greatest, grain}
 use Rattle.table.specs.Inside.{heightTree}
@@ -31,9 +30,9 @@ use Rattle.worth.proofs.Shift.{Divides, shares-shift}
 use Rattle.worth.proofs.Worth.{divides, shift}
 use Rattle.judge.specs.Judge.{childWorths, lossAt, levels, Judgement, noDecision, judged, judgeChild, judgeAt, judgeEvery, unlessForced, judge}
 use Rattle.judge.specs.Inside.Heights.{heightWorths, heightLoss, heightLevels, heightJudgeChild, heightJudgeAt, forestEvery, heightJudge, Ahead}
-use Rattle.judge.proofs.Choice.{some-nodes, forced, choice, none-forced, unforced}
+use Rattle.judge.proofs.Choice.{some-nodes, shares-count, forced, choice, none-forced, unforced}
 use Rattle.judge.proofs.Best.{nobody-plays, Met, none-lost, met-level, best-ahead, best-met}
-use Rattle.judge.proofs.Shift.{mapped, numbered-map, numbered-each, loss-shift, levels-shift, judge-shift}
+use Rattle.judge.proofs.Shift.{mapped, numbered-map, numbered-each, numbered-none, loss-shift, levels-shift, judge-shift}
 
 -- ---- other values at the leaves
 
@@ -97,28 +96,6 @@ root-refused (toPlay s) G exact xs i r e =
     let (z, n) = child-refused s G exact xs (numbered i xs) r e in
     (z, n, s, refl)
 
--- there is a worth for every child, and no other
-abbrev gone : {A : Type 0} → Option A → Bool
-gone none = true
-gone (some x) = false
-
-gone-none : {A : Type 0} (o : Option A) → gone o ≡ true → o ≡ none
-gone-none none e = refl
-gone-none (some x) e = absurd (true-ne-false (sym e))
-
-place-gone : (G k : ℕ) (F : Forest ℤ) → gone (getElem? (shares G F) k) ≡ gone (getElem? (nodes F) k)
-unfolding shares nodes
-place-gone G k end = refl
-place-gone G zero (leaf n w v rest) = refl
-place-gone G zero (inner n w kind under rest) = refl
-place-gone G (suc k) (leaf n w v rest) = place-gone G k rest
-place-gone G (suc k) (inner n w kind under rest) = place-gone G k rest
-
-number-gone : (G : ℕ) (i : ℤ) (F : Forest ℤ) → gone (numbered i (shares G F)) ≡ gone (numbered i (nodes F))
-number-gone G (pos zero) F = refl
-number-gone G (pos (suc k)) F = place-gone G k F
-number-gone G (negsuc k) F = refl
-
 -- neither a refusal nor a loss is "no decision"
 not-refused : (r : Refusal) → fine noDecision ≡ refused r → ⊥
 not-refused r e = let z : _≡_ {A = ℕ} 0 1 = cc in absurd (omega arith)
@@ -152,13 +129,6 @@ module _ (t : Table) (i : ℤ) where
   judged-every : (loss : ℤ) (level : ℕ) → judge t i ≡ fine (judged loss level) → (judgeEvery t i ≡ fine (judged loss level)) × (childCount t ≡ 1 → ⊥)
   judged-every loss level = unforced (childCount t) (judgeEvery t i) (fine (judged loss level)) (not-judged loss level)
 
-  -- 14, where there is a choice and no such child
-  pub missing-refused : (side : Side) → rootOf (tree t) ≡ toPlay side → 2 ≤ childCount t → childNode t i ≡ none → judge t i ≡ refused NoChild
-  missing-refused side o h m =
-      choice-judged h
-      ∙ ap (λ (r : Root). judgeAt r (grain t) (worthOf t) (childWorths t) i) o
-      ∙ ap (judgeChild side (grain t) (worthOf t) (childWorths t)) (gone-none (numbered i (childWorths t)) (number-gone (grain t) i (children (tree t)) ∙ ap gone m))
-
   pub judge-refused : (r : Refusal) → judge t i ≡ refused r → NoChild ≡ r
   judge-refused r e = root-refused (rootOf (tree t)) (grain t) (worthOf t) (childWorths t) i r (refused-every r e .0) .0
 
@@ -191,6 +161,14 @@ module _ (s : List ℕ) (t : Table) (h : readText s ≡ fine t) where
   worths-heights =
       children-shift (grain t) (t .head) (t .head .total) (greatest (t .lines)) 0 0 false (tree t) (accepted-proper s t h) (accepted-filled s t h) (divides s t h)
       ∙ ap (λ (F : Forest ℕ). map (raised base) (heightShares (grain t) F)) children-heights
+
+  -- there is a worth for each child
+  worths-count : length (childWorths t) ≡ childCount t
+  worths-count =
+      ap length worths-heights
+      ∙ length-map (heightWorths t) (raised base)
+      ∙ shares-count (grain t) (children (heightTree t))
+      ∙ ap length nodes-heights
 
   pub heights-ahead : (side : Side) → rootOf (tree t) ≡ toPlay side → Each (Ahead side (heightWorth t)) (heightWorths t)
   heights-ahead side e = best-ahead (grain t) side (heightTree t) (root-heights ∙ e)
@@ -290,7 +268,14 @@ module _ (s : List ℕ) (t : Table) (h : readText s ≡ fine t) where
   refused-choice i r e =
       let (v, h) = refused-every t i r e in
       let (z, n, side, o) = root-refused (rootOf (tree t)) (grain t) (worthOf t) (childWorths t) i r v in
-      (side, o, several side o h, gone-none (childNode t i) (sym (number-gone (grain t) i (children (tree t))) ∙ ap gone n))
+      (side, o, several side o h, numbered-none i (childWorths t) (nodes (children (tree t))) worths-count n)
+
+  -- and there it is given
+  pub missing-refused : (i : ℤ) (side : Side) → rootOf (tree t) ≡ toPlay side → 2 ≤ childCount t → childNode t i ≡ none → judge t i ≡ refused NoChild
+  missing-refused i side o several m =
+      choice-judged t i several
+      ∙ ap (λ (r : Root). judgeAt r (grain t) (worthOf t) (childWorths t) i) o
+      ∙ ap (judgeChild side (grain t) (worthOf t) (childWorths t)) (numbered-none i (nodes (children (tree t))) (childWorths t) (sym worths-count) m)
 
   -- a loss needs the same root
   pub judged-choice : (i loss : ℤ) (level : ℕ) → judge t i ≡ fine (judged loss level) → (side : Side) × (rootOf (tree t) ≡ toPlay side) × (2 ≤ childCount t)

@@ -18,15 +18,15 @@ use Rattle.table.specs.declared.Play.the-variants.{Child, NoPlay}
 use Rattle.table.specs.Root.{Side, AtM, AtN, Root, nobody, toPlay, rootOf, children, nodes, numbered, playOf}
 use Rattle.scale.specs.declared.Scale.{Scale}
 use Rattle.worth.specs.Worth.{Share}
-use Rattle.worth.specs.Inside.Heights.{heightValue, heightShares, firstHeight}
+use Rattle.worth.specs.Inside.Heights.{heightShares, firstHeight}
 use Rattle.worth.specs.Inside.{kindIn, Beside, Lays, Fits}
 use Rattle.worth.proofs.Run.{lays-le}
 use Rattle.judge.specs.Judge.{noDecision, judged, unlessForced}
 use Rattle.judge.specs.Inside.Heights.{heightLoss, heightLevels, heightJudgeChild, heightJudgeAt, forestEvery, forestJudge, Ahead}
 use Rattle.judge.specs.Inside.{Chained, Chain, Played, heightsIn, Here, Room, Under, Listed, bestIn, AllAhead, levelsIn, WholeLines, Decided}
-use Rattle.judge.proofs.Choice.{some-nodes, forced, choice, none-forced}
+use Rattle.judge.proofs.Choice.{some-nodes, shares-count, forced, choice, none-forced}
 use Rattle.judge.proofs.Best.{best-ahead}
-use Rattle.judge.proofs.Shift.{numbered-each}
+use Rattle.judge.proofs.Shift.{numbered-each, numbered-some, numbered-none}
 use Rattle.judge.proofs.Worths.{numbered-worth, kids-some, best-root, all-ahead, levels-worths}
 
 -- ---- the children by number
@@ -47,19 +47,6 @@ lays-chained S c e s (inner n w k under rest) l =
     let later : c + 1 ≤ j = lays-le S (c + 1) j (take (25 * (j - (c + 1))) (drop 25 s)) under (l .2) in
     (refl, omega (arith, later), lays-chained S j e (drop (25 * (j - c)) s) rest (l .3))
 
-missing : (S : List ℕ) (G k c : ℕ) (f : Forest ℕ) → getElem? (starts S c f) k ≡ none → getElem? (heightShares G f) k ≡ none
-unfolding heightShares
-missing S G k c end e = refl
-missing S G zero c (leaf n w v rest) e = let z : _≡_ {A = ℕ} 0 1 = cc in absurd (omega arith)
-missing S G zero c (inner n w kind under rest) e = let z : _≡_ {A = ℕ} 0 1 = cc in absurd (omega arith)
-missing S G (suc k) c (leaf n w v rest) e = missing S G k (getD S c 0) rest e
-missing S G (suc k) c (inner n w kind under rest) e = missing S G k (getD S c 0) rest e
-
-number-missing : (S : List ℕ) (G c : ℕ) (f : Forest ℕ) (z : ℤ) → numbered z (starts S c f) ≡ none → numbered z (heightShares G f) ≡ none
-number-missing S G c f (pos zero) e = refl
-number-missing S G c f (pos (suc k)) e = missing S G k c f e
-number-missing S G c f (negsuc k) e = refl
-
 -- as many as there are nodes
 starts-count : (S : List ℕ) (c : ℕ) (f : Forest ℕ) → length (starts S c f) ≡ length (nodes f)
 unfolding nodes
@@ -67,20 +54,9 @@ starts-count S c end = refl
 starts-count S c (leaf n w v rest) = ap suc (starts-count S (getD S c 0) rest)
 starts-count S c (inner n w k under rest) = ap suc (starts-count S (getD S c 0) rest)
 
--- there is a share for every node
-present : (S : List ℕ) (G k c i : ℕ) (f : Forest ℕ) → getElem? (starts S c f) k ≡ some i → (x : Share ℕ) × (getElem? (heightShares G f) k ≡ some x)
-unfolding heightShares
-present S G k c i end e = let z : _≡_ {A = ℕ} 0 1 = cc in absurd (omega arith)
-present S G zero c i (leaf n w v rest) e = (record { weight = w; worth = v * G }, refl)
-present S G zero c i (inner n w kind under rest) e = (record { weight = w; worth = heightValue kind (heightShares G under) }, refl)
-present S G (suc k) c i (leaf n w v rest) e = present S G k (getD S c 0) i rest e
-present S G (suc k) c i (inner n w kind under rest) e = present S G k (getD S c 0) i rest e
-
-number-present : (S : List ℕ) (G c i : ℕ) (f : Forest ℕ) (z : ℤ) → numbered z (starts S c f) ≡ some i
-    → (x : Share ℕ) × (numbered z (heightShares G f) ≡ some x)
-number-present S G c i f (pos zero) e = let z : _≡_ {A = ℕ} 0 1 = cc in absurd (omega arith)
-number-present S G c i f (pos (suc k)) e = present S G k c i f e
-number-present S G c i f (negsuc k) e = let z : _≡_ {A = ℕ} 0 1 = cc in absurd (omega arith)
+-- and so as many as there are worths
+starts-shares : (S : List ℕ) (G c : ℕ) (f : Forest ℕ) → length (starts S c f) ≡ length (heightShares G f)
+starts-shares S G c f = starts-count S c f ∙ sym (shares-count G f)
 
 -- what a play says of the number
 play-child : (o : Option ℕ) (i : ℕ) → Child i ≡ playOf o → o ≡ some i
@@ -218,7 +194,8 @@ module _ (S : Beside) (g : Scale) (n : ℕ) (s : List ℕ) where
     pub found : (z : ℤ) (i : ℕ) (p : Play) → p ≡ Child i → p ≡ playOf (numbered z (chain-of (D .whole) .nodes)) → Found z
     unfolding chain-of
     found z i p e f =
-        number-present (S .stops) (g .grain) 1 i (children (tree (D .whole))) z (play-child (numbered z (starts (S .stops) 1 (children (tree (D .whole))))) i (sym e ∙ f))
+        let o : List ℕ = starts (S .stops) 1 (children (tree (D .whole))) in
+        numbered-some z o kids i (starts-shares (S .stops) (g .grain) 1 (children (tree (D .whole)))) (play-child (numbered z o) i (sym e ∙ f))
 
     -- ---- the judgement
 
@@ -231,7 +208,7 @@ module _ (S : Beside) (g : Scale) (n : ℕ) (s : List ℕ) where
     unfolding chain-of
     well-none z p e f =
         let o : List ℕ = starts (S .stops) 1 (children (tree (D .whole))) in
-        sym (decided-judge z ∙ ap (heightJudgeChild side (g .grain) height kids) (number-missing (S .stops) (g .grain) 1 (children (tree (D .whole))) z (play-none (numbered z o) (sym e ∙ f))))
+        sym (decided-judge z ∙ ap (heightJudgeChild side (g .grain) height kids) (numbered-none z o kids (starts-shares (S .stops) (g .grain) 1 (children (tree (D .whole)))) (play-none (numbered z o) (sym e ∙ f))))
 
     pub well-lost : (z : ℤ) (K : Found z) (best h l level : ℕ) → best ≡ height → h ≡ K .0 .worth
         → l ≡ heightLoss side best h → level ≡ heightLevels side (g .grain) height kids → fine (judged (pos l) level) ≡ forestJudge (g .grain) (tree (D .whole)) z

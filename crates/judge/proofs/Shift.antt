@@ -1,11 +1,11 @@
 -- The judgement over the integers is the judgement over heights, where no child is better than the best. Assumes nothing.
 use Prim.Native.Nat.{ℕ, zero, suc, _+_, _-_}
-use mathlib.Core.Path.{_≡_, refl, ap, ap₂, _∙_}
+use mathlib.Core.Path.{_≡_, refl, sym, ap, ap₂, _∙_}
 use mathlib.Core.Bool.{cond}
 use mathlib.Core.List.{List, [], _∷_, map}
 use mathlib.Core.Option.{Option, none, some}
 use native.Mathlib.Omega.{arith}
-use lib.ListN.{getElem?}
+use lib.ListN.{length, getElem?}
 use lib.IntN.{ℤ, pos, negsuc, _+ℤ_, _-ℤ_}
 use lib.Signed.{ltZ}
 use Rattle.numbers.proofs.Signs.{plus, minus, parts, is-unique, is-minus}
@@ -42,6 +42,26 @@ pub numbered-each : (P : ℕ → Type 0) (xs : List (Share ℕ)) (i : ℤ) (x : 
 numbered-each P xs (pos zero) x p e = let z : _≡_ {A = ℕ} 0 1 = cc in absurd (omega arith)
 numbered-each P xs (pos (suc k)) x p e = entry-each P xs k x p e
 numbered-each P xs (negsuc k) x p e = let z : _≡_ {A = ℕ} 0 1 = cc in absurd (omega arith)
+
+-- lists of one length have entries at the same numbers
+module _ {A B : Type 0} where
+  entry-same : (k : ℕ) (xs : List A) (ys : List B) (x : A) → length xs ≡ length ys → getElem? xs k ≡ some x → (y : B) × (getElem? ys k ≡ some y)
+  entry-same k [] ys x l e = let z : _≡_ {A = ℕ} 0 1 = cc in absurd (omega arith)
+  entry-same k (v ∷ vs) [] x l e = absurd (omega (arith, l))
+  entry-same zero (v ∷ vs) (y ∷ ys) x l e = (y, refl)
+  entry-same (suc k) (v ∷ vs) (y ∷ ys) x l e = entry-same k vs ys x (omega (arith, l)) e
+
+  pub numbered-some : (i : ℤ) (xs : List A) (ys : List B) (x : A) → length xs ≡ length ys → numbered i xs ≡ some x → (y : B) × (numbered i ys ≡ some y)
+  numbered-some (pos zero) xs ys x l e = let z : _≡_ {A = ℕ} 0 1 = cc in absurd (omega arith)
+  numbered-some (pos (suc k)) xs ys x l e = entry-same k xs ys x l e
+  numbered-some (negsuc k) xs ys x l e = let z : _≡_ {A = ℕ} 0 1 = cc in absurd (omega arith)
+
+pub numbered-none : {A B : Type 0} (i : ℤ) (xs : List A) (ys : List B) → length xs ≡ length ys → numbered i xs ≡ none → numbered i ys ≡ none
+numbered-none {A} {B} i xs ys l e = go (numbered i ys) refl
+  where
+    go : (o : Option B) → numbered i ys ≡ o → o ≡ none
+    go none q = refl
+    go (some y) q = let (x, p) = numbered-some i ys xs y (sym l) q in let z : _≡_ {A = ℕ} 0 1 = cc in absurd (omega arith)
 
 -- ---- the difference of two worths
 
