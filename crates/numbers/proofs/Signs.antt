@@ -1,19 +1,27 @@
 -- An integer as a difference of two naturals, `Is z a b` (z is a - b): what the operations do to such differences. Assumes nothing.
 use Prim.Native.Nat.{ℕ, zero, suc, _+_, _*_, _-_, _/_, min, max, _≤_, _<_}
-use mathlib.Core.Path.{_≡_, refl, ap}
+use mathlib.Core.Path.{_≡_, refl, sym, ap, subst, _∙_}
 use mathlib.Core.Bool.{Bool, true, false, not, cond}
 use native.Mathlib.Nat.{add-comm, le-div-iff-mul-le, div-lt-iff-lt-mul, lt-of-mul-lt-mul-left}
 use native.Mathlib.Omega.{arith}
-use lib.Dec.{T as Holds, leb, ltb, leb→le, le→leb, ltb→lt, nltb→le, nleb→lt}
+use borrow.Author.Tests.{ne-eqb}
+use lib.Dec.{T as Holds, leb, ltb, eqb, eqb→eq, eqb-refl, leb→le, le→leb, ltb→lt, nltb→le, nleb→lt}
 use lib.IntN.{ℤ, pos, negsuc, negℤ, subℕ, _+ℤ_, _-ℤ_, _*ℤ_}
 use lib.Signed.{leZ}
-use Rattle.numbers.specs.Integers.{maxZ, minZ, floorZ}
+use Rattle.numbers.specs.Integers.{maxZ, minZ, eqZ, floorZ}
 
 pub same-test : (b c : Bool) → (Holds b → Holds c) → (Holds c → Holds b) → b ≡ c
 same-test true true f g = refl
 same-test true false f g = absurd (f tt)
 same-test false true f g = absurd (g tt)
 same-test false false f g = refl
+
+same-equal : (m n a b : ℕ) → (m ≡ n → a ≡ b) → (a ≡ b → m ≡ n) → eqb m n ≡ eqb a b
+same-equal m n a b f g =
+    same-test (eqb m n) (eqb a b) (λ h. holds a b (f (eqb→eq m n h))) (λ h. holds m n (g (eqb→eq a b h)))
+  where
+    holds : (x y : ℕ) → x ≡ y → Holds (eqb x y)
+    holds x y e = subst (λ (v : ℕ). Holds (eqb x v)) e (eqb-refl x)
 
 abbrev pub Is : ℤ → ℕ → ℕ → Type 0
 Is (pos n) a b = n + b ≡ a
@@ -66,6 +74,29 @@ is-minus y z a b c d p q = is-add y (negℤ z) a b d c p (is-neg z c d q)
 pub is-mul : (w : ℕ) (z : ℤ) (a b : ℕ) → Is z a b → Is (pos w *ℤ z) (w * a) (w * b)
 is-mul w (pos n) a b p = omega (arith, ap (λ x. w * x) p)
 is-mul w (negsuc n) a b p = is-neg (pos (w * suc n)) (w * b) (w * a) (omega (arith, ap (λ x. w * x) p))
+
+is-same : (y z : ℤ) (a b c d : ℕ) → Is y a b → Is z c d → eqZ y z ≡ eqb (a + d) (c + b)
+is-same (pos m) (pos n) a b c d p q = same-equal m n (a + d) (c + b) (λ h. omega arith) (λ h. omega arith)
+is-same (pos m) (negsuc n) a b c d p q = sym (ne-eqb (a + d) (c + b) (λ h. absurd (omega arith)))
+is-same (negsuc m) (pos n) a b c d p q = sym (ne-eqb (a + d) (c + b) (λ h. absurd (omega arith)))
+is-same (negsuc m) (negsuc n) a b c d p q = same-equal m n (a + d) (c + b) (λ h. omega arith) (λ h. omega arith)
+
+pub same-flip : (y z : ℤ) → eqZ y z ≡ eqZ z y
+same-flip (pos m) (pos n) = same-equal m n n m sym sym
+same-flip (pos m) (negsuc n) = refl
+same-flip (negsuc m) (pos n) = refl
+same-flip (negsuc m) (negsuc n) = same-equal m n n m sym sym
+
+-- two integers are equal where their difference is 0
+pub minus-none : (y z : ℤ) → eqZ (y -ℤ z) (pos 0) ≡ eqZ y z
+minus-none y z =
+    let a : ℕ = plus y in
+    let b : ℕ = minus y in
+    let c : ℕ = plus z in
+    let d : ℕ = minus z in
+    is-same (y -ℤ z) (pos 0) (a + d) (b + c) 0 0 (is-minus y z a b c d (parts y) (parts z)) refl
+    ∙ same-equal (a + d + 0) (0 + (b + c)) (a + d) (c + b) (λ h. omega arith) (λ h. omega arith)
+    ∙ sym (is-same y z a b c d (parts y) (parts z))
 
 pub is-le : (y z : ℤ) (a b c d : ℕ) → Is y a b → Is z c d → leZ y z ≡ leb (a + d) (c + b)
 is-le (pos m) (pos n) a b c d p q =

@@ -1,6 +1,7 @@
--- The greater and the lesser of two integers, and quotients: what worths and bounds are computed with.
+-- The greater and the lesser of two integers, whether they are equal, and quotients: what worths, bounds and level plays are computed with.
 use Prim.Native.Nat.{ℕ, suc, _+_, _-_, _/_}
-use mathlib.Core.Bool.{cond}
+use mathlib.Core.Bool.{Bool, false, cond}
+use lib.Dec.{eqb}
 use lib.IntN.{ℤ, pos, negsuc, negℤ}
 use lib.Signed.{leZ}
 
@@ -10,6 +11,13 @@ maxZ a b = cond (leZ a b) b a
 
 unfoldable pub minZ : ℤ → ℤ → ℤ
 minZ a b = cond (leZ a b) a b
+
+-- whether two are equal, for document 02, Item 8's losses of 0
+abbrev pub eqZ : ℤ → ℤ → Bool
+eqZ (pos m) (pos n) = eqb m n
+eqZ (pos m) (negsuc n) = false
+eqZ (negsuc m) (pos n) = false
+eqZ (negsuc m) (negsuc n) = eqb m n
 
 -- A number divided by d, rounded down. Below zero, at minus n + 1, it is minus the quotient of n + 1 rounded up. `Exact` of worth and `NoRemainder` of the search
 -- say that nothing is rounded where a sum is divided by T.
