@@ -1,12 +1,11 @@
 -- Over heights: no child is better than an M or N node's worth, and some child is worth just that. Assumes nothing.
-use Prim.Native.Nat.{ℕ, zero, suc, _≤_, _<_, min, max}
+use Prim.Native.Nat.{ℕ, zero, suc, _≤_, min, max}
 use mathlib.Core.Path.{_≡_, refl}
 use mathlib.Core.List.{List, [], _∷_}
 use mathlib.Core.Option.{none, some}
 use native.Mathlib.Decide.{decLe}
 use native.Mathlib.Nat.{max-eq-left, max-eq-right, min-eq-left, min-eq-right}
 use native.Mathlib.Omega.{arith}
-use borrow.Author.Tests.{lt-ltb}
 use lib.ListN.{getElem?}
 use Rattle.table.specs.Tree.{Kind, MAX, MIN, CHANCE, Forest, end, leaf, inner}
 use Rattle.table.specs.Accepted.{Filled}
@@ -120,15 +119,15 @@ none-lost AtM b v e = omega arith
 none-lost AtN b v e = omega arith
 
 -- an entry as good as the best is level with it
-pub met-level : (s : Side) (G b k : ℕ) (xs : List (Share ℕ)) (x : Share ℕ)
-    → getElem? xs k ≡ some x → x .worth ≡ b → 0 < G → 1 ≤ heightLevels s G b xs
+pub met-level : (s : Side) (b k : ℕ) (xs : List (Share ℕ)) (x : Share ℕ)
+    → getElem? xs k ≡ some x → x .worth ≡ b → 1 ≤ heightLevels s b xs
 unfolding heightLevels
-met-level s G b k [] x e w g = let z : _≡_ {A = ℕ} 0 1 = cc in absurd (omega arith)
-met-level s G b zero (y ∷ ys) x e w g =
+met-level s b k [] x e w = let z : _≡_ {A = ℕ} 0 1 = cc in absurd (omega arith)
+met-level s b zero (y ∷ ys) x e w =
     let same : y ≡ x = cc in
     let none : heightLoss s b (y .worth) ≡ 0 = none-lost s b (y .worth) (rw same w) in
-    rw (none, lt-ltb 0 G g) (omega arith)
-met-level s G b (suc k) (y ∷ ys) x e w g = omega (arith, met-level s G b k ys x e w g)
+    rw none (omega arith)
+met-level s b (suc k) (y ∷ ys) x e w = omega (arith, met-level s b k ys x e w)
 
 -- ---- the root
 

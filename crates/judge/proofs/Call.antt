@@ -2,9 +2,11 @@
 use Prim.Native.Nat.{ℕ}
 use mathlib.Core.Path.{_≡_, refl, sym, ap, _∙_}
 use mathlib.Core.List.{List}
+use native.Mathlib.Omega.{arith}
 use lib.ListN.{length, drop}
 use lib.IntN.{ℤ}
-use Rattle.line.specs.Refusal.{Verdict, fine}
+use Rattle.line.specs.Refusal.{Verdict, refused, fine}
+use Rattle.line.specs.Line.{toNat}
 use Rattle.table.specs.declared.Summary.{Summary}
 use Rattle.table.specs.Table.{Table, readText, summary}
 use Rattle.table.proofs.Accepted.{heights-rooted}
@@ -16,7 +18,7 @@ use Rattle.worth.proofs.Call.{lent, accepted-ready, linesOf, from-all}
 use Rattle.judge.specs.declared.Judged.the-variants.{NoDecision, Loss}
 use Rattle.judge.specs.declared.Opinion.{Opinion}
 use Rattle.judge.specs.declared.Opinion.the-variants.{Given, Refused}
-use Rattle.judge.specs.Judge.{judge}
+use Rattle.judge.specs.Judge.{Judgement, noDecision, judged, judge}
 use Rattle.judge.specs.Call.{judgeAnswer, judgeCall}
 use Rattle.judge.specs.Inside.{meant, WholeLines, WellJudged}
 use Rattle.judge.proofs.Judge.{judge-heights}
@@ -26,6 +28,13 @@ meant-back : (r : Opinion) → r ≡ judgeAnswer (meant r)
 meant-back (Given NoDecision) = refl
 meant-back (Given (Loss loss level)) = refl
 meant-back (Refused r) = refl
+
+-- and an answer with a loss is that of a judgement with it
+pub answer-loss : (v : Verdict Judgement) (n level : ℕ) → judgeAnswer v ≡ Given (Loss n level)
+    → (loss : ℤ) × (v ≡ fine (judged loss level)) × (toNat loss ≡ n)
+answer-loss (refused r) n level e = let z : _≡_ {A = ℕ} 0 1 = cc in absurd (omega arith)
+answer-loss (fine noDecision) n level e = let z : _≡_ {A = ℕ} 0 1 = cc in absurd (omega arith)
+answer-loss (fine (judged loss k)) n level e = let same : k ≡ level = cc in (loss, ap (λ (m : ℕ). fine (judged loss m)) same, cc)
 
 -- ---- an accepted table
 

@@ -4,7 +4,6 @@ use mathlib.Core.Path.{_≡_, refl, sym, ap, ap₂, _∙_}
 use mathlib.Core.Bool.{Bool, true, false}
 use mathlib.Core.List.{List, _∷_, map}
 use mathlib.Core.Option.{Option, none, some}
-use native.Mathlib.Nat.{one-le-pow}
 use native.Mathlib.Decide.{decLe}
 use native.Mathlib.Omega.{arith}
 use lib.ListN.{length, length-map}
@@ -22,14 +21,14 @@ use Rattle.table.specs.Inside.{heightTree}
 use Rattle.table.specs.Accepted.{one, Filled, Proper}
 use Rattle.table.specs.Root.{Side, Root, nobody, toPlay, rootOf, children, nodes, numbered, childNode, childCount}
 use Rattle.table.proofs.Heights.{above, mapForest, heights-map}
-use Rattle.table.proofs.Accepted.{accepted-ranged, accepted-proper, accepted-filled, heights-filled}
+use Rattle.table.proofs.Accepted.{accepted-proper, accepted-filled, heights-filled}
 use Rattle.worth.specs.Worth.{Share, shares, worthOf}
 use Rattle.worth.specs.Inside.Heights.{heightShares, heightWorth, raised}
 use Rattle.worth.proofs.Bounds.{Each}
 use Rattle.worth.proofs.Shift.{Divides, shares-shift}
 use Rattle.worth.proofs.Worth.{divides, shift}
 use Rattle.judge.specs.Judge.{childWorths, lossAt, levels, Judgement, noDecision, judged, judgeChild, judgeAt, judgeEvery, unlessForced, judge}
-use Rattle.judge.specs.Inside.Heights.{heightWorths, heightLoss, heightLevels, heightJudgeChild, heightJudgeAt, forestEvery, heightJudge, Ahead}
+use Rattle.judge.specs.Inside.Heights.{heightWorths, heightLoss, heightLevels, heightJudgeAt, forestEvery, heightJudge, Ahead}
 use Rattle.judge.proofs.Choice.{some-nodes, shares-count, forced, choice, none-forced, unforced}
 use Rattle.judge.proofs.Best.{nobody-plays, Met, none-lost, met-level, best-ahead, best-met}
 use Rattle.judge.proofs.Shift.{mapped, numbered-map, numbered-each, numbered-none, loss-shift, levels-shift, judge-shift}
@@ -69,31 +68,34 @@ back : (b : ℤ) (o : Option (Share ℕ)) (x : Share ℤ) → mapped (raised b) 
 back b none x e = let z : _≡_ {A = ℕ} 0 1 = cc in absurd (omega arith)
 back b (some y) x e = (y, refl, cc)
 
--- a judgement that gives a loss gives that of a child
-child-judged : (s : Side) (G best : ℕ) (xs : List (Share ℕ)) (o : Option (Share ℕ)) (loss : ℤ) (level : ℕ)
-    → heightJudgeChild s G best xs o ≡ fine (judged loss level) → (n : ℕ) × (pos n ≡ loss) × (heightLevels s G best xs ≡ level)
-child-judged s G best xs none loss level e = let z : _≡_ {A = ℕ} 0 1 = cc in absurd (omega arith)
-child-judged s G best xs (some x) loss level e = (heightLoss s best (x .worth), cc, cc)
+-- what a judgement with a loss says: a child has the number, the loss is that child's, and `level` is the number of level children
+pub record Says (side : Side) (exact : ℤ) (xs : List (Share ℤ)) (i loss : ℤ) (level : ℕ) : Type 0 where
+  pub child : Share ℤ
+  pub there : numbered i xs ≡ some child
+  pub lost : lossAt side exact (child .worth) ≡ loss
+  pub counted : levels side exact xs ≡ level
 
-root-judged : (r : Root) (G best : ℕ) (xs : List (Share ℕ)) (i loss : ℤ) (level : ℕ)
-    → heightJudgeAt r G best xs i ≡ fine (judged loss level)
-    → (s : Side) × (n : ℕ) × (r ≡ toPlay s) × (pos n ≡ loss) × (heightLevels s G best xs ≡ level)
-root-judged nobody G best xs i loss level e = let z : _≡_ {A = ℕ} 0 1 = cc in absurd (omega arith)
-root-judged (toPlay s) G best xs i loss level e =
-    let (n, p, q) = child-judged s G best xs (numbered i xs) loss level e in
-    (s, n, refl, p, q)
+child-says : (s : Side) (exact : ℤ) (xs : List (Share ℤ)) (i loss : ℤ) (level : ℕ) (o : Option (Share ℤ)) → numbered i xs ≡ o
+    → judgeChild s exact xs o ≡ fine (judged loss level) → Says s exact xs i loss level
+child-says s exact xs i loss level none n e = let z : _≡_ {A = ℕ} 0 1 = cc in absurd (omega arith)
+child-says s exact xs i loss level (some x) n e = record { child = x; there = n; lost = cc; counted = cc }
+
+root-says : (r : Root) (exact : ℤ) (xs : List (Share ℤ)) (i loss : ℤ) (level : ℕ) → judgeAt r exact xs i ≡ fine (judged loss level)
+    → (s : Side) × (r ≡ toPlay s) × Says s exact xs i loss level
+root-says nobody exact xs i loss level e = let z : _≡_ {A = ℕ} 0 1 = cc in absurd (omega arith)
+root-says (toPlay s) exact xs i loss level e = (s, refl, child-says s exact xs i loss level (numbered i xs) refl e)
 
 -- the only refusal of judging is 14, where no child has the number
-child-refused : (s : Side) (G : ℕ) (exact : ℤ) (xs : List (Share ℤ)) (o : Option (Share ℤ)) (r : Refusal) → judgeChild s G exact xs o ≡ refused r
+child-refused : (s : Side) (exact : ℤ) (xs : List (Share ℤ)) (o : Option (Share ℤ)) (r : Refusal) → judgeChild s exact xs o ≡ refused r
     → (NoChild ≡ r) × (o ≡ none)
-child-refused s G exact xs none r e = (cc, refl)
-child-refused s G exact xs (some x) r e = let z : _≡_ {A = ℕ} 0 1 = cc in absurd (omega arith)
+child-refused s exact xs none r e = (cc, refl)
+child-refused s exact xs (some x) r e = let z : _≡_ {A = ℕ} 0 1 = cc in absurd (omega arith)
 
-root-refused : (o : Root) (G : ℕ) (exact : ℤ) (xs : List (Share ℤ)) (i : ℤ) (r : Refusal) → judgeAt o G exact xs i ≡ refused r
+root-refused : (o : Root) (exact : ℤ) (xs : List (Share ℤ)) (i : ℤ) (r : Refusal) → judgeAt o exact xs i ≡ refused r
     → (NoChild ≡ r) × (numbered i xs ≡ none) × (s : Side) × (o ≡ toPlay s)
-root-refused nobody G exact xs i r e = let z : _≡_ {A = ℕ} 0 1 = cc in absurd (omega arith)
-root-refused (toPlay s) G exact xs i r e =
-    let (z, n) = child-refused s G exact xs (numbered i xs) r e in
+root-refused nobody exact xs i r e = let z : _≡_ {A = ℕ} 0 1 = cc in absurd (omega arith)
+root-refused (toPlay s) exact xs i r e =
+    let (z, n) = child-refused s exact xs (numbered i xs) r e in
     (z, n, s, refl)
 
 -- neither a refusal nor a loss is "no decision"
@@ -114,14 +116,19 @@ module _ (t : Table) (i : ℤ) where
   pub forced-judged : childCount t ≡ 1 → judge t i ≡ fine noDecision
   forced-judged = forced (childCount t) (judgeEvery t i)
 
-  -- with two children or more the judgement is document 01's
+  -- with two children or more it is that of `judgeEvery`
   pub choice-judged : 2 ≤ childCount t → judge t i ≡ judgeEvery t i
   choice-judged = choice (childCount t) (judgeEvery t i)
+
+  -- and so, at M or N, that of the child with the number, if there is one
+  pub decided-judged : (side : Side) → rootOf (tree t) ≡ toPlay side → 2 ≤ childCount t
+      → judge t i ≡ judgeChild side (worthOf t) (childWorths t) (numbered i (childWorths t))
+  decided-judged side e h = choice-judged h ∙ ap (λ (r : Root). judgeAt r (worthOf t) (childWorths t) i) e
 
   -- at a C or L root there is no decision, for every number
   pub nobody-judged : rootOf (tree t) ≡ nobody → judge t i ≡ fine noDecision
   nobody-judged e =
-      ap (λ (r : Root). unlessForced (childCount t) (judgeAt r (grain t) (worthOf t) (childWorths t) i)) e ∙ none-forced (childCount t)
+      ap (λ (r : Root). unlessForced (childCount t) (judgeAt r (worthOf t) (childWorths t) i)) e ∙ none-forced (childCount t)
 
   refused-every : (r : Refusal) → judge t i ≡ refused r → (judgeEvery t i ≡ refused r) × (childCount t ≡ 1 → ⊥)
   refused-every r = unforced (childCount t) (judgeEvery t i) (refused r) (not-refused r)
@@ -129,8 +136,13 @@ module _ (t : Table) (i : ℤ) where
   judged-every : (loss : ℤ) (level : ℕ) → judge t i ≡ fine (judged loss level) → (judgeEvery t i ≡ fine (judged loss level)) × (childCount t ≡ 1 → ⊥)
   judged-every loss level = unforced (childCount t) (judgeEvery t i) (fine (judged loss level)) (not-judged loss level)
 
+  -- a judgement with a loss is of a root at which somebody plays, and says this of it
+  pub judged-says : (loss : ℤ) (level : ℕ) → judge t i ≡ fine (judged loss level)
+      → (side : Side) × (rootOf (tree t) ≡ toPlay side) × Says side (worthOf t) (childWorths t) i loss level
+  judged-says loss level e = root-says (rootOf (tree t)) (worthOf t) (childWorths t) i loss level (judged-every loss level e .0)
+
   pub judge-refused : (r : Refusal) → judge t i ≡ refused r → NoChild ≡ r
-  judge-refused r e = root-refused (rootOf (tree t)) (grain t) (worthOf t) (childWorths t) i r (refused-every r e .0) .0
+  judge-refused r e = root-refused (rootOf (tree t)) (worthOf t) (childWorths t) i r (refused-every r e .0) .0
 
 not-below : (n : ℕ) (z : ℤ) → pos n ≡ z → leZ (pos 0) z ≡ true
 not-below n z e = sym (ap (leZ (pos 0)) e) ∙ leb·zero n
@@ -141,9 +153,6 @@ module _ (s : List ℕ) (t : Table) (h : readText s ≡ fine t) where
   -- the lowest end in grains
   abbrev base : ℤ
   base = t .head .lowest *ℤ pos (grain t)
-
-  pub some-grains : 1 ≤ grain t
-  some-grains = one-le-pow (greatest (t .lines)) (t .head .total) (accepted-ranged s t h .some)
 
   -- ---- over heights
 
@@ -163,7 +172,7 @@ module _ (s : List ℕ) (t : Table) (h : readText s ≡ fine t) where
       ∙ ap (λ (F : Forest ℕ). map (raised base) (heightShares (grain t) F)) children-heights
 
   -- there is a worth for each child
-  worths-count : length (childWorths t) ≡ childCount t
+  pub worths-count : length (childWorths t) ≡ childCount t
   worths-count =
       ap length worths-heights
       ∙ length-map (heightWorths t) (raised base)
@@ -176,9 +185,9 @@ module _ (s : List ℕ) (t : Table) (h : readText s ≡ fine t) where
   -- the whole judgement
   every-heights : (i : ℤ) → judgeEvery t i ≡ forestEvery (grain t) (heightTree t) i
   every-heights i =
-      ap₂ (λ (z : ℤ) (xs : List (Share ℤ)). judgeAt (rootOf (tree t)) (grain t) z xs i) (shift s t h) worths-heights
-      ∙ judge-shift base (rootOf (tree t)) (grain t) (heightWorth t) (heightWorths t) i heights-ahead
-      ∙ ap (λ (r : Root). heightJudgeAt r (grain t) (heightWorth t) (heightWorths t) i) (sym root-heights)
+      ap₂ (λ (z : ℤ) (xs : List (Share ℤ)). judgeAt (rootOf (tree t)) z xs i) (shift s t h) worths-heights
+      ∙ judge-shift base (rootOf (tree t)) (heightWorth t) (heightWorths t) i heights-ahead
+      ∙ ap (λ (r : Root). heightJudgeAt r (heightWorth t) (heightWorths t) i) (sym root-heights)
 
   pub judge-heights : (i : ℤ) → judge t i ≡ heightJudge t i
   judge-heights i = ap₂ (λ (ns : List ℕ) (v : Verdict Judgement). unlessForced (length ns) v) (sym nodes-heights) (every-heights i)
@@ -222,36 +231,31 @@ module _ (s : List ℕ) (t : Table) (h : readText s ≡ fine t) where
               ∙ ap pos (none-lost side (heightWorth t) (met .share .worth) (met .worth)),
         )
 
-    pub levels-heights : levels side (grain t) (worthOf t) (childWorths t) ≡ heightLevels side (grain t) (heightWorth t) (heightWorths t)
+    pub levels-heights : levels side (worthOf t) (childWorths t) ≡ heightLevels side (heightWorth t) (heightWorths t)
     levels-heights =
-        ap₂ (levels side (grain t)) (shift s t h) worths-heights
-        ∙ levels-shift base side (grain t) (heightWorth t) (heightWorths t) (heights-ahead side e)
+        ap₂ (levels side) (shift s t h) worths-heights
+        ∙ levels-shift base side (heightWorth t) (heightWorths t) (heights-ahead side e)
 
     -- at least one child is level
-    level-heights : 1 ≤ heightLevels side (grain t) (heightWorth t) (heightWorths t)
-    level-heights =
-        met-level side (grain t) (heightWorth t) (met .place) (heightWorths t) (met .share) (met .there) (met .worth) some-grains
-
-    pub some-level : 1 ≤ levels side (grain t) (worthOf t) (childWorths t)
-    some-level = rw levels-heights level-heights
+    pub some-level : 1 ≤ levels side (worthOf t) (childWorths t)
+    some-level = rw levels-heights (met-level side (heightWorth t) (met .place) (heightWorths t) (met .share) (met .there) (met .worth))
 
     -- where there is a choice, some play is judged to lose nothing
     pub best-judged : 2 ≤ childCount t → (i : ℤ) × (level : ℕ) × (judge t i ≡ fine (judged (pos 0) level))
     best-judged h =
         let (i, x, f, z) = best-child in (
           i,
-          levels side (grain t) (worthOf t) (childWorths t),
-          choice-judged t i h
-              ∙ ap (λ (r : Root). judgeAt r (grain t) (worthOf t) (childWorths t) i) e
-              ∙ ap (judgeChild side (grain t) (worthOf t) (childWorths t)) f
-              ∙ ap (λ (l : ℤ). fine (judged l (levels side (grain t) (worthOf t) (childWorths t)))) z,
+          levels side (worthOf t) (childWorths t),
+          decided-judged t i side e h
+              ∙ ap (judgeChild side (worthOf t) (childWorths t)) f
+              ∙ ap (λ (l : ℤ). fine (judged l (levels side (worthOf t) (childWorths t)))) z,
         )
 
   -- of every judgement with a loss: the loss is not negative, and a child is level
   pub judged-sound : (i loss : ℤ) (level : ℕ) → judge t i ≡ fine (judged loss level) → (leZ (pos 0) loss ≡ true) × (1 ≤ level)
   judged-sound i loss level e =
-      let (side, n, r, p, q) = root-judged (rootOf (heightTree t)) (grain t) (heightWorth t) (heightWorths t) i loss level (sym (every-heights i) ∙ judged-every t i loss level e .0) in
-      (not-below n loss p, rw q at (level-heights side (sym root-heights ∙ r)))
+      let (side, o, S) = judged-says t i loss level e in
+      (rw (S .lost) at (loss-natural side o i (S .child) (S .there)), rw (S .counted) at (some-level side o))
 
   -- where somebody plays and the children are not one, they are two or more
   several : (side : Side) → rootOf (tree t) ≡ toPlay side → (childCount t ≡ 1 → ⊥) → 2 ≤ childCount t
@@ -267,19 +271,17 @@ module _ (s : List ℕ) (t : Table) (h : readText s ≡ fine t) where
       → (side : Side) × (rootOf (tree t) ≡ toPlay side) × (2 ≤ childCount t) × (childNode t i ≡ none)
   refused-choice i r e =
       let (v, h) = refused-every t i r e in
-      let (z, n, side, o) = root-refused (rootOf (tree t)) (grain t) (worthOf t) (childWorths t) i r v in
+      let (z, n, side, o) = root-refused (rootOf (tree t)) (worthOf t) (childWorths t) i r v in
       (side, o, several side o h, numbered-none i (childWorths t) (nodes (children (tree t))) worths-count n)
 
   -- and there it is given
   pub missing-refused : (i : ℤ) (side : Side) → rootOf (tree t) ≡ toPlay side → 2 ≤ childCount t → childNode t i ≡ none → judge t i ≡ refused NoChild
   missing-refused i side o several m =
-      choice-judged t i several
-      ∙ ap (λ (r : Root). judgeAt r (grain t) (worthOf t) (childWorths t) i) o
-      ∙ ap (judgeChild side (grain t) (worthOf t) (childWorths t)) (numbered-none i (nodes (children (tree t))) (childWorths t) (sym worths-count) m)
+      decided-judged t i side o several
+      ∙ ap (judgeChild side (worthOf t) (childWorths t)) (numbered-none i (nodes (children (tree t))) (childWorths t) (sym worths-count) m)
 
   -- a loss needs the same root
   pub judged-choice : (i loss : ℤ) (level : ℕ) → judge t i ≡ fine (judged loss level) → (side : Side) × (rootOf (tree t) ≡ toPlay side) × (2 ≤ childCount t)
   judged-choice i loss level e =
-      let (v, h) = judged-every t i loss level e in
-      let (side, n, r, p, q) = root-judged (rootOf (heightTree t)) (grain t) (heightWorth t) (heightWorths t) i loss level (sym (every-heights i) ∙ v) in
-      (side, sym root-heights ∙ r, several side (sym root-heights ∙ r) h)
+      let (side, o, S) = judged-says t i loss level e in
+      (side, o, several side o (judged-every t i loss level e .1))

@@ -3,7 +3,7 @@ use Prim.Native.Nat.{ℕ, _-_, _≤_, _<_, min, max}
 use mathlib.Core.Path.{_≡_, sym, ap, subst, _∙_}
 use mathlib.Core.Bool.{Bool, true, false, cond}
 use native.Mathlib.Omega.{arith}
-use borrow.Author.Tests.{lt-ltb, le-ltb}
+use borrow.Author.Tests.{eq-eqb, ne-eqb}
 use Rattle.table.specs.Root.{Side}
 use Rattle.judge.specs.Inside.Heights.{heightLoss, Ahead}
 use Rattle.judge.specs.Inside.{sideIf, better, levelOne}
@@ -27,9 +27,9 @@ module _ (m : Bool) (best h : ℕ) where
   pub loss-n : m ≡ false → h - best ≡ heightLoss (sideIf m) best h
   loss-n e = ap (λ (b : Bool). heightLoss (sideIf b) best h) (sym e)
 
-module _ (s : Side) (G best h l : ℕ) (e : l ≡ heightLoss s best h) where
-  pub level-yes : l < G → 1 ≡ levelOne s G best h
-  level-yes q = ap (λ (b : Bool). cond b 1 0) (sym (lt-ltb (heightLoss s best h) G (omega (arith, e))))
+module _ (s : Side) (best h l : ℕ) (e : l ≡ heightLoss s best h) where
+  pub level-yes : l ≡ 0 → 1 ≡ levelOne s best h
+  level-yes q = ap (λ (b : Bool). cond b 1 0) (sym (eq-eqb (heightLoss s best h) 0 (omega (arith, e))))
 
-  pub level-no : G ≤ l → 0 ≡ levelOne s G best h
-  level-no q = ap (λ (b : Bool). cond b 1 0) (sym (le-ltb (heightLoss s best h) G (omega (arith, e))))
+  pub level-no : 0 < l → 0 ≡ levelOne s best h
+  level-no q = ap (λ (b : Bool). cond b 1 0) (sym (ne-eqb (heightLoss s best h) 0 (λ z. absurd (omega (arith, e)))))

@@ -183,8 +183,8 @@ module _ (S : Beside) (g : Scale) (n : ℕ) (s : List ℕ) where
         ahead-of =
             rw (b, front) (all-ahead side height kids (best-ahead (g .grain) side (tree (D .whole)) (D .root)))
 
-        pub level-of : (r : ℕ) → r ≡ levelsIn side (g .grain) best (take m list) → r ≡ heightLevels side (g .grain) height kids
-        level-of r e = e ∙ ap₂ (levelsIn side (g .grain)) b front ∙ levels-worths side (g .grain) height kids
+        pub level-of : (r : ℕ) → r ≡ levelsIn side best (take m list) → r ≡ heightLevels side height kids
+        level-of r e = e ∙ ap₂ (levelsIn side) b front ∙ levels-worths side height kids
 
     -- ---- the child of a number
 
@@ -199,22 +199,22 @@ module _ (S : Beside) (g : Scale) (n : ℕ) (s : List ℕ) where
 
     -- ---- the judgement
 
-    decided-judge : (z : ℤ) → forestJudge (g .grain) (tree (D .whole)) z ≡ heightJudgeChild side (g .grain) height kids (numbered z kids)
+    decided-judge : (z : ℤ) → forestJudge (g .grain) (tree (D .whole)) z ≡ heightJudgeChild side height kids (numbered z kids)
     decided-judge z =
         choice (length (nodes (children (tree (D .whole))))) (forestEvery (g .grain) (tree (D .whole)) z) (D .choice)
-        ∙ ap (λ (r : Root). heightJudgeAt r (g .grain) height kids z) (D .root)
+        ∙ ap (λ (r : Root). heightJudgeAt r height kids z) (D .root)
 
     pub well-none : (z : ℤ) (p : Play) → p ≡ NoPlay → p ≡ playOf (numbered z (chain-of (D .whole) .nodes)) → refused NoChild ≡ forestJudge (g .grain) (tree (D .whole)) z
     unfolding chain-of
     well-none z p e f =
         let o : List ℕ = starts (S .stops) 1 (children (tree (D .whole))) in
-        sym (decided-judge z ∙ ap (heightJudgeChild side (g .grain) height kids) (numbered-none z o kids (starts-shares (S .stops) (g .grain) 1 (children (tree (D .whole)))) (play-none (numbered z o) (sym e ∙ f))))
+        sym (decided-judge z ∙ ap (heightJudgeChild side height kids) (numbered-none z o kids (starts-shares (S .stops) (g .grain) 1 (children (tree (D .whole)))) (play-none (numbered z o) (sym e ∙ f))))
 
     pub well-lost : (z : ℤ) (K : Found z) (best h l level : ℕ) → best ≡ height → h ≡ K .0 .worth
-        → l ≡ heightLoss side best h → level ≡ heightLevels side (g .grain) height kids → fine (judged (pos l) level) ≡ forestJudge (g .grain) (tree (D .whole)) z
+        → l ≡ heightLoss side best h → level ≡ heightLevels side height kids → fine (judged (pos l) level) ≡ forestJudge (g .grain) (tree (D .whole)) z
     well-lost z K best h l level b w x y =
         ap₂ (λ (m : ℕ) (v : ℕ). fine (judged (pos m) v)) (x ∙ ap₂ (heightLoss side) b w) y
-        ∙ sym (decided-judge z ∙ ap (heightJudgeChild side (g .grain) height kids) (K .1))
+        ∙ sym (decided-judge z ∙ ap (heightJudgeChild side height kids) (K .1))
 
     pub found-ahead : (z : ℤ) (K : Found z) (best h : ℕ) → best ≡ height → h ≡ K .0 .worth → Ahead side best h
     found-ahead z K best h b w =
@@ -267,7 +267,7 @@ module _ (S : Beside) (n : ℕ) (s : List ℕ) where
 pub none-judged : (G : ℕ) (f : Forest ℕ) (i : ℤ) → rootOf f ≡ nobody → fine noDecision ≡ forestJudge G f i
 none-judged G f i e =
     sym
-    (ap (λ (r : Root). unlessForced (length (nodes (children f))) (heightJudgeAt r G (firstHeight (heightShares G f)) (heightShares G (children f)) i)) e
+    (ap (λ (r : Root). unlessForced (length (nodes (children f))) (heightJudgeAt r (firstHeight (heightShares G f)) (heightShares G (children f)) i)) e
     ∙ none-forced (length (nodes (children f))))
 
 pub few-judged : (G : ℕ) (f : Forest ℕ) (i : ℤ) → Filled f → length (nodes (children f)) < 2 → fine noDecision ≡ forestJudge G f i

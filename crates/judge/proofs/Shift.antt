@@ -7,7 +7,7 @@ use mathlib.Core.Option.{Option, none, some}
 use native.Mathlib.Omega.{arith}
 use lib.ListN.{length, getElem?}
 use lib.IntN.{ℤ, pos, negsuc, _+ℤ_, _-ℤ_}
-use lib.Signed.{ltZ}
+use Rattle.numbers.specs.Integers.{eqZ}
 use Rattle.numbers.proofs.Signs.{plus, minus, parts, is-unique, is-minus}
 use Rattle.numbers.proofs.Above.{lift}
 use Rattle.table.specs.Root.{Side, AtM, AtN, Root, nobody, toPlay, numbered}
@@ -78,22 +78,22 @@ module _ (b : ℤ) where
   loss-shift AtM best v h = minus-shift b best v (best - v) (omega arith)
   loss-shift AtN best v h = minus-shift b v best (v - best) (omega arith)
 
-  pub levels-shift : (s : Side) (G best : ℕ) (xs : List (Share ℕ)) → Each (Ahead s best) xs
-      → levels s G (b +ℤ pos best) (map (raised b) xs) ≡ heightLevels s G best xs
+  pub levels-shift : (s : Side) (best : ℕ) (xs : List (Share ℕ)) → Each (Ahead s best) xs
+      → levels s (b +ℤ pos best) (map (raised b) xs) ≡ heightLevels s best xs
   unfolding levels heightLevels
-  levels-shift s G best [] p = refl
-  levels-shift s G best (x ∷ xs) p =
-      ap₂ (λ (z : ℤ) (n : ℕ). cond (ltZ z (pos G)) 1 0 + n) (loss-shift s best (x .worth) (p .0)) (levels-shift s G best xs (p .1))
+  levels-shift s best [] p = refl
+  levels-shift s best (x ∷ xs) p =
+      ap₂ (λ (z : ℤ) (n : ℕ). cond (eqZ z (pos 0)) 1 0 + n) (loss-shift s best (x .worth) (p .0)) (levels-shift s best xs (p .1))
 
-  child-shift : (s : Side) (G best : ℕ) (xs : List (Share ℕ)) (o : Option (Share ℕ)) → Each (Ahead s best) xs
+  child-shift : (s : Side) (best : ℕ) (xs : List (Share ℕ)) (o : Option (Share ℕ)) → Each (Ahead s best) xs
       → ((x : Share ℕ) → o ≡ some x → Ahead s best (x .worth))
-      → judgeChild s G (b +ℤ pos best) (map (raised b) xs) (mapped (raised b) o) ≡ heightJudgeChild s G best xs o
-  child-shift s G best xs none p f = refl
-  child-shift s G best xs (some x) p f = rw (loss-shift s best (x .worth) (f x refl), levels-shift s G best xs p)
+      → judgeChild s (b +ℤ pos best) (map (raised b) xs) (mapped (raised b) o) ≡ heightJudgeChild s best xs o
+  child-shift s best xs none p f = refl
+  child-shift s best xs (some x) p f = rw (loss-shift s best (x .worth) (f x refl), levels-shift s best xs p)
 
-  pub judge-shift : (r : Root) (G best : ℕ) (xs : List (Share ℕ)) (i : ℤ) → ((s : Side) → r ≡ toPlay s → Each (Ahead s best) xs)
-      → judgeAt r G (b +ℤ pos best) (map (raised b) xs) i ≡ heightJudgeAt r G best xs i
-  judge-shift nobody G best xs i f = refl
-  judge-shift (toPlay s) G best xs i f =
-      ap (judgeChild s G (b +ℤ pos best) (map (raised b) xs)) (numbered-map (raised b) i xs)
-      ∙ child-shift s G best xs (numbered i xs) (f s refl) (λ (x : Share ℕ) e. numbered-each (Ahead s best) xs i x (f s refl) e)
+  pub judge-shift : (r : Root) (best : ℕ) (xs : List (Share ℕ)) (i : ℤ) → ((s : Side) → r ≡ toPlay s → Each (Ahead s best) xs)
+      → judgeAt r (b +ℤ pos best) (map (raised b) xs) i ≡ heightJudgeAt r best xs i
+  judge-shift nobody best xs i f = refl
+  judge-shift (toPlay s) best xs i f =
+      ap (judgeChild s (b +ℤ pos best) (map (raised b) xs)) (numbered-map (raised b) i xs)
+      ∙ child-shift s best xs (numbered i xs) (f s refl) (λ (x : Share ℕ) e. numbered-each (Ahead s best) xs i x (f s refl) e)

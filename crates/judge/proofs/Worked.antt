@@ -23,25 +23,45 @@ found is t = fine (map (judge t) is)
 near1 : List ℕ
 near1 = 32 ∷ 32 ∷ 32 ∷ 49 ∷ 32 ∷ 76 ∷ 32 ∷ 32 ∷ 32 ∷ 32 ∷ 48 ∷ 32 ∷ 32 ∷ 32 ∷ 32 ∷ 32 ∷ 32 ∷ 32 ∷ 32 ∷ 32 ∷ 32 ∷ 32 ∷ 32 ∷ 52 ∷ 10 ∷ []
 
--- "   3   1       0      10"
-point-head : List ℕ
-point-head = 32 ∷ 32 ∷ 32 ∷ 51 ∷ 32 ∷ 32 ∷ 32 ∷ 49 ∷ 32 ∷ 32 ∷ 32 ∷ 32 ∷ 32 ∷ 32 ∷ 32 ∷ 48 ∷ 32 ∷ 32 ∷ 32 ∷ 32 ∷ 32 ∷ 32 ∷ 49 ∷ 48 ∷ 10 ∷ []
+-- "   8   4       0       8"
+three-head : List ℕ
+three-head = 32 ∷ 32 ∷ 32 ∷ 56 ∷ 32 ∷ 32 ∷ 32 ∷ 52 ∷ 32 ∷ 32 ∷ 32 ∷ 32 ∷ 32 ∷ 32 ∷ 32 ∷ 48 ∷ 32 ∷ 32 ∷ 32 ∷ 32 ∷ 32 ∷ 32 ∷ 32 ∷ 56 ∷ 10 ∷ []
 
 -- "   1 L    0            3"
-point1 : List ℕ
-point1 = 32 ∷ 32 ∷ 32 ∷ 49 ∷ 32 ∷ 76 ∷ 32 ∷ 32 ∷ 32 ∷ 32 ∷ 48 ∷ 32 ∷ 32 ∷ 32 ∷ 32 ∷ 32 ∷ 32 ∷ 32 ∷ 32 ∷ 32 ∷ 32 ∷ 32 ∷ 32 ∷ 51 ∷ 10 ∷ []
+three1 : List ℕ
+three1 = 32 ∷ 32 ∷ 32 ∷ 49 ∷ 32 ∷ 76 ∷ 32 ∷ 32 ∷ 32 ∷ 32 ∷ 48 ∷ 32 ∷ 32 ∷ 32 ∷ 32 ∷ 32 ∷ 32 ∷ 32 ∷ 32 ∷ 32 ∷ 32 ∷ 32 ∷ 32 ∷ 51 ∷ 10 ∷ []
 
--- "   2 L    0            2"
-point2 : List ℕ
-point2 = 32 ∷ 32 ∷ 32 ∷ 50 ∷ 32 ∷ 76 ∷ 32 ∷ 32 ∷ 32 ∷ 32 ∷ 48 ∷ 32 ∷ 32 ∷ 32 ∷ 32 ∷ 32 ∷ 32 ∷ 32 ∷ 32 ∷ 32 ∷ 32 ∷ 32 ∷ 32 ∷ 50 ∷ 10 ∷ []
+-- "   3 L    2    1       3"
+three3 : List ℕ
+three3 = 32 ∷ 32 ∷ 32 ∷ 51 ∷ 32 ∷ 76 ∷ 32 ∷ 32 ∷ 32 ∷ 32 ∷ 50 ∷ 32 ∷ 32 ∷ 32 ∷ 32 ∷ 49 ∷ 32 ∷ 32 ∷ 32 ∷ 32 ∷ 32 ∷ 32 ∷ 32 ∷ 51 ∷ 10 ∷ []
+
+-- "   4 L    2    3       2"
+three4 : List ℕ
+three4 = 32 ∷ 32 ∷ 32 ∷ 52 ∷ 32 ∷ 76 ∷ 32 ∷ 32 ∷ 32 ∷ 32 ∷ 50 ∷ 32 ∷ 32 ∷ 32 ∷ 32 ∷ 51 ∷ 32 ∷ 32 ∷ 32 ∷ 32 ∷ 32 ∷ 32 ∷ 32 ∷ 50 ∷ 10 ∷ []
+
+-- "   5 C    0             "
+three5 : List ℕ
+three5 = 32 ∷ 32 ∷ 32 ∷ 53 ∷ 32 ∷ 67 ∷ 32 ∷ 32 ∷ 32 ∷ 32 ∷ 48 ∷ 32 ∷ 32 ∷ 32 ∷ 32 ∷ 32 ∷ 32 ∷ 32 ∷ 32 ∷ 32 ∷ 32 ∷ 32 ∷ 32 ∷ 32 ∷ 10 ∷ []
+
+-- "   6 L    5    2       2"
+three6 : List ℕ
+three6 = 32 ∷ 32 ∷ 32 ∷ 54 ∷ 32 ∷ 76 ∷ 32 ∷ 32 ∷ 32 ∷ 32 ∷ 53 ∷ 32 ∷ 32 ∷ 32 ∷ 32 ∷ 50 ∷ 32 ∷ 32 ∷ 32 ∷ 32 ∷ 32 ∷ 32 ∷ 32 ∷ 50 ∷ 10 ∷ []
+
+-- "   7 L    5    2       4"
+three7 : List ℕ
+three7 = 32 ∷ 32 ∷ 32 ∷ 55 ∷ 32 ∷ 76 ∷ 32 ∷ 32 ∷ 32 ∷ 32 ∷ 53 ∷ 32 ∷ 32 ∷ 32 ∷ 32 ∷ 50 ∷ 32 ∷ 32 ∷ 32 ∷ 32 ∷ 32 ∷ 32 ∷ 32 ∷ 52 ∷ 10 ∷ []
+
+-- examples/level.txt after its root: plays worth 3, 2 1/4 and 3 points
+three : List ℕ
+three = three1 ++ (chance ++ (three3 ++ (three4 ++ (three5 ++ (three6 ++ three7)))))
 
 -- table B: the second child played loses 6 and one child is level; there is no child 0, 3 or -1
 judged-b : next (readText table-b) (found (pos 2 ∷ pos 1 ∷ pos 0 ∷ pos 3 ∷ negsuc 0 ∷ [])) ≡ fine (fine (judged (pos 6) 1) ∷ fine (judged (pos 0) 1) ∷ refused NoChild ∷ refused NoChild ∷ refused NoChild ∷ [])
 unfolding found maxZ minZ floorZ largest smallest weighted total value shares levels strip digits whole signed unless unlessAt climb run after forest weigh nodesWhere nodeLines complete readText greatest nodes
 judged-b = refl
 
--- B with 4 in place of 5: the second child loses 2 grains of the 4 that a point has, and both are level
-judged-near : next (readText (b-head ++ (max-root ++ (near1 ++ (chance ++ (b3 ++ b4)))))) (found (pos 2 ∷ pos 1 ∷ [])) ≡ fine (fine (judged (pos 2) 2) ∷ fine (judged (pos 0) 2) ∷ [])
+-- B with 4 in place of 5: the second child loses 2 grains of the 4 that a point has, and is not level
+judged-near : next (readText (b-head ++ (max-root ++ (near1 ++ (chance ++ (b3 ++ b4)))))) (found (pos 2 ∷ pos 1 ∷ [])) ≡ fine (fine (judged (pos 2) 1) ∷ fine (judged (pos 0) 1) ∷ [])
 unfolding near1 found maxZ minZ floorZ largest smallest weighted total value shares levels strip digits whole signed unless unlessAt climb run after forest weigh nodesWhere nodeLines complete readText greatest nodes
 judged-near = refl
 
@@ -50,10 +70,15 @@ judged-turned : next (readText turned-b) (found (pos 2 ∷ pos 1 ∷ pos 0 ∷ p
 unfolding found maxZ minZ floorZ largest smallest weighted total value shares levels strip digits whole signed unless unlessAt climb run after forest weigh nodesWhere nodeLines complete readText greatest nodes
 judged-turned = refl
 
--- leaves of 3 and 2 under an M: a loss of just one point is not level
-judged-point : next (readText (point-head ++ (max-root ++ (point1 ++ point2)))) (found (pos 2 ∷ pos 1 ∷ [])) ≡ fine (fine (judged (pos 1) 1) ∷ fine (judged (pos 0) 1) ∷ [])
-unfolding point-head point1 point2 found maxZ minZ floorZ largest smallest weighted total value shares levels strip digits whole signed unless unlessAt climb run after forest weigh nodesWhere nodeLines complete readText greatest nodes
-judged-point = refl
+-- three plays: two of them are level, and the other is three quarters of a point worse
+judged-level : next (readText (three-head ++ (max-root ++ three))) (found (pos 1 ∷ pos 2 ∷ pos 3 ∷ [])) ≡ fine (fine (judged (pos 0) 2) ∷ fine (judged (pos 3) 2) ∷ fine (judged (pos 0) 2) ∷ [])
+unfolding three-head three1 three3 three4 three5 three6 three7 three found maxZ minZ floorZ largest smallest weighted total value shares levels strip digits whole signed unless unlessAt climb run after forest weigh nodesWhere nodeLines complete readText greatest nodes
+judged-level = refl
+
+-- the same plays at an N root, where that one is the best alone
+judged-level-n : next (readText (three-head ++ (min-root ++ three))) (found (pos 1 ∷ pos 2 ∷ pos 3 ∷ [])) ≡ fine (fine (judged (pos 3) 1) ∷ fine (judged (pos 0) 1) ∷ fine (judged (pos 3) 1) ∷ [])
+unfolding three-head three1 three3 three4 three5 three6 three7 three found maxZ minZ floorZ largest smallest weighted total value shares levels strip digits whole signed unless unlessAt climb run after forest weigh nodesWhere nodeLines complete readText greatest nodes
+judged-level-n = refl
 
 -- a lone leaf: no decision, whatever the number
 judged-lone : next (readText lone-leaf) (found (pos 1 ∷ pos 7 ∷ pos 0 ∷ negsuc 0 ∷ [])) ≡ fine (fine noDecision ∷ fine noDecision ∷ fine noDecision ∷ fine noDecision ∷ [])

@@ -6,7 +6,7 @@ use mathlib.Core.Option.{some}
 use native.Mathlib.Omega.{arith}
 use lib.ListN.{length, getD, getElem?, take, drop}
 use lib.Seq.{length-take-le, getD-take, drop-cons, drop-length}
-use lib.Dec.{ltb}
+use lib.Dec.{eqb}
 use lib.IntN.{ℤ, pos, negsuc}
 use Rattle.field.proofs.Small.{one-or-none}
 use Rattle.line.specs.Line.{toNat}
@@ -92,10 +92,10 @@ pub all-ahead : (s : Side) (best : ℕ) (xs : List (Share ℕ)) → Each (Ahead 
 all-ahead s best [] e = tt
 all-ahead s best (x ∷ xs) e = (e .0, all-ahead s best xs (e .1))
 
-pub levels-worths : (s : Side) (G best : ℕ) (xs : List (Share ℕ)) → levelsIn s G best (heightsIn xs) ≡ heightLevels s G best xs
+pub levels-worths : (s : Side) (best : ℕ) (xs : List (Share ℕ)) → levelsIn s best (heightsIn xs) ≡ heightLevels s best xs
 unfolding levelsIn heightLevels
-levels-worths s G best [] = refl
-levels-worths s G best (x ∷ xs) = ap (λ (k : ℕ). levelOne s G best (x .worth) + k) (levels-worths s G best xs)
+levels-worths s best [] = refl
+levels-worths s best (x ∷ xs) = ap (λ (k : ℕ). levelOne s best (x .worth) + k) (levels-worths s best xs)
 
 -- ---- the first m entries, one after another
 
@@ -130,41 +130,41 @@ module _ (s : Side) (m : ℕ) (l : List ℕ) (room : m ≤ length l) where
   best-end best k e b = sym (b ∙ ap (bestFrom s best) (entry-none m l room k e))
 
 -- k entries were looked at
-pub record Counting (s : Side) (G best m : ℕ) (l : List ℕ) (count k : ℕ) : Type 0 where
+pub record Counting (s : Side) (best m : ℕ) (l : List ℕ) (count k : ℕ) : Type 0 where
   pub low : count ≤ k
   pub upto : k ≤ m
   pub ahead : AllAhead s best (drop k (take m l))
-  pub same : levelsIn s G best (take m l) ≡ count + levelsIn s G best (drop k (take m l))
+  pub same : levelsIn s best (take m l) ≡ count + levelsIn s best (drop k (take m l))
 
-module _ (s : Side) (G best m : ℕ) (l : List ℕ) (room : m ≤ length l) where
-  pub count-start : AllAhead s best (take m l) → Counting s G best m l 0 0
+module _ (s : Side) (best m : ℕ) (l : List ℕ) (room : m ≤ length l) where
+  pub count-start : AllAhead s best (take m l) → Counting s best m l 0 0
   count-start a = record { low = omega arith; upto = omega arith; ahead = a; same = omega arith }
 
-  module _ (count k : ℕ) (C : Counting s G best m l count k) where
+  module _ (count k : ℕ) (C : Counting s best m l count k) where
     both : k < m → Ahead s best (getD l k 0) × AllAhead s best (drop (k + 1) (take m l))
     both h = rw (entry-on m l room k h) at (C .ahead)
 
     pub count-ahead : k < m → Ahead s best (getD l k 0)
     count-ahead h = both h .0
 
-    pub count-low : k < m → count + levelOne s G best (getD l k 0) ≤ m
-    count-low h = omega (arith, C .low, one-or-none (ltb (heightLoss s best (getD l k 0)) G))
+    pub count-low : k < m → count + levelOne s best (getD l k 0) ≤ m
+    count-low h = omega (arith, C .low, one-or-none (eqb (heightLoss s best (getD l k 0)) 0))
 
-    pub count-turn : (more : ℕ) → k < m → more ≡ count + levelOne s G best (getD l k 0) → Counting s G best m l more (k + 1)
+    pub count-turn : (more : ℕ) → k < m → more ≡ count + levelOne s best (getD l k 0) → Counting s best m l more (k + 1)
     unfolding levelsIn
     count-turn more h e =
-        let step : levelsIn s G best (take m l) ≡ count + (levelOne s G best (getD l k 0) + levelsIn s G best (drop (k + 1) (take m l))) =
-        C .same ∙ ap (λ (d : List ℕ). count + levelsIn s G best d) (entry-on m l room k h) in
+        let step : levelsIn s best (take m l) ≡ count + (levelOne s best (getD l k 0) + levelsIn s best (drop (k + 1) (take m l))) =
+        C .same ∙ ap (λ (d : List ℕ). count + levelsIn s best d) (entry-on m l room k h) in
         record {
-          low = omega (arith, e, C .low, one-or-none (ltb (heightLoss s best (getD l k 0)) G));
+          low = omega (arith, e, C .low, one-or-none (eqb (heightLoss s best (getD l k 0)) 0));
           upto = omega arith;
           ahead = both h .1;
           same = omega (arith, step, e);
         }
 
-    pub count-end : m ≤ k → count ≡ levelsIn s G best (take m l)
+    pub count-end : m ≤ k → count ≡ levelsIn s best (take m l)
     unfolding levelsIn
     count-end h =
-        let last : levelsIn s G best (take m l) ≡ count + 0 =
-        C .same ∙ ap (λ (d : List ℕ). count + levelsIn s G best d) (entry-none m l room k (omega (arith, C .upto))) in
+        let last : levelsIn s best (take m l) ≡ count + 0 =
+        C .same ∙ ap (λ (d : List ℕ). count + levelsIn s best d) (entry-none m l room k (omega (arith, C .upto))) in
         omega (arith, last)

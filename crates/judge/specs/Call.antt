@@ -1,4 +1,4 @@
--- What the call answers. Document 01, 'Judging and turning' and 'Refused tables and calls', and document 02, Item 2.
+-- What the call answers. Document 01, 'Judging and turning' and 'Refused tables and calls', and document 02, Items 2 and 8.
 use Prim.Native.Nat.{ℕ}
 use lib.IntN.{ℤ}
 use Rattle.line.specs.Refusal.{Verdict, refused, fine, next, numberOf, lineOf}

@@ -4,7 +4,7 @@ use Prim.Native.Nat.{ℕ, _+_, _*_, _≤_, _<_, min, max}
 use mathlib.Core.Path.{_≡_}
 use mathlib.Core.Bool.{Bool, true, false, cond}
 use mathlib.Core.List.{List, [], _∷_, map}
-use lib.Dec.{ltb}
+use lib.Dec.{eqb}
 use lib.ListN.{length, getD, drop}
 use lib.IntN.{ℤ, pos}
 use Rattle.line.specs.Refusal.{Verdict, refused, fine}
@@ -99,12 +99,12 @@ abbrev pub AllAhead : Side → ℕ → List ℕ → Type 0
 AllAhead s best [] = Unit {0}
 AllAhead s best (h ∷ hs) = Ahead s best h × AllAhead s best hs
 
-abbrev pub levelOne : Side → (G best height : ℕ) → ℕ
-levelOne s G best height = cond (ltb (heightLoss s best height) G) 1 0
+abbrev pub levelOne : Side → (best height : ℕ) → ℕ
+levelOne s best height = cond (eqb (heightLoss s best height) 0) 1 0
 
-unfoldable pub levelsIn : Side → (G best : ℕ) → List ℕ → ℕ
-levelsIn s G best [] = 0
-levelsIn s G best (h ∷ hs) = levelOne s G best h + levelsIn s G best hs
+unfoldable pub levelsIn : Side → (best : ℕ) → List ℕ → ℕ
+levelsIn s best [] = 0
+levelsIn s best (h ∷ hs) = levelOne s best h + levelsIn s best hs
 
 -- ---- the judgement
 

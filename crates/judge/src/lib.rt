@@ -55,12 +55,12 @@ fn loss(max: bool, best: u64, h: u64) -> u64
     h - best
 }
 
-// 1 for a child that is level with the best.
-fn level_one(max: bool, best: u64, h: u64, grain: u64) -> u64
+// 1 for a child that is level with the best: it loses nothing.
+fn level_one(max: bool, best: u64, h: u64) -> u64
     requires { ⌜ Ahead (sideIf max) best h ⌝ }
-    ensures { λ r. ⌜ r ≡ levelOne (sideIf max) grain best h ⌝ }
+    ensures { λ r. ⌜ r ≡ levelOne (sideIf max) best h ⌝ }
 {
-    if loss(max, best, h) < grain {
+    if loss(max, best, h) == 0 {
         return 1;
     }
     0
@@ -123,14 +123,14 @@ fn best_of(list: &[u64], m: usize, max: bool) -> u64
 }
 
 // How many of the first m worths are level with the best.
-fn count_levels(list: &[u64], m: usize, max: bool, best: u64, grain: u64) -> u64
+fn count_levels(list: &[u64], m: usize, max: bool, best: u64) -> u64
     requires { ⌜ (m ≤ length (now list)) × AllAhead (sideIf max) best (take m (now list)) ⌝ }
-    ensures { λ r. ⌜ r ≡ levelsIn (sideIf max) grain best (take m (now (list .entry))) ⌝ }
+    ensures { λ r. ⌜ r ≡ levelsIn (sideIf max) best (take m (now (list .entry))) ⌝ }
 {
     let mut count: u64 = 0;
     let mut k: usize = 0;
     while k < m {
-        count = count + level_one(max, best, list[k], grain);
+        count = count + level_one(max, best, list[k]);
         k += 1;
     }
     count
@@ -157,7 +157,7 @@ fn judge_root(
             let m = list_worths(lines, stop, weight, height, n, g, &mut list);
             let h = worth_at(&list, number);
             let best = best_of(&list, m, max);
-            let level = count_levels(&list, m, max, best, g.grain);
+            let level = count_levels(&list, m, max, best);
             Opinion::Given(Judged::Loss(loss(max, best, h), level))
         }
     }

@@ -13,16 +13,17 @@ use Rattle.line.specs.declared.Line.{Line}
 use Rattle.line.specs.Refusal.{Verdict, refused, fine}
 use Rattle.line.specs.Line.{toNat, valueOf}
 use Rattle.table.specs.Tree.{codeOf, forest}
-use Rattle.table.specs.Table.{Table, tree, readText, grain}
+use Rattle.table.specs.Table.{Table, tree, readText}
 use Rattle.table.specs.Slices.{kindsOf}
-use Rattle.table.specs.Root.{Side, AtM, AtN, Root, toPlay, rootOf, numbered, childCount}
+use Rattle.table.specs.Root.{Side, AtM, AtN, toPlay, rootOf, numbered, childCount}
 use Rattle.worth.specs.Worth.{Share, worthOf}
-use Rattle.judge.specs.declared.Judged.the-variants.{NoDecision, Loss}
+use Rattle.judge.specs.declared.Judged.the-variants.{NoDecision}
 use Rattle.judge.specs.declared.Opinion.the-variants.{Given}
-use Rattle.judge.specs.Judge.{childWorths, Judgement, noDecision, judged, judgeChild, judgeAt, judge}
+use Rattle.judge.specs.Judge.{childWorths, Judgement, noDecision, judged, judgeChild, judge}
 use Rattle.judge.specs.Call.{told, judgeAnswer, judgeCall}
 use Rattle.judge.proofs.Best.{kindAt}
-use Rattle.judge.proofs.Judge.{choice-judged, judged-choice}
+use Rattle.judge.proofs.Judge.{decided-judged, judged-choice}
+use Rattle.judge.proofs.Call.{answer-loss}
 use Rattle.report.specs.declared.Row.{Row}
 use Rattle.report.specs.Report.{playIn, sizeOf, rowOf, counts, totalOf}
 use Rattle.report.specs.Files.{Alone, EachAlone, tablesOf, decides, decisionsIn}
@@ -46,14 +47,13 @@ kind-root side t e = go side (t .lines) e
 -- ---- one position
 
 -- a child is judged or refused
-child-decided : (s : Side) (G : ℕ) (exact : ℤ) (xs : List (Share ℤ)) (o : Option (Share ℤ)) → judgeChild s G exact xs o ≡ fine noDecision → ⊥
-child-decided s G exact xs none e = let z : _≡_ {A = ℕ} 0 1 = cc in absurd (omega arith)
-child-decided s G exact xs (some x) e = let z : _≡_ {A = ℕ} 0 1 = cc in absurd (omega arith)
+child-decided : (s : Side) (exact : ℤ) (xs : List (Share ℤ)) (o : Option (Share ℤ)) → judgeChild s exact xs o ≡ fine noDecision → ⊥
+child-decided s exact xs none e = let z : _≡_ {A = ℕ} 0 1 = cc in absurd (omega arith)
+child-decided s exact xs (some x) e = let z : _≡_ {A = ℕ} 0 1 = cc in absurd (omega arith)
 
 decided : (side : Side) (t : Table) (i : ℤ) → rootOf (tree t) ≡ toPlay side → 2 ≤ childCount t → judge t i ≡ fine noDecision → ⊥
 decided side t i r h e =
-    child-decided side (grain t) (worthOf t) (childWorths t) (numbered i (childWorths t))
-    (sym (choice-judged t i h ∙ ap (λ (o : Root). judgeAt o (grain t) (worthOf t) (childWorths t) i) r) ∙ e)
+    child-decided side (worthOf t) (childWorths t) (numbered i (childWorths t)) (sym (decided-judged t i side r h) ∙ e)
 
 module _ (side : Side) (s : List ℕ) (t : Table) (p : readText s ≡ fine t) (i : ℤ) where
   none-counts : judge t i ≡ fine noDecision → decides (code side) t ≡ false
@@ -79,18 +79,13 @@ answer-none (refused r) e = let z : _≡_ {A = ℕ} 0 1 = cc in absurd (omega ar
 answer-none (fine noDecision) e = refl
 answer-none (fine (judged loss level)) e = let z : _≡_ {A = ℕ} 0 1 = cc in absurd (omega arith)
 
-answer-loss : (v : Verdict Judgement) (n m : ℕ) → judgeAnswer v ≡ Given (Loss n m) → (loss : ℤ) × (level : ℕ) × (v ≡ fine (judged loss level))
-answer-loss (refused r) n m e = let z : _≡_ {A = ℕ} 0 1 = cc in absurd (omega arith)
-answer-loss (fine noDecision) n m e = let z : _≡_ {A = ℕ} 0 1 = cc in absurd (omega arith)
-answer-loss (fine (judged loss level)) n m e = (loss, level, refl)
-
 -- its entry counts where there is a decision
 entry-decides : (side : Side) (s : List ℕ) (t : Table) → readText s ≡ fine t → (i : ℤ) (j : Judgement) → judgeAnswer (judge t i) ≡ Given (told j)
     → counts (code side) (λ x. 1) (rowOf t j .kind) (rowOf t j .loss) ≡ cond (decides (code side) t) 1 0
 entry-decides side s t p i noDecision e = sym (ap (λ (b : Bool). cond b 1 0) (none-counts side s t p i (answer-none (judge t i) e)))
 entry-decides side s t p i (judged loss level) e =
-    let (l, m, q) = answer-loss (judge t i) (toNat loss) level e in
-    sym (ap (λ (b : Bool). cond b 1 0) (loss-counts side s t p i l m q))
+    let (l, q, n) = answer-loss (judge t i) (toNat loss) level e in
+    sym (ap (λ (b : Bool). cond b 1 0) (loss-counts side s t p i l level q))
 
 row-decides : (side : Side) (p : List ℕ) (r : Row) (A : Alone p r) → counts (code side) (λ x. 1) (r .kind) (r .loss) ≡ cond (decides (code side) (A .table)) 1 0
 row-decides side p r A =

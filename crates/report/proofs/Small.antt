@@ -4,7 +4,7 @@ use mathlib.Core.Path.{_≡_, refl, subst}
 use mathlib.Core.Bool.{Bool, true, false, cond}
 use mathlib.Core.List.{List}
 use mathlib.Core.Option.{Option, none, some}
-use native.Mathlib.Nat.{le-trans, mul-le-mul-right, div-le-of-le-mul}
+use native.Mathlib.Nat.{one-le-pow, le-trans, mul-le-mul-right, div-le-of-le-mul}
 use native.Mathlib.Omega.{arith}
 use lib.Dec.{eqb}
 use lib.ListN.{length}
@@ -12,11 +12,11 @@ use lib.IntN.{ℤ}
 use Rattle.line.specs.Refusal.{Verdict, refused, fine}
 use Rattle.line.specs.Line.{toNat}
 use Rattle.table.specs.Tree.{Forest, end, leaf, inner}
-use Rattle.table.specs.Table.{Table, readText, grain}
+use Rattle.table.specs.Table.{Table, readText, greatest, grain}
 use Rattle.table.specs.Inside.{heightTree}
 use Rattle.table.specs.Accepted.{span}
 use Rattle.table.specs.Root.{Side, AtM, AtN, Root, nobody, toPlay, rootOf, children, nodes, numbered}
-use Rattle.table.proofs.Accepted.{accepted-grain}
+use Rattle.table.proofs.Accepted.{accepted-ranged, accepted-grain}
 use Rattle.table.proofs.Ends.{accepted-span}
 use Rattle.worth.specs.Worth.{Share}
 use Rattle.worth.specs.Inside.Heights.{heightWorth, SmallWorths}
@@ -25,7 +25,7 @@ use Rattle.worth.proofs.Worth.{heights-small, height-within}
 use Rattle.judge.specs.Judge.{Judgement, noDecision, judged, unlessForced, judge}
 use Rattle.judge.specs.Inside.Heights.{heightWorths, heightLoss, heightJudgeChild, heightJudgeAt, forestEvery}
 use Rattle.judge.proofs.Shift.{numbered-each}
-use Rattle.judge.proofs.Judge.{some-grains, judge-heights}
+use Rattle.judge.proofs.Judge.{judge-heights}
 use Rattle.report.specs.Report.{lossOf}
 use Rattle.report.specs.Inside.{SmallJudgement, SmallLoss}
 
@@ -46,12 +46,12 @@ Within M (refused r) = Unit {0}
 Within M (fine noDecision) = Unit {0}
 Within M (fine (judged loss level)) = toNat loss ≤ M
 
-module _ (M G best : ℕ) (xs : List (Share ℕ)) (low : best ≤ M) (each : Each (λ (x : ℕ). x ≤ M) xs) (i : ℤ) where
-  child-within : (s : Side) (o : Option (Share ℕ)) → numbered i xs ≡ o → Within M (heightJudgeChild s G best xs o)
+module _ (M best : ℕ) (xs : List (Share ℕ)) (low : best ≤ M) (each : Each (λ (x : ℕ). x ≤ M) xs) (i : ℤ) where
+  child-within : (s : Side) (o : Option (Share ℕ)) → numbered i xs ≡ o → Within M (heightJudgeChild s best xs o)
   child-within s none e = tt
   child-within s (some x) e = loss-le M s best (x .worth) low (numbered-each (λ (y : ℕ). y ≤ M) xs i x each e)
 
-  root-within : (r : Root) → Within M (heightJudgeAt r G best xs i)
+  root-within : (r : Root) → Within M (heightJudgeAt r best xs i)
   root-within nobody = tt
   root-within (toPlay s) = child-within s (numbered i xs) refl
 
@@ -75,13 +75,13 @@ module _ (s : List ℕ) (t : Table) (p : readText s ≡ fine t) (i : ℤ) where
   judge-within =
       rw (judge-heights s t p i)
       (forced-within most (length (nodes (children (heightTree t)))) (forestEvery (grain t) (heightTree t) i)
-      (root-within most (grain t) (heightWorth t) (heightWorths t) (height-within s t p) each-small i (rootOf (heightTree t))))
+      (root-within most (heightWorth t) (heightWorths t) (height-within s t p) each-small i (rootOf (heightTree t))))
 
   small-within : (j : Judgement) → Within most (fine j) → SmallJudgement (grain t) j
   small-within noDecision w = tt
   small-within (judged loss level) w =
       record {
-        some = some-grains s t p;
+        some = one-le-pow (greatest (t .lines)) (t .head .total) (accepted-ranged s t p .some);
         most = le-trans w (mul-le-mul-right (grain t) (accepted-span s t p));
         grains = accepted-grain s t p;
       }

@@ -3,7 +3,7 @@ use Prim.Native.Nat.{ℕ, zero, suc, _+_, _-_, _≤_}
 use mathlib.Core.Bool.{cond}
 use mathlib.Core.List.{List, [], _∷_}
 use mathlib.Core.Option.{Option, none, some}
-use lib.Dec.{ltb}
+use lib.Dec.{eqb}
 use lib.ListN.{length}
 use lib.IntN.{ℤ, pos}
 use Rattle.line.specs.declared.Refusal.the-variants.{NoChild}
@@ -24,22 +24,22 @@ abbrev pub heightLoss : Side → (best height : ℕ) → ℕ
 heightLoss AtM best height = best - height
 heightLoss AtN best height = height - best
 
--- how many children have a loss below G
-unfoldable pub heightLevels : Side → (G best : ℕ) → List (Share ℕ) → ℕ
-heightLevels s G best [] = 0
-heightLevels s G best (x ∷ xs) = cond (ltb (heightLoss s best (x .worth)) G) 1 0 + heightLevels s G best xs
+-- how many children lose nothing
+unfoldable pub heightLevels : Side → (best : ℕ) → List (Share ℕ) → ℕ
+heightLevels s best [] = 0
+heightLevels s best (x ∷ xs) = cond (eqb (heightLoss s best (x .worth)) 0) 1 0 + heightLevels s best xs
 
-abbrev pub heightJudgeChild : Side → (G best : ℕ) (xs : List (Share ℕ)) → Option (Share ℕ) → Verdict Judgement
-heightJudgeChild s G best xs none = refused NoChild
-heightJudgeChild s G best xs (some x) = fine (judged (pos (heightLoss s best (x .worth))) (heightLevels s G best xs))
+abbrev pub heightJudgeChild : Side → (best : ℕ) (xs : List (Share ℕ)) → Option (Share ℕ) → Verdict Judgement
+heightJudgeChild s best xs none = refused NoChild
+heightJudgeChild s best xs (some x) = fine (judged (pos (heightLoss s best (x .worth))) (heightLevels s best xs))
 
-abbrev pub heightJudgeAt : Root → (G best : ℕ) (xs : List (Share ℕ)) → ℤ → Verdict Judgement
-heightJudgeAt nobody G best xs i = fine noDecision
-heightJudgeAt (toPlay s) G best xs i = heightJudgeChild s G best xs (numbered i xs)
+abbrev pub heightJudgeAt : Root → (best : ℕ) (xs : List (Share ℕ)) → ℤ → Verdict Judgement
+heightJudgeAt nobody best xs i = fine noDecision
+heightJudgeAt (toPlay s) best xs i = heightJudgeChild s best xs (numbered i xs)
 
 -- the judgement at the first of the nodes F, forced plays too, and without them
 abbrev pub forestEvery : (G : ℕ) → Forest ℕ → ℤ → Verdict Judgement
-forestEvery G F i = heightJudgeAt (rootOf F) G (firstHeight (heightShares G F)) (heightShares G (children F)) i
+forestEvery G F i = heightJudgeAt (rootOf F) (firstHeight (heightShares G F)) (heightShares G (children F)) i
 
 abbrev pub forestJudge : (G : ℕ) → Forest ℕ → ℤ → Verdict Judgement
 forestJudge G F i = unlessForced (length (nodes (children F))) (forestEvery G F i)
