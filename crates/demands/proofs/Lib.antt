@@ -4,4 +4,5 @@ pub mod Demands
 pub mod Rows
 pub mod Matches
 pub mod Forced
+pub mod Level
 pub mod Worked

@@ -1,4 +1,4 @@
--- Match files of document 01's tables, reported by computation. Assumes nothing.
+-- Match files of document 01's tables and others, reported by computation. Assumes nothing.
 use Prim.Native.Nat.{ℕ}
 use mathlib.Core.Path.{_≡_, refl}
 use mathlib.Core.List.{List, [], _∷_, _++_}
@@ -14,7 +14,10 @@ use Rattle.table.specs.Root.{nodes}
 use Rattle.table.specs.Table.{nodeLines, complete, readText, greatest}
 use Rattle.numbers.specs.Integers.{maxZ, minZ, floorZ}
 use Rattle.worth.specs.Worth.{largest, smallest, weighted, total, value, shares}
+use Rattle.judge.specs.declared.Judged.the-variants.{Loss}
+use Rattle.judge.specs.declared.Opinion.the-variants.{Given}
 use Rattle.judge.specs.Judge.{levels}
+use Rattle.judge.specs.Call.{judgeCall}
 use Rattle.report.specs.Report.{positionOf, matchFrom, totalOf}
 use Rattle.report_call.specs.declared.Reported.{Reported}
 use Rattle.report_call.specs.declared.Reported.the-variants.{Done, Refused}
@@ -76,3 +79,42 @@ known : (answered [] 0 ∷ answered match 7 ∷ answered match 6 ∷ answered (p
     ∷ []
 unfolding refusal position thirds-head thirds1 thirds3 thirds4 thirds match answered maxZ minZ floorZ largest smallest weighted total value shares levels strip digits whole signed unless unlessAt climb run after forest weigh nodesWhere nodeLines complete readText greatest positionOf matchFrom totalOf nodes
 known = refl
+
+-- "   7  36       0       1"
+grain-head : List ℕ
+grain-head = 32 ∷ 32 ∷ 32 ∷ 55 ∷ 32 ∷ 32 ∷ 51 ∷ 54 ∷ 32 ∷ 32 ∷ 32 ∷ 32 ∷ 32 ∷ 32 ∷ 32 ∷ 48 ∷ 32 ∷ 32 ∷ 32 ∷ 32 ∷ 32 ∷ 32 ∷ 32 ∷ 49 ∷ 10 ∷ []
+
+-- "   1 L    0            0"
+grain1 : List ℕ
+grain1 = 32 ∷ 32 ∷ 32 ∷ 49 ∷ 32 ∷ 76 ∷ 32 ∷ 32 ∷ 32 ∷ 32 ∷ 48 ∷ 32 ∷ 32 ∷ 32 ∷ 32 ∷ 32 ∷ 32 ∷ 32 ∷ 32 ∷ 32 ∷ 32 ∷ 32 ∷ 32 ∷ 48 ∷ 10 ∷ []
+
+-- "   3 L    2   35       0"
+grain3 : List ℕ
+grain3 = 32 ∷ 32 ∷ 32 ∷ 51 ∷ 32 ∷ 76 ∷ 32 ∷ 32 ∷ 32 ∷ 32 ∷ 50 ∷ 32 ∷ 32 ∷ 32 ∷ 51 ∷ 53 ∷ 32 ∷ 32 ∷ 32 ∷ 32 ∷ 32 ∷ 32 ∷ 32 ∷ 48 ∷ 10 ∷ []
+
+-- "   4 C    2    1        "
+grain4 : List ℕ
+grain4 = 32 ∷ 32 ∷ 32 ∷ 52 ∷ 32 ∷ 67 ∷ 32 ∷ 32 ∷ 32 ∷ 32 ∷ 50 ∷ 32 ∷ 32 ∷ 32 ∷ 32 ∷ 49 ∷ 32 ∷ 32 ∷ 32 ∷ 32 ∷ 32 ∷ 32 ∷ 32 ∷ 32 ∷ 10 ∷ []
+
+-- "   5 L    4   35       0"
+grain5 : List ℕ
+grain5 = 32 ∷ 32 ∷ 32 ∷ 53 ∷ 32 ∷ 76 ∷ 32 ∷ 32 ∷ 32 ∷ 32 ∷ 52 ∷ 32 ∷ 32 ∷ 32 ∷ 51 ∷ 53 ∷ 32 ∷ 32 ∷ 32 ∷ 32 ∷ 32 ∷ 32 ∷ 32 ∷ 48 ∷ 10 ∷ []
+
+-- "   6 L    4    1       1"
+grain6 : List ℕ
+grain6 = 32 ∷ 32 ∷ 32 ∷ 54 ∷ 32 ∷ 76 ∷ 32 ∷ 32 ∷ 32 ∷ 32 ∷ 52 ∷ 32 ∷ 32 ∷ 32 ∷ 32 ∷ 49 ∷ 32 ∷ 32 ∷ 32 ∷ 32 ∷ 32 ∷ 32 ∷ 32 ∷ 49 ∷ 10 ∷ []
+
+-- a point has 1,296 grains, and play 1 loses one of them: play 2 is a C over a C, with one chance in 36 of it and in it one of the point
+grain-off : List ℕ
+grain-off = grain-head ++ (max-root ++ (grain1 ++ (chance ++ (grain3 ++ (grain4 ++ (grain5 ++ grain6))))))
+
+-- Document 02, Item 8: the play is not level, and "Losses in the report stay in thousandths", where it is listed with 0
+listed-not-level : (judgeCall (readText grain-off) (pos 1) ≡ Given (Loss 1 1))
+    × (answered (position 49 grain-off) 1
+    ≡ record {
+      answer = Done (record { positions = 1; max = record { decisions = 1; sum = 0 }; min = record { decisions = 0; sum = 0 } });
+      kinds = 1 ∷ [];
+      losses = pos 0 ∷ [];
+    })
+unfolding position grain-head grain1 grain3 grain4 grain5 grain6 grain-off answered maxZ minZ floorZ largest smallest weighted total value shares levels strip digits whole signed unless unlessAt climb run after forest weigh nodesWhere nodeLines complete readText greatest positionOf matchFrom totalOf nodes
+listed-not-level = (refl, refl)

@@ -31,7 +31,7 @@ use Rattle.demands.specs.Matches.{Entries}
 abbrev pub ForcedNoDecision : Type 0
 ForcedNoDecision = (s : List ℕ) (t : Table) (i : ℤ) → readText s ≡ fine t → childCount t ≡ 1 → judgeCall (readText s) i ≡ Given NoDecision
 
--- with two children or more the answer is document 01's
+-- with two children or more the play is judged as in document 01; the level children are Item 8's
 abbrev pub ChoiceAsBefore : Type 0
 ChoiceAsBefore =
     (s : List ℕ) (t : Table) (i : ℤ) → readText s ≡ fine t → 2 ≤ childCount t → judgeCall (readText s) i ≡ judgeAnswer (judgeEvery t i)

@@ -3,3 +3,4 @@ pub mod Demands
 pub mod Rows
 pub mod Matches
 pub mod Forced
+pub mod Level
