@@ -18,7 +18,7 @@ use compare::second::{self, root_children, Refusal, Table};
 use compare::texts::examples::*;
 use compare::texts::knobs::{Kinds, Knobs};
 
-const EXAMPLES: [&str; 6] = ["a", "b", "opening", "bear-off", "race", "replies"];
+const EXAMPLES: [&str; 7] = ["a", "b", "level", "opening", "bear-off", "race", "replies"];
 
 // ---------------------------------------------------------------------------
 // Answers
@@ -553,6 +553,7 @@ fn examples_in_the_description() {
     let examples = [
         ("b", Worth, "worth"),
         ("b", Judge(2), "judge 2"),
+        ("level", Judge(2), "judge 2"),
         ("forced", Judge(3), "judge 3"),
         ("b", Search("3".to_string()), "search 3"),
         ("a", Rollout(Vec::new()), "rollout"),

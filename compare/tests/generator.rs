@@ -8,7 +8,7 @@ use compare::random::{seed, Random};
 use compare::second::{self, root_children, Kind, Table, MOST_CHANCES, MOST_TOTAL};
 use compare::texts::examples::escaped;
 use compare::texts::knobs::{Kinds, Knobs, Order, Shape, Utilities, Weights, ROLLS, WIDEST};
-use compare::texts::{self, bench, matches};
+use compare::texts::{self, bench, level, matches};
 
 /// A setting and its name.
 type Setting = (&'static str, fn(&mut Random) -> Knobs);
@@ -252,6 +252,68 @@ fn forced_plays_are_of_every_kind() {
         }
     }
     seen.demand(100);
+}
+
+/// Tables made by a plan are valid and lose what is planned, by every number of C on
+/// a path; level plays are of every kind, and leaves beside others.
+#[test]
+fn plans_are_kept() {
+    let mut seen = Seen::default();
+    for number in 0..10_000 {
+        let mut random = Random::of_case(seed(), number);
+        let planned = level::planned(&mut random);
+        let place = || format!("case {number}:\n{}", escaped(&planned.text));
+        let table = second::read(&planned.text)
+            .unwrap_or_else(|refusal| panic!("{refusal:?} at {}", place()));
+        assert_eq!(table.grains, planned.grains, "{}", place());
+        assert!(table.grains > 1 && planned.losses.len() >= 2, "{}", place());
+
+        let worths = second::worths(&table);
+        let plays: Vec<usize> = (1..table.nodes.len())
+            .filter(|&node| table.nodes[node].parent == Some(0))
+            .collect();
+        let lost = |&play: &usize| match table.nodes[0].kind {
+            Kind::Max => worths[0] - worths[play],
+            _ => worths[play] - worths[0],
+        };
+        let losses: Vec<i64> = plays.iter().map(lost).collect();
+        assert_eq!(losses, planned.losses, "{}", place());
+        count_plan(&mut seen, &table, &plays, &losses);
+    }
+    seen.demand_but(1_000, |sort| sort == "K 0");
+}
+
+/// Counts what a table made by a plan is like, its plays and their losses given.
+fn count_plan(seen: &mut Seen, table: &Table, plays: &[usize], losses: &[i64]) {
+    let point = table.grains;
+    seen.count_root(&SIDES, table);
+    seen.count_chances(table);
+    seen.count("a grain lost", losses.contains(&1));
+    let several = |loss: &i64| 2 <= *loss && *loss <= point - 2;
+    seen.count("several grains lost", losses.iter().any(several));
+    seen.count("a grain less than a point", losses.contains(&(point - 1)));
+    seen.count("a point lost", losses.contains(&point));
+    seen.count("more lost", losses.iter().any(|loss| *loss > point));
+
+    let numbered = plays.iter().zip(losses);
+    let level: Vec<usize> = numbered
+        .filter_map(|(play, loss)| (*loss == 0).then_some(*play))
+        .collect();
+    let is = |play: usize, kind| table.nodes[play].kind == kind;
+    let any = |kind| level.iter().any(|play| is(*play, kind));
+    for kind in ROOTS {
+        seen.count(&format!("a level {kind:?}"), any(kind));
+    }
+    let other = [Kind::Max, Kind::Min, Kind::Chance].map(any);
+    seen.count(
+        "a level leaf beside another kind",
+        any(Kind::Leaf) && other.contains(&true),
+    );
+    let nested = level.iter().any(|&play| {
+        let mut run = play + 1..table.nodes[play].stop;
+        is(play, Kind::Chance) && run.any(|node| is(node, Kind::Chance))
+    });
+    seen.count("a level C over another", nested);
 }
 
 /// The benchmark's figures are compared with those of earlier runs, so every byte

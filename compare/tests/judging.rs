@@ -3,17 +3,17 @@
 //! The environment variable SEED sets the seed of the random texts, CASES their
 //! number.
 
-use compare::hold::judging::{hold_to, Comparison};
+use compare::hold::best_plays;
+use compare::hold::judging::{hold_to, Comparison, OLDER};
 use compare::hold::numbers::ROOM;
+use compare::hold::seen::SIDES;
 use compare::hold::tally::{say, OF_TABLES};
 use compare::random::{number_from_environment, seed, Random};
-use compare::second::{
-    self, root_children, Judgement, Kind, Node, Refusal, FARTHEST_END, MOST_NODES,
-};
+use compare::second::{self, root_children, Judgement, Refusal, FARTHEST_END, MOST_NODES};
 use compare::texts::examples::*;
 use compare::texts::knobs::Knobs;
 use compare::texts::small::{for_each, six_nodes};
-use compare::texts::{self, largest};
+use compare::texts::{self, largest, level};
 
 // ---------------------------------------------------------------------------
 // Random texts
@@ -68,7 +68,9 @@ fn random_texts() {
         tables += u64::from(table.is_ok());
     }
     comparison.tally.report();
-    comparison.seen.demand(100);
+    // Plays a grain apart are rare here; `level_plays` has enough of them.
+    let seen = &comparison.seen;
+    seen.demand_but(100, |sort| sort.starts_with("a grain apart"));
     comparison.tally.demand(&OF_TABLES);
     comparison.tally.demand(&[14]);
     demand_forced(&comparison, tables);
@@ -84,6 +86,49 @@ fn demand_forced(comparison: &Comparison, tables: u64) {
         "forced plays: {forced} of {tables} accepted tables, {share:.1} %"
     ));
     assert!(10 * forced >= tables, "too few forced plays");
+}
+
+// ---------------------------------------------------------------------------
+// Level plays
+// ---------------------------------------------------------------------------
+
+/// Tables made by a plan of what their plays lose, every play judged: equal plays,
+/// plays a grain apart, and others that are less than a point apart, which are not
+/// level now (document 02, Item 8). It fails where one of these came too seldom.
+#[test]
+fn level_plays() {
+    let mut comparison = Comparison::new("judging on level plays");
+    for number in 0..24_000 {
+        let mut random = Random::of_case(comparison.tally.seed, number);
+        let planned = level::planned(&mut random);
+        let table = comparison
+            .hold(&planned.text, |children| {
+                plays(&mut random, children.expect("valid"))
+            })
+            .expect("valid");
+        assert!(planned.losses.len() <= FEW, "not every play was judged");
+
+        let level = planned.losses.iter().filter(|loss| **loss == 0).count();
+        for (number, grains) in (1..).zip(planned.losses) {
+            assert_eq!(second::judge(&table, number), loss(grains, level));
+        }
+    }
+    comparison.tally.report();
+    comparison.tally.demand_refusals(&[14]);
+    let seen = &comparison.seen;
+    seen.demand_but(1_000, is_without_choice);
+    let older = SIDES.map(|kind| seen.of(&format!("{OLDER} at {kind:?}")));
+    say(&format!(
+        "level plays: {} answers at M and {} at N have {OLDER}",
+        older[0], older[1]
+    ));
+}
+
+/// Whether tables of this sort have no choice at the root, or their answers are
+/// those given there.
+fn is_without_choice(sort: &str) -> bool {
+    let starts = ["root Chance", "root Leaf", "no decision", "forced"];
+    starts.iter().any(|start| sort.starts_with(start)) || sort.ends_with("with one child")
 }
 
 // ---------------------------------------------------------------------------
@@ -134,7 +179,8 @@ fn four_c_below_each_play() {
 
         let known = [GREATEST, 0, 1, 0, GRAINS, GREATEST];
         for (number, grains) in (1..).zip(known) {
-            let answer = Ok(Judgement::Loss { grains, level: 3 });
+            // The two at the best end are level, the one a grain short is not.
+            let answer = loss(grains, 2);
             assert_eq!(second::judge(&table, number), answer);
             hold_to(&comparison.tally, &text, number, ROOM, &answer);
         }
@@ -144,11 +190,7 @@ fn four_c_below_each_play() {
         let text = largest::plays(other, best);
         let table = comparison.hold(&text, |_| vec![1, 2, 3, 4, 5, 255, 256]);
         let answer = second::judge(&table.expect("accepted"), 3);
-        let loss = Judgement::Loss {
-            grains: GREATEST - 1,
-            level: 251,
-        };
-        assert_eq!(answer, Ok(loss));
+        assert_eq!(answer, loss(GREATEST - 1, 251));
     }
     comparison.tally.report();
 }
@@ -207,7 +249,7 @@ fn loss(grains: i64, level: usize) -> Result<Judgement, Refusal> {
     Ok(Judgement::Loss { grains, level })
 }
 
-/// Document 01's tables, then those with one play or two.
+/// Document 01's tables, then those with one play or two, and those with three.
 fn known() -> Vec<Known> {
     let mut known = vec![
         // A's second N is worth 2, a whole point less than the first.
@@ -216,9 +258,10 @@ fn known() -> Vec<Known> {
         // At an N root B's C is the better play.
         (table_b_with(1, "...0.N.................."), 1, loss(6, 1)),
         (table_b_with(1, "...0.N.................."), 2, loss(0, 1)),
-        // With a leaf of 4 in B's first place the C is half a point worse.
-        (table_b_with(2, "...1.L....0............4"), 1, loss(0, 2)),
-        (table_b_with(2, "...1.L....0............4"), 2, loss(2, 2)),
+        // With a leaf of 4 in B's first place the C is half a point worse, so it is
+        // not level.
+        (table_b_with(2, "...1.L....0............4"), 1, loss(0, 1)),
+        (table_b_with(2, "...1.L....0............4"), 2, loss(2, 1)),
     ];
     for table in [TABLE_B, TABLE_B_TURNED] {
         known.push((dotted(table), 1, loss(0, 1)));
@@ -233,6 +276,7 @@ fn known() -> Vec<Known> {
     }
     known.extend(forced());
     known.extend(least_choices());
+    known.extend(three_plays());
     known
 }
 
@@ -268,6 +312,34 @@ fn least_choices() -> Vec<Known> {
     choices
 }
 
+/// Two of three plays are worth the same, and the third less than a point from
+/// them: either the two are level or the third alone (document 02, Item 8).
+fn three_plays() -> Vec<Known> {
+    // By hand. THREE_PLAYS, G 4: the leaf is worth 3 x 4 = 12 grains; the first C
+    // 1 x 3 + 3 x 2 = 9; the second 2 x 2 + 2 x 4 = 12. So M loses 3 by the second
+    // play, and N loses 3 by the others. Turned it is N that loses 3 by the second.
+    // GRAIN_APART, G 1,296: the leaf is worth 5 x 1,296 = 6,480 grains. The inner C
+    // is worth 35 x 5 + 1 x 4 = 179 parts of 36, so the C above it 35 x 5 x 36 +
+    // 179 = 6,479 grains; the last C (18 x 3 + 18 x 7) x 36 = 6,480.
+    let tables = [
+        (with_root(THREE_PLAYS, 'M'), [0, 3, 0], 2),
+        (with_root(THREE_PLAYS, 'N'), [3, 0, 3], 1),
+        (dotted(THREE_PLAYS_TURNED), [0, 3, 0], 2),
+        (with_root(GRAIN_APART, 'M'), [0, 1, 0], 2),
+        (with_root(GRAIN_APART, 'N'), [1, 0, 1], 1),
+    ];
+    let mut three = Vec::new();
+    for (text, losses, level) in tables {
+        for (number, grains) in (1..).zip(losses) {
+            three.push((text.clone(), number, loss(grains, level)));
+        }
+        for number in [0, 4, -1, i64::MIN, i64::MAX] {
+            three.push((text.clone(), number, NO_SUCH));
+        }
+    }
+    three
+}
+
 #[test]
 fn second_engine_has_the_known_judgements() {
     for (text, number, answer) in known() {
@@ -276,15 +348,19 @@ fn second_engine_has_the_known_judgements() {
     }
 }
 
-/// A play without loss is among those of every root where there is a choice,
-/// and the level plays are as many as the children whose worths are less than a
-/// point from the root's. A forced play has no loss.
+/// A play without loss is among those of every root where there is a choice, and
+/// the level plays are as many as those, or as the children worth as much as the
+/// root (document 02, Item 8). A forced play has no loss.
 #[test]
 fn second_engine_counts_the_level_plays() {
-    let (mut roots, mut forced) = (0, 0);
-    for number in 0..2_000 {
+    let (mut roots, mut close, mut forced) = (0, 0, 0);
+    for number in 0..4_000 {
         let mut random = Random::of_case(seed(), number);
-        let Ok(table) = second::read(&texts::case(&mut random).text) else {
+        let text = match number % 2 {
+            0 => texts::case(&mut random).text,
+            _ => level::planned(&mut random).text,
+        };
+        let Ok(table) = second::read(&text) else {
             continue;
         };
         let children = root_children(&table);
@@ -297,7 +373,7 @@ fn second_engine_counts_the_level_plays() {
                 }
             })
             .collect();
-        let side = matches!(table.nodes[0].kind, Kind::Max | Kind::Min);
+        let side = SIDES.contains(&table.nodes[0].kind);
         if !side || children == 1 {
             assert_eq!(losses, []);
             forced += u32::from(side);
@@ -305,15 +381,18 @@ fn second_engine_counts_the_level_plays() {
         }
         assert_eq!(losses.len(), children);
         roots += 1;
-        let worths = second::worths(&table);
-        let close = |(node, worth): &(&Node, &i64)| {
-            node.parent == Some(0) && (*worth - worths[0]).abs() < table.grains
+        let lost = |grains: std::ops::Range<i64>| {
+            let found = losses.iter().filter(|(loss, _)| grains.contains(loss));
+            found.count()
         };
-        let close = table.nodes.iter().zip(&worths).filter(close).count();
-        assert!(losses.iter().any(|(loss, _)| *loss == 0));
-        assert!(losses.iter().all(|(_, level)| *level == close));
+        let best = best_plays(&table, &second::worths(&table));
+        assert!(best >= 1);
+        assert_eq!(lost(0..1), best);
+        assert!(losses.iter().all(|(_, level)| *level == best));
+        close += u32::from(lost(1..table.grains) > 0);
     }
     assert!(roots >= 100, "only {roots} roots");
+    assert!(close >= 100, "only {close} with less than a point lost");
     assert!(forced >= 100, "only {forced} forced plays");
 }
 

@@ -1,10 +1,10 @@
 //! Judging: the refusal and its line, "no decision", or the loss and the number
 //! of level children; and that all else in the lent numbers is left as it was.
 
-use super::code;
 use super::numbers::{agree, ROOM};
 use super::seen::{Seen, ROOTS, SIDES};
 use super::tally::Tally;
+use super::{best_plays, code};
 use crate::engine;
 use crate::second::{self, root_children, Judgement, Kind, Refusal, Table};
 
@@ -110,14 +110,17 @@ fn count(seen: &mut Seen, table: &Table, answers: &[Answer]) {
         seen.add(&format!("14 at {kind:?} with two children"), found);
     }
     count_losses(seen, table, &losses);
+    count_level(seen, table, &losses);
 }
 
-/// Counts what losses are like, each with its number of level children.
-fn count_losses(seen: &mut Seen, table: &Table, losses: &[(i64, usize)]) {
-    let (point, children) = (table.grains, root_children(table));
-    for (grains, level) in losses {
+/// A loss, and the number of level children that was answered with it.
+type Loss = (i64, usize);
+
+/// Counts what losses are like.
+fn count_losses(seen: &mut Seen, table: &Table, losses: &[Loss]) {
+    let point = table.grains;
+    for (grains, _) in losses {
         assert!(*grains >= 0, "a play lost {grains}");
-        assert!((1..=children).contains(level), "{level} of {children}");
     }
     let lost = |least, most| {
         let range = least..=most;
@@ -135,16 +138,44 @@ fn count_losses(seen: &mut Seen, table: &Table, losses: &[(i64, usize)]) {
         add("a point lost", lost(point, point));
         add("more lost", lost(point + 1, i64::MAX));
     }
-    let fine = if point > 1 { lost(point, point) } else { 0 };
-    seen.add("a point of several grains lost", fine);
+}
 
-    let mut levels = |sort: &str, is_one: &dyn Fn(usize) -> bool| {
-        let found = losses.iter().filter(|(_, level)| is_one(*level));
-        seen.add(sort, found.count() as u64);
-    };
-    levels("one child level", &|level| level == 1);
-    levels("several level, not all", &|level| {
-        1 < level && level < children
-    });
-    levels("all level", &|level| level == children);
+/// The sort of answers whose number of level children would be another by document
+/// 01's older rule, which asked for a loss of less than a point.
+pub const OLDER: &str = "another number by the older rule";
+
+/// Counts the tables by how close their plays are, and holds the number of level
+/// children to the worths: it is that of the plays worth as much as the root
+/// (document 02, Item 8).
+fn count_level(seen: &mut Seen, table: &Table, losses: &[Loss]) {
+    let (root, children) = (table.nodes[0].kind, root_children(table));
+    let choice = SIDES.contains(&root) && children > 1;
+    let worths = second::worths(table);
+    let plays = table.nodes.iter().zip(&worths);
+    let plays = plays.filter(|(node, _)| choice && node.parent == Some(0));
+    let apart: Vec<i64> = plays.map(|(_, worth)| (worths[0] - worth).abs()).collect();
+
+    let level = best_plays(table, &worths);
+    for (_, answered) in losses {
+        assert_eq!(*answered, level, "level of {children}");
+    }
+    let point = table.grains;
+    let older = apart.iter().filter(|grains| **grains < point).count();
+    for kind in SIDES {
+        let here = choice && root == kind;
+        let mut count = |sort: &str, is_one| {
+            seen.count(&format!("{sort} at {kind:?}"), here && is_one);
+        };
+        count("one play level", level == 1);
+        count("equal plays, not all", 1 < level && level < children);
+        count("all plays equal", level == children);
+        count("a grain apart", point > 1 && apart.contains(&1));
+        count("less than a point apart", older > level);
+        let answers = if here && older > level {
+            losses.len()
+        } else {
+            0
+        };
+        seen.add(&format!("{OLDER} at {kind:?}"), answers as u64);
+    }
 }

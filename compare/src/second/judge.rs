@@ -1,5 +1,6 @@
 //! The judgement of the play made at the root: refusal 14. A forced play is no
-//! decision (document 02, Item 2).
+//! decision (document 02, Item 2), and a play is level with the best only where
+//! it loses nothing (document 02, Item 8).
 
 use super::table::*;
 use super::worth::worths;
@@ -8,7 +9,7 @@ use super::worth::worths;
 pub enum Judgement {
     /// There is no choice at the root: it is a C or L, or has a single child.
     NoDecision,
-    /// What the play lost, in grains, and how many plays lose less than a point.
+    /// What the play lost, in grains, and how many plays lose nothing.
     Loss { grains: i64, level: usize },
 }
 
@@ -40,6 +41,6 @@ pub fn judge(table: &Table, number: i64) -> Result<Judgement, Refusal> {
             line: 0,
         });
     };
-    let level = losses.iter().filter(|&&loss| loss < table.grains).count();
+    let level = losses.iter().filter(|&&loss| loss == 0).count();
     Ok(Judgement::Loss { grains, level })
 }

@@ -1,5 +1,6 @@
 //! Example texts: document 01's tables, tables where the play is forced or nearly
-//! so, chains, and one table or more for each refusal.
+//! so or where plays are level or nearly so, chains, and one table or more for each
+//! refusal.
 
 use crate::second::LINE;
 
@@ -86,6 +87,49 @@ pub const LAST_LINE: &str = "\
 ...2.L....1....3.......2
 ...3.L....1....1.......8
 ...4.L....0............5
+";
+
+/// Three plays at a root M: a leaf of 3, a C that is worth three quarters of a
+/// point less, and a C that is worth 3 as well.
+pub const THREE_PLAYS: &str = "\
+...8...4.......0.......8
+...0.M..................
+...1.L....0............3
+...2.C....0.............
+...3.L....2....1.......3
+...4.L....2....3.......2
+...5.C....0.............
+...6.L....5....2.......2
+...7.L....5....2.......4
+";
+
+/// The three plays turned.
+pub const THREE_PLAYS_TURNED: &str = "\
+...8...4......-8.......0
+...0.N..................
+...1.L....0...........-3
+...2.C....0.............
+...3.L....2....1......-3
+...4.L....2....3......-2
+...5.C....0.............
+...6.L....5....2......-2
+...7.L....5....2......-4
+";
+
+/// Three plays at a root M where a point is 1,296 grains: a leaf of 5; two C one
+/// below the other, which are worth one grain less; and a C that is worth 5 too.
+pub const GRAIN_APART: &str = "\
+..10..36.......0.......8
+...0.M..................
+...1.L....0............5
+...2.C....0.............
+...3.L....2...35.......5
+...4.C....2....1........
+...5.L....4...35.......5
+...6.L....4....1.......4
+...7.C....0.............
+...8.L....7...18.......3
+...9.L....7...18.......7
 ";
 
 /// One of these tables with a root of this kind in place of its M.

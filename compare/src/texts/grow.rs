@@ -237,7 +237,7 @@ fn plays(rest: usize, length: usize) -> Vec<usize> {
 
 /// Divides `whole` at random into so many parts, each at least 1; in half the
 /// cases by ones, in the others in great lumps.
-fn parts(random: &mut Random, whole: usize, count: usize) -> Vec<usize> {
+pub fn parts(random: &mut Random, whole: usize, count: usize) -> Vec<usize> {
     if whole > count && random.one_in(2) {
         return lumps(random, whole, count);
     }

@@ -1,10 +1,10 @@
 //! Texts for both engines: random ones, which are valid tables or damaged on
 //! purpose; examples; all small tables; and the greatest.
 //!
-//! Every random table comes from one generator: `knobs` says what can be set,
-//! `settings` sets it, `grow` makes a draft by it, and `draft` writes that out.
-//! The damages, the inputs of the margin program and the matches begin with its
-//! tables.
+//! Random tables come from one generator: `knobs` says what can be set, `settings`
+//! sets it, `grow` makes a draft by it, and `draft` writes that out. The damages,
+//! the inputs of the margin program and the matches begin with its tables. Only
+//! those of `level` are made otherwise, by a plan of what their plays lose.
 
 pub mod bench;
 pub mod broken;
@@ -15,6 +15,7 @@ mod grow;
 pub mod inputs;
 pub mod knobs;
 pub mod largest;
+pub mod level;
 pub mod matches;
 mod settings;
 pub mod small;

@@ -273,7 +273,7 @@ fn total(random: &mut Random) -> i64 {
 }
 
 /// The lowest end and the highest.
-fn ends(random: &mut Random) -> (i64, i64) {
+pub fn ends(random: &mut Random) -> (i64, i64) {
     let far = FARTHEST_END;
     let one = random.between(-far, far);
     let other = random.between(-far, far);
