@@ -1,12 +1,12 @@
-/* Calls every function of the header on document 01's tables A and B and on a forced play, and says where an answer is not as it should be:
- * calls B A FORCED, the files of all three. What it expects is printed in document 01, or read off the tables. */
+/* Calls every function of the header on document 01's tables A and B, on a forced play and on level plays, and says where an answer is not
+ * as it should be: calls B A FORCED LEVEL, the files of all four. What it expects is printed in document 01, or read off the tables. */
 #include <stdio.h>
 #include <string.h>
 
 #include "margin_engine.h"
 
-static uint8_t b[MARGIN_MOST_BYTES], a[MARGIN_MOST_BYTES], forced[MARGIN_MOST_BYTES];
-static size_t b_len, a_len, forced_len;
+static uint8_t b[MARGIN_MOST_BYTES], a[MARGIN_MOST_BYTES], forced[MARGIN_MOST_BYTES], level[MARGIN_MOST_BYTES];
+static size_t b_len, a_len, forced_len, level_len;
 static int bad;
 
 #define SAME(count, got, ...) same(__LINE__, count, sizeof (got)[0], (got), (const int64_t[]){__VA_ARGS__})
@@ -78,6 +78,9 @@ static void judging(void) {
     SAME(0, numbers, 0);
     returned("margin_judge", margin_judge(b, b_len, 2, numbers, 4), 0);
     SAME(3, numbers, 1, 6, 1);
+    memset(numbers, 0xff, sizeof numbers);
+    returned("margin_judge with level plays", margin_judge(level, level_len, 2, numbers, 4), 0);
+    SAME(3, numbers, 1, 3, 2);
     memset(numbers, 0xff, sizeof numbers);
     returned("margin_judge of a forced play", margin_judge(forced, forced_len, 3, numbers, 4), 0);
     SAME(1, numbers, 0);
@@ -161,8 +164,9 @@ static void report(void) {
 }
 
 int main(int argc, char **argv) {
-    if (argc != 4 || (b_len = load(argv[1], b)) == 0 || (a_len = load(argv[2], a)) == 0 || (forced_len = load(argv[3], forced)) == 0) {
-        fprintf(stderr, "usage: calls B A FORCED\n");
+    if (argc != 5 || (b_len = load(argv[1], b)) == 0 || (a_len = load(argv[2], a)) == 0 || (forced_len = load(argv[3], forced)) == 0 ||
+        (level_len = load(argv[4], level)) == 0) {
+        fprintf(stderr, "usage: calls B A FORCED LEVEL\n");
         return 2;
     }
     reading();

@@ -67,8 +67,8 @@ uint64_t margin_worth(const uint8_t *text, size_t text_len, int64_t *numbers, si
  *
  * numbers (3 or 1), without sign: 1, the loss and the number of level children, at an M or N root with two children or more; elsewhere 0
  * alone, for every `number`, as there is no decision: nobody chooses at a C or L root, and a single play is forced. The loss is the root's
- * worth minus the child's at M, the child's minus the root's at N. A child is level with the best where its loss is less than one point, G
- * grains (margin_worth tells G).
+ * worth minus the child's at M, the child's minus the root's at N. A child is level with the best where its loss is 0, so that at least
+ * one is.
  */
 uint64_t margin_judge(const uint8_t *text, size_t text_len, int64_t number, uint64_t *numbers, size_t numbers_len);
 

@@ -10,7 +10,7 @@ pub enum Judgement {
     Loss {
         /// What the play loses against the best, in grains.
         grains: i64,
-        /// How many plays are level with the best: they lose less than a point.
+        /// How many plays are level with the best: they lose nothing, to the grain.
         level: usize,
     },
     /// Nobody chooses at a C or L root, and where an M or N root has a single child
@@ -29,6 +29,10 @@ pub enum Judgement {
 /// // The roll is worth 3.5 points, and the sure play 5.
 /// assert_eq!(judge(&text, 2)?, Judgement::Loss { grains: 6, level: 1 });
 /// assert_eq!(judge(&text, 3).unwrap_err().number, 14);
+///
+/// // Plays worth 3, 2 1/4 and 3 points: the first and the last are level.
+/// let text = std::fs::read("../examples/level.txt")?;
+/// assert_eq!(judge(&text, 2)?, Judgement::Loss { grains: 3, level: 2 });
 ///
 /// // The roll alone: it must be played, so there is nothing to judge.
 /// let text = std::fs::read("../examples/forced.txt")?;

@@ -16,8 +16,8 @@ pub const VERB: Verb = Verb {
     more: &["\
 NUMBER counts the root's children from 1, in the order of their lines. Told are
 the play's loss against the best one, and how many plays are level with the best:
-they lose less than a point. A single play is forced: it is no decision, whatever
-the NUMBER.
+those that lose nothing, to the grain. A single play is forced: it is no decision,
+whatever the NUMBER.
 "],
     ask: |mut words| {
         let number = words.number("NUMBER")?;
