@@ -19,9 +19,9 @@ use Rattle.judge.specs.declared.Judged.the-variants.{Loss}
 use Rattle.judge.specs.declared.Opinion.the-variants.{Given}
 use Rattle.judge.specs.Judge.{childWorths, lossAt, levels, Judgement, judgeChild, judged, judge}
 use Rattle.judge.specs.Call.{judgeAnswer, judgeCall}
-use Rattle.judge.proofs.Judge.{judged-says, judged-sound, judged-choice, decided-judged, loss-heights, worths-count}
+use Rattle.judge.proofs.Judge.{judged-says, judged-sound, decided-judged, loss-heights, worths-count}
 use Rattle.judge.proofs.Call.{answer-loss}
-use Rattle.demands.specs.Level.{losesNothing, unlost, LevelLoseNothing, worthSo, LevelAreBest}
+use Rattle.demands.specs.Level.{losesNothing, unlost, LevelLoseNothing, countWorth, LevelAreBest}
 
 -- ---- losses over the integers
 
@@ -30,8 +30,8 @@ loss-none : (s : Side) (exact worth : ℤ) → eqZ (lossAt s exact worth) (pos 0
 loss-none AtM exact worth = minus-none exact worth ∙ same-flip exact worth
 loss-none AtN exact worth = minus-none worth exact
 
-levels-worth : (s : Side) (exact : ℤ) (xs : List (Share ℤ)) → levels s exact xs ≡ worthSo exact xs
-unfolding levels worthSo
+levels-worth : (s : Side) (exact : ℤ) (xs : List (Share ℤ)) → levels s exact xs ≡ countWorth exact xs
+unfolding levels countWorth
 levels-worth s exact [] = refl
 levels-worth s exact (x ∷ xs) = ap₂ (λ (b : Bool) (n : ℕ). cond b 1 0 + n) (loss-none s exact (x .worth)) (levels-worth s exact xs)
 
@@ -71,12 +71,11 @@ module _ (s : List ℕ) (t : Table) (p : readText s ≡ fine t) where
 pub level-lose-nothing : LevelLoseNothing
 level-lose-nothing s t i loss level p e =
     let (z, q, l) = answered s t p i loss level e in
-    let (side, o, S) = judged-says t i z level q in
-    let (at, r, several) = judged-choice s t p i z level q in
-    sym (S .counted) ∙ all-counted s t p side o several
+    let S = judged-says s t p i z level q in
+    sym (S .counted) ∙ all-counted s t p (S .side) (S .root) (S .several)
 
 pub level-are-best : LevelAreBest
 level-are-best s t i loss level p e =
     let (z, q, l) = answered s t p i loss level e in
-    let (side, o, S) = judged-says t i z level q in
-    (sym (S .counted) ∙ levels-worth side (worthOf t) (childWorths t), judged-sound s t p i z level q .1)
+    let S = judged-says s t p i z level q in
+    (sym (S .counted) ∙ levels-worth (S .side) (worthOf t) (childWorths t), judged-sound s t p i z level q .1)

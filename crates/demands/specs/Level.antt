@@ -35,12 +35,12 @@ LevelLoseNothing =
     → level ≡ unlost (readText s) 0 (childCount t)
 
 -- how many of these children are worth v
-unfoldable pub worthSo : (v : ℤ) → List (Share ℤ) → ℕ
-worthSo v [] = 0
-worthSo v (x ∷ xs) = cond (eqZ (x .worth) v) 1 0 + worthSo v xs
+unfoldable pub countWorth : (v : ℤ) → List (Share ℤ) → ℕ
+countWorth v [] = 0
+countWorth v (x ∷ xs) = cond (eqZ (x .worth) v) 1 0 + countWorth v xs
 
 -- the number of level children is that of the root's children with the root's worth, and so at least 1
 abbrev pub LevelAreBest : Type 0
 LevelAreBest =
     (s : List ℕ) (t : Table) (i : ℤ) (loss level : ℕ) → readText s ≡ fine t → judgeCall (readText s) i ≡ Given (Loss loss level)
-    → (level ≡ worthSo (worthOf t) (childWorths t)) × (1 ≤ level)
+    → (level ≡ countWorth (worthOf t) (childWorths t)) × (1 ≤ level)

@@ -68,22 +68,18 @@ back : (b : ℤ) (o : Option (Share ℕ)) (x : Share ℤ) → mapped (raised b) 
 back b none x e = let z : _≡_ {A = ℕ} 0 1 = cc in absurd (omega arith)
 back b (some y) x e = (y, refl, cc)
 
--- what a judgement with a loss says: a child has the number, the loss is that child's, and `level` is the number of level children
-pub record Says (side : Side) (exact : ℤ) (xs : List (Share ℤ)) (i loss : ℤ) (level : ℕ) : Type 0 where
-  pub child : Share ℤ
-  pub there : numbered i xs ≡ some child
-  pub lost : lossAt side exact (child .worth) ≡ loss
-  pub counted : levels side exact xs ≡ level
+-- a judgement that gives a loss gives that of a child, and the number of level children
+child-judged : (s : Side) (exact : ℤ) (xs : List (Share ℤ)) (loss : ℤ) (level : ℕ) (o : Option (Share ℤ)) → judgeChild s exact xs o ≡ fine (judged loss level)
+    → (x : Share ℤ) × (o ≡ some x) × (lossAt s exact (x .worth) ≡ loss) × (levels s exact xs ≡ level)
+child-judged s exact xs loss level none e = let z : _≡_ {A = ℕ} 0 1 = cc in absurd (omega arith)
+child-judged s exact xs loss level (some x) e = (x, refl, cc, cc)
 
-child-says : (s : Side) (exact : ℤ) (xs : List (Share ℤ)) (i loss : ℤ) (level : ℕ) (o : Option (Share ℤ)) → numbered i xs ≡ o
-    → judgeChild s exact xs o ≡ fine (judged loss level) → Says s exact xs i loss level
-child-says s exact xs i loss level none n e = let z : _≡_ {A = ℕ} 0 1 = cc in absurd (omega arith)
-child-says s exact xs i loss level (some x) n e = record { child = x; there = n; lost = cc; counted = cc }
-
-root-says : (r : Root) (exact : ℤ) (xs : List (Share ℤ)) (i loss : ℤ) (level : ℕ) → judgeAt r exact xs i ≡ fine (judged loss level)
-    → (s : Side) × (r ≡ toPlay s) × Says s exact xs i loss level
-root-says nobody exact xs i loss level e = let z : _≡_ {A = ℕ} 0 1 = cc in absurd (omega arith)
-root-says (toPlay s) exact xs i loss level e = (s, refl, child-says s exact xs i loss level (numbered i xs) refl e)
+root-judged : (r : Root) (exact : ℤ) (xs : List (Share ℤ)) (i loss : ℤ) (level : ℕ) → judgeAt r exact xs i ≡ fine (judged loss level)
+    → (s : Side) × (r ≡ toPlay s) × (x : Share ℤ) × (numbered i xs ≡ some x) × (lossAt s exact (x .worth) ≡ loss) × (levels s exact xs ≡ level)
+root-judged nobody exact xs i loss level e = let z : _≡_ {A = ℕ} 0 1 = cc in absurd (omega arith)
+root-judged (toPlay s) exact xs i loss level e =
+    let (x, n, l, c) = child-judged s exact xs loss level (numbered i xs) e in
+    (s, refl, x, n, l, c)
 
 -- the only refusal of judging is 14, where no child has the number
 child-refused : (s : Side) (exact : ℤ) (xs : List (Share ℤ)) (o : Option (Share ℤ)) (r : Refusal) → judgeChild s exact xs o ≡ refused r
@@ -136,16 +132,22 @@ module _ (t : Table) (i : ℤ) where
   judged-every : (loss : ℤ) (level : ℕ) → judge t i ≡ fine (judged loss level) → (judgeEvery t i ≡ fine (judged loss level)) × (childCount t ≡ 1 → ⊥)
   judged-every loss level = unforced (childCount t) (judgeEvery t i) (fine (judged loss level)) (not-judged loss level)
 
-  -- a judgement with a loss is of a root at which somebody plays, and says this of it
-  pub judged-says : (loss : ℤ) (level : ℕ) → judge t i ≡ fine (judged loss level)
-      → (side : Side) × (rootOf (tree t) ≡ toPlay side) × Says side (worthOf t) (childWorths t) i loss level
-  judged-says loss level e = root-says (rootOf (tree t)) (worthOf t) (childWorths t) i loss level (judged-every loss level e .0)
-
   pub judge-refused : (r : Refusal) → judge t i ≡ refused r → NoChild ≡ r
   judge-refused r e = root-refused (rootOf (tree t)) (worthOf t) (childWorths t) i r (refused-every r e .0) .0
 
 not-below : (n : ℕ) (z : ℤ) → pos n ≡ z → leZ (pos 0) z ≡ true
 not-below n z e = sym (ap (leZ (pos 0)) e) ∙ leb·zero n
+
+-- what a judgement with a loss says of its table: somebody has a choice at the root, a child has the number, the loss is that child's, and `level`
+-- is the number of level children
+pub record Says (t : Table) (i loss : ℤ) (level : ℕ) : Type 0 where
+  pub side : Side
+  pub root : rootOf (tree t) ≡ toPlay side
+  pub several : 2 ≤ childCount t
+  pub child : Share ℤ
+  pub there : numbered i (childWorths t) ≡ some child
+  pub lost : lossAt side (worthOf t) (child .worth) ≡ loss
+  pub counted : levels side (worthOf t) (childWorths t) ≡ level
 
 -- ---- the theorems
 
@@ -251,12 +253,6 @@ module _ (s : List ℕ) (t : Table) (h : readText s ≡ fine t) where
               ∙ ap (λ (l : ℤ). fine (judged l (levels side (worthOf t) (childWorths t)))) z,
         )
 
-  -- of every judgement with a loss: the loss is not negative, and a child is level
-  pub judged-sound : (i loss : ℤ) (level : ℕ) → judge t i ≡ fine (judged loss level) → (leZ (pos 0) loss ≡ true) × (1 ≤ level)
-  judged-sound i loss level e =
-      let (side, o, S) = judged-says t i loss level e in
-      (rw (S .lost) at (loss-natural side o i (S .child) (S .there)), rw (S .counted) at (some-level side o))
-
   -- where somebody plays and the children are not one, they are two or more
   several : (side : Side) → rootOf (tree t) ≡ toPlay side → (childCount t ≡ 1 → ⊥) → 2 ≤ childCount t
   several side e one =
@@ -280,8 +276,14 @@ module _ (s : List ℕ) (t : Table) (h : readText s ≡ fine t) where
       decided-judged t i side o several
       ∙ ap (judgeChild side (worthOf t) (childWorths t)) (numbered-none i (nodes (children (tree t))) (childWorths t) (sym worths-count) m)
 
-  -- a loss needs the same root
-  pub judged-choice : (i loss : ℤ) (level : ℕ) → judge t i ≡ fine (judged loss level) → (side : Side) × (rootOf (tree t) ≡ toPlay side) × (2 ≤ childCount t)
-  judged-choice i loss level e =
-      let (side, o, S) = judged-says t i loss level e in
-      (side, o, several side o (judged-every t i loss level e .1))
+  pub judged-says : (i loss : ℤ) (level : ℕ) → judge t i ≡ fine (judged loss level) → Says t i loss level
+  judged-says i loss level e =
+      let (v, h) = judged-every t i loss level e in
+      let (side, o, x, n, l, c) = root-judged (rootOf (tree t)) (worthOf t) (childWorths t) i loss level v in
+      record { side = side; root = o; several = several side o h; child = x; there = n; lost = l; counted = c }
+
+  -- the loss is not negative, and a child is level
+  pub judged-sound : (i loss : ℤ) (level : ℕ) → judge t i ≡ fine (judged loss level) → (leZ (pos 0) loss ≡ true) × (1 ≤ level)
+  judged-sound i loss level e =
+      let S = judged-says i loss level e in
+      (rw (S .lost) at (loss-natural (S .side) (S .root) i (S .child) (S .there)), rw (S .counted) at (some-level (S .side) (S .root)))

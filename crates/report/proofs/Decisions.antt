@@ -22,7 +22,7 @@ use Rattle.judge.specs.declared.Opinion.the-variants.{Given}
 use Rattle.judge.specs.Judge.{childWorths, Judgement, noDecision, judged, judgeChild, judge}
 use Rattle.judge.specs.Call.{told, judgeAnswer, judgeCall}
 use Rattle.judge.proofs.Best.{kindAt}
-use Rattle.judge.proofs.Judge.{decided-judged, judged-choice}
+use Rattle.judge.proofs.Judge.{decided-judged, judged-says}
 use Rattle.judge.proofs.Call.{answer-loss}
 use Rattle.report.specs.declared.Row.{Row}
 use Rattle.report.specs.Report.{playIn, sizeOf, rowOf, counts, totalOf}
@@ -66,8 +66,7 @@ module _ (side : Side) (s : List ℕ) (t : Table) (p : readText s ≡ fine t) (i
 
   loss-counts : (loss : ℤ) (level : ℕ) → judge t i ≡ fine (judged loss level) → decides (code side) t ≡ eqb (getD (kindsOf t) 0 0) (code side)
   loss-counts loss level e =
-      let (at, r, h) = judged-choice s t p i loss level e in
-      ap (λ (b : Bool). eqb (getD (kindsOf t) 0 0) (code side) && b) (le-leb 2 (childCount t) h) ∙ and-true (eqb (getD (kindsOf t) 0 0) (code side))
+      ap (λ (b : Bool). eqb (getD (kindsOf t) 0 0) (code side) && b) (le-leb 2 (childCount t) (judged-says s t p i loss level e .several)) ∙ and-true (eqb (getD (kindsOf t) 0 0) (code side))
     where
       and-true : (a : Bool) → (a && true) ≡ a
       and-true true = refl
