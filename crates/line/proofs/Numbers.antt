@@ -1,11 +1,11 @@
--- A refusal's number is 1 to 16. Assumes nothing.
+-- A refusal's number is 1 to 20. Assumes nothing.
 use Prim.Native.Nat.{_≤_}
 use native.Mathlib.Omega.{arith}
 use Rattle.line.specs.declared.Refusal.{Refusal}
-use Rattle.line.specs.declared.Refusal.the-variants.{Length, IllWritten, OutOfRange, Misnumbered, UnknownKind, WrongParent, Misfilled, Childless, WrongSum, TooDeep, NoRoom, BadMargin, HasChance, NoChild, TooMany, NoPosition}
+use Rattle.line.specs.declared.Refusal.the-variants.{Length, IllWritten, OutOfRange, Misnumbered, UnknownKind, WrongParent, Misfilled, Childless, WrongSum, TooDeep, NoRoom, BadMargin, HasChance, NoChild, TooMany, NoPosition, BadScale}
 use Rattle.line.specs.Refusal.{numberOf}
 
-range : (r : Refusal) → (1 ≤ numberOf r) × (numberOf r ≤ 16)
+range : (r : Refusal) → (1 ≤ numberOf r) × (numberOf r ≤ 20)
 range Length = (omega arith, omega arith)
 range (IllWritten n) = (omega arith, omega arith)
 range (OutOfRange n) = (omega arith, omega arith)
@@ -22,9 +22,10 @@ range HasChance = (omega arith, omega arith)
 range NoChild = (omega arith, omega arith)
 range TooMany = (omega arith, omega arith)
 range NoPosition = (omega arith, omega arith)
+range BadScale = (omega arith, omega arith)
 
 pub number-some : (r : Refusal) → 1 ≤ numberOf r
 number-some r = range r .0
 
-pub number-small : (r : Refusal) → numberOf r ≤ 16
+pub number-small : (r : Refusal) → numberOf r ≤ 20
 number-small r = range r .1

@@ -6,8 +6,8 @@ ghost use Rattle.line.specs.Refusal.{numberOf, lineOf};
 ghost use Rattle.line.specs.Line.{valueOf, toNat, letterCode};
 use field::Field;
 
-// Why a table, a call on an accepted one, or a match file is refused. A case that has a line names it: the header is line 0, and node i is
-// line i + 1.
+// Why a table, a call on an accepted one, a match file or a report's scale is refused. A case that has a line names it: the header is line 0, and
+// node i is line i + 1.
 pub enum Refusal {
     Length,
     IllWritten(usize),
@@ -25,6 +25,7 @@ pub enum Refusal {
     NoChild,
     TooMany,
     NoPosition,
+    BadScale,
 }
 
 // The header's fields, and what they say.
@@ -81,6 +82,7 @@ pub fn refusal_number(r: Refusal) -> u64
         Refusal::NoChild => 14,
         Refusal::TooMany => 15,
         Refusal::NoPosition => 16,
+        Refusal::BadScale => 20,
     }
 }
 
@@ -105,6 +107,7 @@ pub fn refusal_line(r: Refusal) -> usize
         Refusal::NoChild => 0,
         Refusal::TooMany => 0,
         Refusal::NoPosition => 0,
+        Refusal::BadScale => 0,
     }
 }
 

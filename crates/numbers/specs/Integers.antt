@@ -12,7 +12,7 @@ maxZ a b = cond (leZ a b) b a
 unfoldable pub minZ : ℤ → ℤ → ℤ
 minZ a b = cond (leZ a b) a b
 
--- whether two are equal, for document 02, Item 8's losses of 0
+-- whether two are equal, for document 02: Item 8's losses of 0, and Item 11's numbers of scales
 abbrev pub eqZ : ℤ → ℤ → Bool
 eqZ (pos m) (pos n) = eqb m n
 eqZ (pos m) (negsuc n) = false
