@@ -96,7 +96,7 @@ module _ (rs : List Row) (all : AllSmall rs) (few : length rs ≤ 500) where
   pub totals-small : SmallTotals (totalsOf rs)
   totals-small = record { positions = few; max = tally-small 1; min = tally-small 2 }
 
--- the totals are those of the two lists
+-- the totals are those of the lists of kinds and losses
 loss-listed : (side : ℕ) (n : ℕ → ℕ) (kind : ℕ) (l : Loss) → countsIn side n kind (lossCode l) ≡ counts side n kind l
 loss-listed side n kind NoDecision = refl
 loss-listed side n kind (Thousandths m) = refl

@@ -60,7 +60,7 @@ abbrev pub countsIn : (side : ℕ) → (ℕ → ℕ) → (kind : ℕ) → ℤ �
 countsIn side n kind (pos loss) = cond (eqb kind side) (n loss) 0
 countsIn side n kind (negsuc m) = 0
 
--- the sum over two lists as a report fills them
+-- the sum over the lists of kinds and losses as a report fills them
 unfoldable pub listedTotal : (side : ℕ) → (ℕ → ℕ) → List ℕ → List ℤ → ℕ
 listedTotal side n [] ls = 0
 listedTotal side n (k ∷ ks) [] = 0

@@ -1,7 +1,7 @@
 -- The loop over a match: the rows read so far, and the rest of the file. Assumes nothing.
 use Prim.Native.Nat.{ℕ, suc, _+_, _-_, _≤_, _<_}
 use mathlib.Core.Path.{_≡_, refl, sym, ap, subst, _∙_}
-use mathlib.Core.List.{List, [], _∷_, _++_, append-nil, map-append}
+use mathlib.Core.List.{List, [], _∷_, _++_, map, append-nil, map-append}
 use native.Mathlib.Omega.{arith}
 use native.Mathlib.Numerals.{add-one}
 use lib.ListN.{length, set, drop, length-append, length-drop, length-set, length-map, drop-of-length-le}
@@ -14,17 +14,43 @@ use Rattle.table.specs.Slices.{laid}
 use Rattle.table.proofs.Laid.{laid-more}
 use Rattle.report.specs.declared.Row.{Row}
 use Rattle.report.specs.declared.Totals.{Totals}
+use Rattle.mark.specs.declared.Marking.{Marking}
+use Rattle.mark.specs.Marks.{markCode}
 use Rattle.report_call.specs.declared.Reported.the-variants.{Done, Refused}
-use Rattle.report.specs.Report.{sizeOf, lossCode, positionOf, Outcome, stopped, rows, after, reached, matchFrom, matchOf, totalsOf, kindsIn, lossesIn}
+use Rattle.report.specs.Report.{sizeOf, lossCode, positionOf, Outcome, stopped, rows, after, reached, matchFrom, matchOf, totalsOf}
 use Rattle.report.specs.Inside.{SmallLoss, SmallTotals}
 use Rattle.report.proofs.Rows.{row-small, AllSmall, totals-small}
 use Rattle.report.proofs.Files.{row-within, after-none, after-after, match-end, match-full, match-on}
 use Rattle.report_call.specs.Inside.{withRow, Reads}
 use Rattle.report_call.proofs.Sums.{totals-more}
 
--- the entry after those that are laid
-laid-at : {A : Type 0} (xs a : List A) (n : ℕ) (v : A) → length xs ≡ n → n < length a → set (laid xs a) n v ≡ laid (xs ++ (v ∷ [])) a
-laid-at xs a n v e h = ap (λ m. set (laid xs a) m v) (sym e) ∙ sym (laid-more xs a v (omega arith))
+-- ---- a list of 500 entries, with f of each row at its front
+
+-- a is the list as it came, b as it is
+pub record Listed {A : Type 0} (f : Row → A) (rs : List Row) (a b : List A) : Type 0 where
+  pub is : b ≡ laid (map f rs) a
+  pub room : length a ≡ 500
+  pub kept : length b ≡ length a
+
+module _ {A : Type 0} (f : Row → A) (a : List A) where
+  listed-none : length a ≡ 500 → Listed f [] a a
+  listed-none h = record { is = refl; room = h; kept = refl }
+
+  module _ (rs : List Row) (b : List A) (n : ℕ) (L : Listed f rs a b) (few : n < 500) where
+    pub listed-room : n < length b
+    listed-room = omega (arith, L .room, L .kept, few)
+
+    listed-more : (r : Row) → length rs ≡ n → Listed f (rs ++ (r ∷ [])) a (set b n (f r))
+    listed-more r e =
+        let m : length (map f rs) ≡ n = length-map rs f ∙ e in
+        record {
+          is = ap (λ y. set y n (f r)) (L .is)
+              ∙ ap (λ m. set (laid (map f rs) a) m (f r)) (sym m)
+              ∙ sym (laid-more (map f rs) a (f r) (omega (arith, m, L .room)))
+              ∙ ap (λ y. laid y a) (sym (map-append f rs (r ∷ [])));
+          room = L .room;
+          kept = length-set b n (f r) ∙ L .kept;
+        }
 
 all-more : (rs : List Row) (r : Row) → AllSmall rs → SmallLoss (r .loss) → AllSmall (rs ++ (r ∷ []))
 all-more [] r a h = (h, tt)
@@ -32,39 +58,43 @@ all-more (x ∷ xs) r a h = (a .0, all-more xs r (a .1) h)
 
 -- ---- the loop
 
--- k₀ and l₀ are the lists as they came, k and l as they are
-pub record Going (file k₀ : List ℕ) (l₀ : List ℤ) (k : List ℕ) (l : List ℤ) (t : Totals) (at : ℕ) : Type 0 where
+abbrev pub kind-of : Row → ℕ
+kind-of r = r .kind
+
+abbrev pub loss-of : Row → ℤ
+loss-of r = lossCode (r .loss)
+
+abbrev pub mark-of : Marking → Row → ℕ
+mark-of scale r = markCode scale (r .loss)
+
+-- k₀, l₀ and m₀ are the lists as they came, k, l and m as they are
+pub record Going (file : List ℕ) (scale : Marking) (k₀ : List ℕ) (l₀ : List ℤ) (m₀ k : List ℕ) (l : List ℤ) (m : List ℕ) (t : Totals) (at : ℕ) : Type 0 where
   pub done : List Row
   pub totals : t ≡ totalsOf done
   pub few : length done ≤ 500
   pub small : AllSmall done
   pub place : at ≤ length file
-  pub kinds : k ≡ laid (kindsIn done) k₀
-  pub losses : l ≡ laid (lossesIn done) l₀
-  pub room-k : length k₀ ≡ 500
-  pub room-l : length l₀ ≡ 500
-  pub kept-k : length k ≡ length k₀
-  pub kept-l : length l ≡ length l₀
+  pub kinds : Listed kind-of done k₀ k
+  pub losses : Listed loss-of done l₀ l
+  pub marks : Listed (mark-of scale) done m₀ m
   pub from : matchOf file ≡ after done (matchFrom (500 - length done) (suc (length done)) (drop at file))
 
-pub going-none : (file k : List ℕ) (l : List ℤ) (t : Totals) → t ≡ totalsOf [] → length k ≡ 500 → length l ≡ 500 → Going file k l k l t 0
-going-none file k l t e p q =
+pub going-none : (file : List ℕ) (scale : Marking) (k : List ℕ) (l : List ℤ) (m : List ℕ) (t : Totals) → t ≡ totalsOf [] → length k ≡ 500 → length l ≡ 500 → length m ≡ 500
+    → Going file scale k l m k l m t 0
+going-none file scale k l m t e p q s =
     record {
       done = [];
       totals = e;
       few = omega arith;
       small = tt;
       place = omega arith;
-      kinds = refl;
-      losses = refl;
-      room-k = p;
-      room-l = q;
-      kept-k = refl;
-      kept-l = refl;
+      kinds = listed-none kind-of k p;
+      losses = listed-none loss-of l q;
+      marks = listed-none (mark-of scale) m s;
       from = after-none (matchFrom 500 1 file);
     }
 
-module _ (file k₀ : List ℕ) (l₀ : List ℤ) (k : List ℕ) (l : List ℤ) (t : Totals) (at : ℕ) (G : Going file k₀ l₀ k l t at) where
+module _ (file : List ℕ) (scale : Marking) (k₀ : List ℕ) (l₀ : List ℤ) (m₀ k : List ℕ) (l : List ℤ) (m : List ℕ) (t : Totals) (at : ℕ) (G : Going file scale k₀ l₀ m₀ k l m t at) where
   abbrev n : ℕ
   n = length (G .done)
 
@@ -78,24 +108,24 @@ module _ (file k₀ : List ℕ) (l₀ : List ℤ) (k : List ℕ) (l : List ℤ) 
   going-small = subst SmallTotals (sym (G .totals)) (totals-small (G .done) (G .small) (G .few))
 
   -- the file is read
-  pub going-end : length file ≤ at → Reads (matchOf file) (Done t) k₀ l₀ k l
+  pub going-end : length file ≤ at → Reads (matchOf file) scale (Done t) k₀ l₀ m₀ k l m
   going-end h =
       let e : matchOf file ≡ rows (G .done) =
       G .from
       ∙ ap (λ (s : List ℕ). after (G .done) (matchFrom (500 - n) (suc n) s)) (drop-of-length-le file h)
       ∙ ap (after (G .done)) (match-end (500 - n) (suc n))
       ∙ ap rows (append-nil (G .done)) in
-      subst (λ (o : Outcome). Reads o (Done t) k₀ l₀ k l) (sym e) (ap Done (G .totals), G .kinds, G .losses)
+      subst (λ (o : Outcome). Reads o scale (Done t) k₀ l₀ m₀ k l m) (sym e) (ap Done (G .totals), G .kinds .is, G .losses .is, G .marks .is)
 
   -- a position begins
   module _ (here : at < length file) where
     begun : 0 < length left
     begun = omega (arith, length-drop at file)
 
-    refused-by : (q : Refusal) (m : ℕ) → matchOf file ≡ stopped q m → Reads (matchOf file) (Refused q m) k₀ l₀ k l
-    refused-by q m e = subst (λ (o : Outcome). Reads o (Refused q m) k₀ l₀ k l) (sym e) refl
+    refused-by : (q : Refusal) (p : ℕ) → matchOf file ≡ stopped q p → Reads (matchOf file) scale (Refused q p) k₀ l₀ m₀ k l m
+    refused-by q p e = subst (λ (o : Outcome). Reads o scale (Refused q p) k₀ l₀ m₀ k l m) (sym e) refl
 
-    pub going-full : t .positions ≡ 500 → Reads (matchOf file) (Refused TooMany 501) k₀ l₀ k l
+    pub going-full : t .positions ≡ 500 → Reads (matchOf file) scale (Refused TooMany 501) k₀ l₀ m₀ k l m
     going-full h =
         let z : n ≡ 500 = sym count-is ∙ h in
         refused-by TooMany 501 (
@@ -118,7 +148,7 @@ module _ (file k₀ : List ℕ) (l₀ : List ℤ) (k : List ℕ) (l : List ℤ) 
       abbrev reaches : Verdict Row → Outcome
       reaches v = after (G .done) (reached (suc n) (matchFrom (500 - suc n) (suc (suc n)) (drop (sizeOf left) left)) v)
 
-      pub going-stopped : (q : Refusal) → positionOf left ≡ refused q → Reads (matchOf file) (Refused q (t .positions + 1)) k₀ l₀ k l
+      pub going-stopped : (q : Refusal) → positionOf left ≡ refused q → Reads (matchOf file) scale (Refused q (t .positions + 1)) k₀ l₀ m₀ k l m
       going-stopped q e =
           refused-by q (t .positions + 1) (next-from ∙ ap reaches e ∙ ap (stopped q) (ap suc (sym count-is) ∙ sym (add-one (t .positions))))
 
@@ -129,24 +159,19 @@ module _ (file k₀ : List ℕ) (l₀ : List ℤ) (k : List ℕ) (l : List ℤ) 
         long : length (G .done ++ (r ∷ [])) ≡ suc n
         long = length-append (G .done) (r ∷ []) ∙ add-one n
 
-        pub going-on : Going file k₀ l₀ (set k (t .positions) (r .kind)) (set l (t .positions) (lossCode (r .loss))) (withRow t r) (at + sizeOf left)
+        pub going-on : Going file scale k₀ l₀ m₀ (set k (t .positions) (kind-of r)) (set l (t .positions) (loss-of r)) (set m (t .positions) (mark-of scale r)) (withRow t r) (at + sizeOf left)
         going-on =
+            let c : n ≡ t .positions = sym count-is in
+            let h : t .positions < 500 = omega (arith, count-is, less) in
             record {
               done = G .done ++ (r ∷ []);
               totals = ap (λ (x : Totals). withRow x r) (G .totals) ∙ totals-more (G .done) r;
               few = omega (arith, long, less);
               small = all-more (G .done) r (G .small) (row-small left r e);
               place = row-end;
-              kinds = ap (λ (y : List ℕ). set y (t .positions) (r .kind)) (G .kinds)
-                  ∙ laid-at (kindsIn (G .done)) k₀ (t .positions) (r .kind) (length-map (G .done) (λ (r : Row). r .kind) ∙ sym count-is) (omega (arith, count-is, less, G .room-k))
-                  ∙ ap (λ (y : List ℕ). laid y k₀) (sym (map-append (λ (r : Row). r .kind) (G .done) (r ∷ [])));
-              losses = ap (λ (y : List ℤ). set y (t .positions) (lossCode (r .loss))) (G .losses)
-                  ∙ laid-at (lossesIn (G .done)) l₀ (t .positions) (lossCode (r .loss)) (length-map (G .done) (λ (r : Row). lossCode (r .loss)) ∙ sym count-is) (omega (arith, count-is, less, G .room-l))
-                  ∙ ap (λ (y : List ℤ). laid y l₀) (sym (map-append (λ (r : Row). lossCode (r .loss)) (G .done) (r ∷ [])));
-              room-k = G .room-k;
-              room-l = G .room-l;
-              kept-k = length-set k (t .positions) (r .kind) ∙ G .kept-k;
-              kept-l = length-set l (t .positions) (lossCode (r .loss)) ∙ G .kept-l;
+              kinds = listed-more kind-of k₀ (G .done) k (t .positions) (G .kinds) h r c;
+              losses = listed-more loss-of l₀ (G .done) l (t .positions) (G .losses) h r c;
+              marks = listed-more (mark-of scale) m₀ (G .done) m (t .positions) (G .marks) h r c;
               from = next-from
                   ∙ ap reaches e
                   ∙ after-after (G .done) (r ∷ []) (matchFrom (500 - suc n) (suc (suc n)) (drop (sizeOf left) left))
@@ -154,7 +179,8 @@ module _ (file k₀ : List ℕ) (l₀ : List ℤ) (k : List ℕ) (l : List ℤ) 
                   ∙ ap (λ (m : ℕ). after (G .done ++ (r ∷ [])) (matchFrom (500 - m) (suc m) (drop (at + sizeOf left) file))) (sym long);
             }
 
--- the same of what the code computes: a listed loss, the totals and the place
-pub going-as : (file k₀ : List ℕ) (l₀ : List ℤ) (k : List ℕ) (l : List ℤ) (n : ℕ) {z z′ : ℤ} {t t′ : Totals} {at at′ : ℕ} → z ≡ z′ → t ≡ t′ → at ≡ at′
-    → Going file k₀ l₀ k (set l n z) t at → Going file k₀ l₀ k (set l n z′) t′ at′
-going-as file k₀ l₀ k l n p q r G = subst (λ (X : Type 0). X) (λ i. Going file k₀ l₀ k (set l n (p i)) (q i) (r i)) G
+-- the same of what the code computes: a listed loss, its mark, the totals and the place
+pub going-as : (file : List ℕ) (scale : Marking) (k₀ : List ℕ) (l₀ : List ℤ) (m₀ k : List ℕ) (l : List ℤ) (m : List ℕ) (n : ℕ) {z z′ : ℤ} {x x′ : ℕ} {t t′ : Totals} {at at′ : ℕ}
+    → z ≡ z′ → x ≡ x′ → t ≡ t′ → at ≡ at′
+    → Going file scale k₀ l₀ m₀ k (set l n z) (set m n x) t at → Going file scale k₀ l₀ m₀ k (set l n z′) (set m n x′) t′ at′
+going-as file scale k₀ l₀ m₀ k l m n p q r s G = subst (λ (X : Type 0). X) (λ i. Going file scale k₀ l₀ m₀ k (set l n (p i)) (set m n (q i)) (r i) (s i)) G

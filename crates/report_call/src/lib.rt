@@ -1,14 +1,18 @@
-// The public call of the match report. It takes any file and any lists, and ends with totals or a refusal.
+// The public call of the match report. It takes any file, any scale and any lists, and ends with totals or a refusal.
 ghost use mathlib.Core.Path.{_≡_};
 ghost use mathlib.Core.List.{[]};
 ghost use Prim.Native.Nat.{_≤_};
 ghost use lib.ListN.{length, take};
 ghost use Rattle.table.specs.Slices.{laid, fitted};
-ghost use Rattle.report.specs.Report.{lossCode, totalsOf, matchOf};
+ghost use Rattle.report.specs.Report.{lossCode, totalsOf, matchOf, kindsIn, lossesIn};
 ghost use Rattle.report.specs.Inside.{SmallLoss, SmallTally, SmallTotals};
-ghost use Rattle.report_call.specs.Call.{reportCall, reportKinds, reportLosses};
-ghost use Rattle.report_call.specs.Inside.{withLoss, withRow, Reads};
+ghost use Rattle.mark.specs.Marks.{marksIn};
+ghost use Rattle.report_call.specs.Call.{roomIn, reportAnswer, filled, reportCall, reportKinds, reportLosses, reportMarks};
+ghost use Rattle.report_call.specs.Inside.{withLoss, withRow, Reads, matchIn};
 use line::Refusal;
+use mark::Choice;
+use mark::Marking;
+use numbers::min_of;
 use report::Loss;
 use report::Row;
 use report::Tally;
@@ -82,11 +86,17 @@ fn zero_totals() -> Totals
     }
 }
 
-// The positions one after another. Their kinds and losses go to two lists of 500 entries, which are the caller's own: a refused match may leave
-// something in them.
-fn read_all(file: &[u8], kinds: &mut [u8], losses: &mut [i64]) -> Reported
-    requires { ⌜ (length (now kinds) ≡ 500) × (length (now losses) ≡ 500) ⌝ }
-    ensures { λ r. ⌜ Reads (matchOf (now (file .entry))) r (now (kinds .entry)) (now (losses .entry)) (now (kinds .exit)) (now (losses .exit)) ⌝ }
+// The positions one after another. Their kinds, losses and marks go to three lists of 500 entries, which are the caller's own: a refused match
+// may leave something in them.
+fn read_all(
+    file: &[u8],
+    scale: Marking,
+    kinds: &mut [u8],
+    losses: &mut [i64],
+    marks: &mut [u8],
+) -> Reported
+    requires { ⌜ (length (now kinds) ≡ 500) × (length (now losses) ≡ 500) × (length (now marks) ≡ 500) ⌝ }
+    ensures { λ r. ⌜ Reads (matchOf (now (file .entry))) scale r (now (kinds .entry)) (now (losses .entry)) (now (marks .entry)) (now (kinds .exit)) (now (losses .exit)) (now (marks .exit)) ⌝ }
 {
     let mut t = zero_totals();
     let mut at: usize = 0;
@@ -105,6 +115,7 @@ fn read_all(file: &[u8], kinds: &mut [u8], losses: &mut [i64]) -> Reported
                 let l = r.loss;
                 kinds[n] = r.kind;
                 losses[n] = loss_code(l);
+                marks[n] = mark::mark_code(scale, l);
                 at = at + size;
                 t = with_row(t, r);
             }
@@ -128,24 +139,57 @@ fn keep_losses(n: usize, from: &[i64], to: &mut [i64])
     }
 }
 
-// The report: for any file and any lists. Each list gets an entry for each position, and keeps its others; a refused call writes nothing.
-pub fn report(file: &[u8], kinds: &mut [u8], losses: &mut [i64]) -> Reported
-    ensures answers { λ r. ⌜ r ≡ reportCall (now (file .entry)) (length (now (kinds .entry))) (length (now (losses .entry))) ⌝ }
-    ensures kinds { λ _. ⌜ now (kinds .exit) ≡ laid (reportKinds (now (file .entry)) (length (now (kinds .entry))) (length (now (losses .entry)))) (now (kinds .entry)) ⌝ }
-    ensures losses { λ _. ⌜ now (losses .exit) ≡ laid (reportLosses (now (file .entry)) (length (now (kinds .entry))) (length (now (losses .entry)))) (now (losses .entry)) ⌝ }
+// The report by a scale that is known.
+fn report_by(
+    file: &[u8],
+    scale: Marking,
+    kinds: &mut [u8],
+    losses: &mut [i64],
+    marks: &mut [u8],
+) -> Reported
+    ensures answers { λ r. ⌜ r ≡ reportAnswer (matchIn (now (file .entry)) (now (kinds .entry)) (now (losses .entry)) (now (marks .entry))) ⌝ }
+    ensures kinds { λ _. ⌜ now (kinds .exit) ≡ laid (kindsIn (filled (matchIn (now (file .entry)) (now (kinds .entry)) (now (losses .entry)) (now (marks .entry))))) (now (kinds .entry)) ⌝ }
+    ensures losses { λ _. ⌜ now (losses .exit) ≡ laid (lossesIn (filled (matchIn (now (file .entry)) (now (kinds .entry)) (now (losses .entry)) (now (marks .entry))))) (now (losses .entry)) ⌝ }
+    ensures marks { λ _. ⌜ now (marks .exit) ≡ laid (marksIn scale (filled (matchIn (now (file .entry)) (now (kinds .entry)) (now (losses .entry)) (now (marks .entry))))) (now (marks .entry)) ⌝ }
 {
     let mut own_kinds = [0u8; 500];
     let mut own_losses = [0i64; 500];
-    match read_all(file, &mut own_kinds, &mut own_losses) {
+    let mut own_marks = [0u8; 500];
+    match read_all(file, scale, &mut own_kinds, &mut own_losses, &mut own_marks) {
         Reported::Refused(r, k) => Reported::Refused(r, k),
         Reported::Done(t) => {
             let n = t.positions;
-            if (kinds.len() < n) | (losses.len() < n) {
+            let room = min_of(
+                min_of(kinds.len() as u64, losses.len() as u64),
+                marks.len() as u64,
+            );
+            if room < n as u64 {
                 return Reported::Refused(Refusal::NoRoom, 0);
             }
             reading::keep8(n, &own_kinds, kinds);
             keep_losses(n, &own_losses, losses);
+            reading::keep8(n, &own_marks, marks);
             Reported::Done(t)
         }
+    }
+}
+
+// The report: for any file, any scale's number and any lists. Each list gets an entry for each position, and keeps its others; a refused call
+// writes nothing.
+pub fn report(
+    file: &[u8],
+    scale: i64,
+    kinds: &mut [u8],
+    losses: &mut [i64],
+    marks: &mut [u8],
+) -> Reported
+    ensures answers { λ r. ⌜ r ≡ reportCall (now (file .entry)) scale (roomIn (now (kinds .entry)) (now (losses .entry)) (now (marks .entry))) ⌝ }
+    ensures kinds { λ _. ⌜ now (kinds .exit) ≡ laid (reportKinds (now (file .entry)) scale (roomIn (now (kinds .entry)) (now (losses .entry)) (now (marks .entry)))) (now (kinds .entry)) ⌝ }
+    ensures losses { λ _. ⌜ now (losses .exit) ≡ laid (reportLosses (now (file .entry)) scale (roomIn (now (kinds .entry)) (now (losses .entry)) (now (marks .entry)))) (now (losses .entry)) ⌝ }
+    ensures marks { λ _. ⌜ now (marks .exit) ≡ laid (reportMarks (now (file .entry)) scale (roomIn (now (kinds .entry)) (now (losses .entry)) (now (marks .entry)))) (now (marks .entry)) ⌝ }
+{
+    match mark::choice_of(scale) {
+        Choice::Refused(r) => Reported::Refused(r, 0),
+        Choice::Known(s) => report_by(file, s, kinds, losses, marks),
     }
 }
