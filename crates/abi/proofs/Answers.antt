@@ -94,9 +94,9 @@ module _ (s : List ℕ) where
       go (Turned.the-variants.Written n) e = tt
 
 -- of any file
-pub reported-small : (file : List ℕ) (kinds losses : ℕ) → SmallReported (reportCall file kinds losses)
-reported-small file kinds losses = go (reportCall file kinds losses) refl
+pub reported-small : (file : List ℕ) (scale : ℤ) (room : ℕ) → SmallReported (reportCall file scale room)
+reported-small file scale room = go (reportCall file scale room) refl
   where
-    go : (r : Reported) → reportCall file kinds losses ≡ r → SmallReported r
-    go (Reported.the-variants.Refused q k) e = let h = report-refused file kinds losses q k e in (h .1 .1, h .0)
-    go (Reported.the-variants.Done t) e = report-totals file kinds losses t e
+    go : (r : Reported) → reportCall file scale room ≡ r → SmallReported r
+    go (Reported.the-variants.Refused q k) e = let h = report-refused file room scale q k e in (h .2, h .0)
+    go (Reported.the-variants.Done t) e = report-totals file room scale t e

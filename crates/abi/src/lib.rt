@@ -10,7 +10,7 @@ ghost use Rattle.judge.specs.Call.{judgeCall};
 ghost use Rattle.search_call.specs.Call.{searchCall, searchReads};
 ghost use Rattle.rolled.specs.Call.{rollCall, rollReads, rollStore};
 ghost use Rattle.rollout_call.specs.Records.{recorded};
-ghost use Rattle.report_call.specs.Call.{reportCall, reportKinds, reportLosses};
+ghost use Rattle.report_call.specs.Call.{roomIn, reportCall, reportKinds, reportLosses, reportMarks};
 ghost use Rattle.turn_call.specs.Call.{turnCall, turnBytes};
 ghost use Rattle.codes.specs.Numbers.{readCode, numbersOf, worthCode, worthNumbers, judgeCode, judgeNumbers, searchCode, searchNumbers, rollCode, rollNumbers, turnedCode, reportCode, reportNumbers, put};
 use rollout_call::Record;
@@ -98,20 +98,26 @@ pub extern "C" fn margin_rollout(
     codes::put_rolled(rollout_call::rollouts(text, policy, store, leaves), numbers)
 }
 
-// The report of a match file: the number of positions, and of M and of N the number of decisions and the sum of their listed losses go to
-// `numbers`; each position's kind of root to `kinds`, and to `losses` its loss in thousandths of a point, -1 for no decision. Where the report is
-// refused, nothing is written.
+// The report of a match file by a scale: the number of positions, and of M and of N the number of decisions and the sum of their listed losses go
+// to `numbers`; each position's kind of root to `kinds`, to `losses` its loss in thousandths of a point, -1 for no decision, and to `marks` the
+// mark of its loss, 0 for no decision. Where the report is refused, nothing is written.
 #[no_mangle]
 pub extern "C" fn margin_report(
     file: &[u8],
+    scale: i64,
     kinds: &mut [u8],
     losses: &mut [i64],
+    marks: &mut [u8],
     numbers: &mut [i64],
 ) -> u64
-    ensures code { λ r. ⌜ r ≡ reportCode (reportCall (now (file .entry)) (length (now (kinds .entry))) (length (now (losses .entry)))) ⌝ }
-    ensures numbers { λ _. ⌜ now (numbers .exit) ≡ put 0 (reportNumbers (reportCall (now (file .entry)) (length (now (kinds .entry))) (length (now (losses .entry))))) (now (numbers .entry)) ⌝ }
-    ensures kinds { λ _. ⌜ now (kinds .exit) ≡ laid (reportKinds (now (file .entry)) (length (now (kinds .entry))) (length (now (losses .entry)))) (now (kinds .entry)) ⌝ }
-    ensures losses { λ _. ⌜ now (losses .exit) ≡ laid (reportLosses (now (file .entry)) (length (now (kinds .entry))) (length (now (losses .entry)))) (now (losses .entry)) ⌝ }
+    ensures code { λ r. ⌜ r ≡ reportCode (reportCall (now (file .entry)) scale (roomIn (now (kinds .entry)) (now (losses .entry)) (now (marks .entry)))) ⌝ }
+    ensures numbers { λ _. ⌜ now (numbers .exit) ≡ put 0 (reportNumbers (reportCall (now (file .entry)) scale (roomIn (now (kinds .entry)) (now (losses .entry)) (now (marks .entry))))) (now (numbers .entry)) ⌝ }
+    ensures kinds { λ _. ⌜ now (kinds .exit) ≡ laid (reportKinds (now (file .entry)) scale (roomIn (now (kinds .entry)) (now (losses .entry)) (now (marks .entry)))) (now (kinds .entry)) ⌝ }
+    ensures losses { λ _. ⌜ now (losses .exit) ≡ laid (reportLosses (now (file .entry)) scale (roomIn (now (kinds .entry)) (now (losses .entry)) (now (marks .entry)))) (now (losses .entry)) ⌝ }
+    ensures marks { λ _. ⌜ now (marks .exit) ≡ laid (reportMarks (now (file .entry)) scale (roomIn (now (kinds .entry)) (now (losses .entry)) (now (marks .entry)))) (now (marks .entry)) ⌝ }
 {
-    codes::put_reported(report_call::report(file, kinds, losses), numbers)
+    codes::put_reported(
+        report_call::report(file, scale, kinds, losses, marks),
+        numbers,
+    )
 }

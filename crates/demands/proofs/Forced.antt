@@ -126,9 +126,9 @@ still-named s t m room b side p root one e =
 -- ---- "The report's counts follow."
 
 pub counts-follow : CountsFollow
-counts-follow file kinds losses t e E =
-    let (m, ms, n, ns) = totals-summed file kinds losses t e in
-    let sums : (side : ℕ) → listedTotal side (λ x. 1) (reportKinds file kinds losses) (reportLosses file kinds losses) ≡ totalOf side (λ x. 1) (E .rows) =
+counts-follow file scale room t e E =
+    let (m, ms, n, ns) = totals-summed file scale room t e in
+    let sums : (side : ℕ) → listedTotal side (λ x. 1) (reportKinds file scale room) (reportLosses file scale room) ≡ totalOf side (λ x. 1) (E .rows) =
     λ side. ap₂ (listedTotal side (λ x. 1)) (E .in-kinds) (E .in-losses) ∙ totals-listed side (λ x. 1) (E .rows) in (
       m ∙ sums 1 ∙ decisions-are AtM file (E .rows) (E .alone),
       n ∙ sums 2 ∙ decisions-are AtN file (E .rows) (E .alone),

@@ -5,4 +5,5 @@ pub mod Rows
 pub mod Matches
 pub mod Forced
 pub mod Level
+pub mod Marks
 pub mod Worked

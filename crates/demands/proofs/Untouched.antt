@@ -22,8 +22,11 @@ use Rattle.search_call.specs.Call.{Sought, sought, searchAnswer, searchList}
 use Rattle.rollout_call.specs.declared.Record.{Record}
 use Rattle.rolled.specs.Call.{rolls, rollAnswer, rollList, rollRecords}
 use Rattle.rollout_call.specs.Records.{recorded}
-use Rattle.report.specs.Report.{Outcome, stopped, rows, matchOf, kindsIn, lossesIn}
-use Rattle.report_call.specs.Call.{fit, reportAnswer, filled}
+use Rattle.report.specs.Report.{Outcome, stopped, rows, kindsIn, lossesIn}
+use Rattle.mark.specs.declared.Choice
+use Rattle.mark.specs.declared.Choice.{Choice}
+use Rattle.mark.specs.Marks.{choiceOf}
+use Rattle.report_call.specs.Call.{roomIn, reported, reportAnswer, filled, marksBy}
 use Rattle.codes.specs.Numbers.{readCode, numbersOf, worthCode, worthNumbers, judgeCode, judgeNumbers, searchCode, searchNumbers, rollCode, rollNumbers, turnedCode, reportCode, reportNumbers, put}
 use Rattle.demands.specs.Untouched.{Refuses, CodesRefuse, ReportCodesRefuse, SlicesKept, ReadUntouched, SearchUntouched, TurnUntouched, RollUntouched, ReportUntouched, CReadUntouched, CWorthUntouched, CJudgeUntouched, CSearchUntouched, CTurnUntouched, CRollUntouched, CReportUntouched}
 
@@ -67,10 +70,12 @@ roll-code : (p : List ℕ) (v : Verdict Table) (list : List ℕ) (store : List R
 roll-code p (refused r) list store numbers c = (refl, refl, refl)
 roll-code p (fine t) list store numbers c = absurd (c refl)
 
-report-code : (o : Outcome) (kinds : List ℕ) (losses numbers : List ℤ) → Refuses (reportCode (reportAnswer o))
-    → (put 0 (reportNumbers (reportAnswer o)) numbers ≡ numbers) × ((laid (kindsIn (filled o)) kinds ≡ kinds) × (laid (lossesIn (filled o)) losses ≡ losses))
-report-code (stopped r k) kinds losses numbers c = (refl, (refl, refl))
-report-code (rows rs) kinds losses numbers c = absurd (c refl)
+report-code : (s : Choice) (o : Outcome) (kinds : List ℕ) (losses : List ℤ) (marks : List ℕ) (numbers : List ℤ) → Refuses (reportCode (reportAnswer o))
+    → (put 0 (reportNumbers (reportAnswer o)) numbers ≡ numbers)
+    × ((laid (kindsIn (filled o)) kinds ≡ kinds) × (laid (lossesIn (filled o)) losses ≡ losses) × (laid (marksBy s (filled o)) marks ≡ marks))
+report-code (Choice.the-variants.Refused q) (stopped r k) kinds losses marks numbers c = (refl, (refl, refl, refl))
+report-code (Choice.the-variants.Known s) (stopped r k) kinds losses marks numbers c = (refl, (refl, refl, refl))
+report-code s (rows rs) kinds losses marks numbers c = absurd (c refl)
 
 pub c-read-untouched : CReadUntouched
 c-read-untouched s numbers kind stop weight height c = read-code (readText s) numbers kind stop weight height c
@@ -91,7 +96,8 @@ pub c-roll-untouched : CRollUntouched
 c-roll-untouched s p list store numbers c = roll-code p (rolls (readText s) (length list) (length store)) list store numbers c
 
 pub c-report-untouched : CReportUntouched
-c-report-untouched file kinds losses numbers c = report-code (fit (length kinds) (length losses) (matchOf file)) kinds losses numbers c
+c-report-untouched file scale kinds losses marks numbers c =
+    report-code (choiceOf scale) (reported file scale (roomIn kinds losses marks)) kinds losses marks numbers c
 
 -- ---- by the answer: a refusal's number is not 0
 
@@ -111,4 +117,5 @@ roll-untouched s p list store r e =
     (k .1, k .2)
 
 pub report-untouched : ReportUntouched
-report-untouched file kinds losses r k e = c-report-untouched file kinds losses [] (λ z. report-codes-refuse r k (sym (ap reportCode e) ∙ z)) .1
+report-untouched file scale kinds losses marks r k e =
+    c-report-untouched file scale kinds losses marks [] (λ z. report-codes-refuse r k (sym (ap reportCode e) ∙ z)) .1

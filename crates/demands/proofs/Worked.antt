@@ -6,7 +6,7 @@ use lib.ListN.{take}
 use lib.IntN.{ℤ, pos, negsuc}
 use Rattle.field.specs.Field.{strip, digits, whole, signed}
 use Rattle.line.specs.Refusal.{unless, unlessAt}
-use Rattle.line.specs.declared.Refusal.the-variants.{NoRoom, NoChild, NoPosition}
+use Rattle.line.specs.declared.Refusal.the-variants.{NoRoom, NoChild, NoPosition, BadScale}
 use Rattle.line.specs.Line.{climb}
 use Rattle.table.specs.Tree.{run, after, forest, weigh, nodesWhere}
 use Rattle.table.specs.Examples.{max-root, chance, table-a, table-b, turned-b, lone-leaf, toss, forced-b}
@@ -21,7 +21,7 @@ use Rattle.judge.specs.Call.{judgeCall}
 use Rattle.report.specs.Report.{positionOf, matchFrom, totalOf}
 use Rattle.report_call.specs.declared.Reported.{Reported}
 use Rattle.report_call.specs.declared.Reported.the-variants.{Done, Refused}
-use Rattle.report_call.specs.Call.{reportCall, reportKinds, reportLosses}
+use Rattle.report_call.specs.Call.{reportCall, reportKinds, reportLosses, reportMarks}
 
 -- a position: the byte of a digit as the play number, and a table
 position : ℕ → List ℕ → List ℕ
@@ -53,27 +53,43 @@ match =
     position 50 table-a
     ++ (position 50 table-b ++ (position 50 turned-b ++ (position 50 thirds ++ (position 57 forced-b ++ (position 57 toss ++ position 48 lone-leaf)))))
 
--- the answer and both lists, for lists of so many entries
+-- the answer and the lists, by the scale of this number and for lists of so many entries
 record Answer : Type 0 where
   answer : Reported
   kinds : List ℕ
   losses : List ℤ
+  marks : List ℕ
 
-answered : List ℕ → ℕ → Answer
-answered file room = record { answer = reportCall file room room; kinds = reportKinds file room room; losses = reportLosses file room room }
+answered : List ℕ → ℤ → ℕ → Answer
+answered file scale room =
+    record {
+      answer = reportCall file scale room;
+      kinds = reportKinds file scale room;
+      losses = reportLosses file scale room;
+      marks = reportMarks file scale room;
+    }
 
 refusal : Reported → Answer
-refusal r = record { answer = r; kinds = []; losses = [] }
+refusal r = record { answer = r; kinds = []; losses = []; marks = [] }
 
--- an empty file; the match; the match with a list too short; a second position without such a child; the match cut short
-known : (answered [] 0 ∷ answered match 7 ∷ answered match 6 ∷ answered (position 50 table-b ++ position 51 table-b) 4 ∷ answered (take 270 match) 4 ∷ [])
-    ≡ record { answer = Done (record { positions = 0; max = record { decisions = 0; sum = 0 }; min = record { decisions = 0; sum = 0 } }); kinds = []; losses = [] }
+-- an empty file; the match; the match with a list too short; the same by a scale that there is none of, which is refused first; table B twice, the
+-- second time with a play that there is none of; the match cut short
+known : (answered [] (pos 1) 0
+    ∷ answered match (pos 1) 7
+    ∷ answered match (pos 2) 6
+    ∷ answered match (pos 3) 6
+    ∷ answered (position 50 table-b ++ position 51 table-b) (pos 2) 4
+    ∷ answered (take 270 match) (pos 1) 4
+    ∷ [])
+    ≡ record { answer = Done (record { positions = 0; max = record { decisions = 0; sum = 0 }; min = record { decisions = 0; sum = 0 } }); kinds = []; losses = []; marks = [] }
     ∷ record {
       answer = Done (record { positions = 7; max = record { decisions = 3; sum = 3166 }; min = record { decisions = 1; sum = 1500 } });
       kinds = 1 ∷ 1 ∷ 2 ∷ 1 ∷ 1 ∷ 3 ∷ 0 ∷ [];
       losses = pos 1000 ∷ pos 1500 ∷ pos 1500 ∷ pos 666 ∷ negsuc 0 ∷ negsuc 0 ∷ negsuc 0 ∷ [];
+      marks = 4 ∷ 4 ∷ 4 ∷ 4 ∷ 0 ∷ 0 ∷ 0 ∷ [];
     }
     ∷ refusal (Refused NoRoom 0)
+    ∷ refusal (Refused BadScale 0)
     ∷ refusal (Refused NoChild 2)
     ∷ refusal (Refused NoPosition 2)
     ∷ []
@@ -110,11 +126,31 @@ grain-off = grain-head ++ (max-root ++ (grain1 ++ (chance ++ (grain3 ++ (grain4 
 
 -- Document 02, Item 8: the play is not level, and "Losses in the report stay in thousandths", where it is listed with 0
 listed-not-level : (judgeCall (readText grain-off) (pos 1) ≡ Given (Loss 1 1))
-    × (answered (position 49 grain-off) 1
+    × (answered (position 49 grain-off) (pos 2) 1
     ≡ record {
       answer = Done (record { positions = 1; max = record { decisions = 1; sum = 0 }; min = record { decisions = 0; sum = 0 } });
       kinds = 1 ∷ [];
       losses = pos 0 ∷ [];
+      marks = 1 ∷ [];
     })
 unfolding position grain-head grain1 grain3 grain4 grain5 grain6 grain-off answered maxZ minZ floorZ largest smallest weighted total value shares levels strip digits whole signed unless unlessAt climb run after forest weigh nodesWhere nodeLines complete readText greatest positionOf matchFrom totalOf nodes
 listed-not-level = (refl, refl)
+
+-- "   5  36       0       1"
+chance-head : List ℕ
+chance-head = 32 ∷ 32 ∷ 32 ∷ 53 ∷ 32 ∷ 32 ∷ 51 ∷ 54 ∷ 32 ∷ 32 ∷ 32 ∷ 32 ∷ 32 ∷ 32 ∷ 32 ∷ 48 ∷ 32 ∷ 32 ∷ 32 ∷ 32 ∷ 32 ∷ 32 ∷ 32 ∷ 49 ∷ 10 ∷ []
+
+-- "   4 L    2    1       1"
+chance4 : List ℕ
+chance4 = 32 ∷ 32 ∷ 32 ∷ 52 ∷ 32 ∷ 76 ∷ 32 ∷ 32 ∷ 32 ∷ 32 ∷ 50 ∷ 32 ∷ 32 ∷ 32 ∷ 32 ∷ 49 ∷ 32 ∷ 32 ∷ 32 ∷ 32 ∷ 32 ∷ 32 ∷ 32 ∷ 49 ∷ 10 ∷ []
+
+-- play 2 is one chance in 36 of a point, and play 1 loses it
+one-chance : List ℕ
+one-chance = chance-head ++ (max-root ++ (grain1 ++ (chance ++ (grain3 ++ chance4))))
+
+-- Document 02, Item 11: a loss of 27 thousandths is listed with "no mark" by scale 1 and is doubtful by scale 2, and no decision has none
+marked : (reportMarks (position 49 one-chance ++ position 57 toss) (pos 1) 2 ≡ 1 ∷ 0 ∷ [])
+    × (reportMarks (position 49 one-chance ++ position 57 toss) (pos 2) 2 ≡ 2 ∷ 0 ∷ [])
+    × (reportLosses (position 49 one-chance ++ position 57 toss) (pos 2) 2 ≡ pos 27 ∷ negsuc 0 ∷ [])
+unfolding position chance-head chance4 one-chance grain1 grain3 maxZ minZ floorZ largest smallest weighted total value shares levels strip digits whole signed unless unlessAt climb run after forest weigh nodesWhere nodeLines complete readText greatest positionOf matchFrom totalOf nodes
+marked = (refl, refl, refl)

@@ -67,5 +67,5 @@ StillNamed =
 -- (Matches.EntriesAlone)
 abbrev pub CountsFollow : Type 0
 CountsFollow =
-    (file : List ℕ) (kinds losses : ℕ) (t : Totals) → reportCall file kinds losses ≡ Done t → (E : Entries file kinds losses t)
+    (file : List ℕ) (scale : ℤ) (room : ℕ) (t : Totals) → reportCall file scale room ≡ Done t → (E : Entries file scale room t)
     → (t .max .decisions ≡ decisionsIn 1 (tablesOf file (E .rows) (E .alone))) × (t .min .decisions ≡ decisionsIn 2 (tablesOf file (E .rows) (E .alone)))

@@ -4,3 +4,4 @@ pub mod Rows
 pub mod Matches
 pub mod Forced
 pub mod Level
+pub mod Marks

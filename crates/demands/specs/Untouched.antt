@@ -21,7 +21,7 @@ use Rattle.rolled.specs.declared.Rolled
 use Rattle.rolled.specs.Call.{rollCall, rollReads, rollStore}
 use Rattle.rollout_call.specs.Records.{recorded}
 use Rattle.report_call.specs.declared.Reported
-use Rattle.report_call.specs.Call.{reportCall, reportKinds, reportLosses}
+use Rattle.report_call.specs.Call.{roomIn, reportCall, reportKinds, reportLosses, reportMarks}
 use Rattle.codes.specs.Numbers.{readCode, numbersOf, worthCode, worthNumbers, judgeCode, judgeNumbers, searchCode, searchNumbers, rollCode, rollNumbers, turnedCode, reportCode, reportNumbers, put}
 
 -- ---- the calls of Rattle; the exact worth and the judgement are lent nothing but the text
@@ -55,15 +55,16 @@ RollUntouched =
     → (laid (rollReads (readText s) p (length list) (length store)) list ≡ list)
     × (recorded (rollStore (readText s) p (length list) (length store)) store ≡ store)
 
--- the two lists of a match report (document 02, Item 1)
-abbrev pub ListsKept : List ℕ → List ℕ → List ℤ → Type 0
-ListsKept file kinds losses =
-    (laid (reportKinds file (length kinds) (length losses)) kinds ≡ kinds) × (laid (reportLosses file (length kinds) (length losses)) losses ≡ losses)
+-- the three lists of a match report (document 02, Items 1 and 11)
+abbrev pub ListsKept : (file : List ℕ) (scale : ℤ) (kinds : List ℕ) (losses : List ℤ) (marks : List ℕ) → Type 0
+ListsKept file scale kinds losses marks =
+    let room = roomIn kinds losses marks in
+    (laid (reportKinds file scale room) kinds ≡ kinds) × (laid (reportLosses file scale room) losses ≡ losses) × (laid (reportMarks file scale room) marks ≡ marks)
 
 abbrev pub ReportUntouched : Type 0
 ReportUntouched =
-    (file kinds : List ℕ) (losses : List ℤ) (r : Refusal) (k : ℕ) → reportCall file (length kinds) (length losses) ≡ Reported.the-variants.Refused r k
-    → ListsKept file kinds losses
+    (file : List ℕ) (scale : ℤ) (kinds : List ℕ) (losses : List ℤ) (marks : List ℕ) (r : Refusal) (k : ℕ)
+    → reportCall file scale (roomIn kinds losses marks) ≡ Reported.the-variants.Refused r k → ListsKept file scale kinds losses marks
 
 -- ---- the calls of the C interface, where the number that is returned is not 0
 
@@ -113,5 +114,6 @@ CRollUntouched =
 
 abbrev pub CReportUntouched : Type 0
 CReportUntouched =
-    (file kinds : List ℕ) (losses numbers : List ℤ) → Refuses (reportCode (reportCall file (length kinds) (length losses)))
-    → (put 0 (reportNumbers (reportCall file (length kinds) (length losses))) numbers ≡ numbers) × ListsKept file kinds losses
+    (file : List ℕ) (scale : ℤ) (kinds : List ℕ) (losses : List ℤ) (marks : List ℕ) (numbers : List ℤ)
+    → Refuses (reportCode (reportCall file scale (roomIn kinds losses marks)))
+    → (put 0 (reportNumbers (reportCall file scale (roomIn kinds losses marks))) numbers ≡ numbers) × ListsKept file scale kinds losses marks

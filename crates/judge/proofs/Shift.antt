@@ -23,7 +23,7 @@ abbrev pub mapped : {A B : Type 0} → (A → B) → Option A → Option B
 mapped f none = none
 mapped f (some x) = some (f x)
 
-entry-map : {A B : Type 0} (f : A → B) (xs : List A) (k : ℕ) → getElem? (map f xs) k ≡ mapped f (getElem? xs k)
+pub entry-map : {A B : Type 0} (f : A → B) (xs : List A) (k : ℕ) → getElem? (map f xs) k ≡ mapped f (getElem? xs k)
 entry-map f [] k = refl
 entry-map f (x ∷ xs) zero = refl
 entry-map f (x ∷ xs) (suc k) = entry-map f xs k
