@@ -1,12 +1,13 @@
-/* Calls every function of the header on document 01's tables A and B, on a forced play and on level plays, and says where an answer is not
- * as it should be: calls B A FORCED LEVEL, the files of all four. What it expects is printed in document 01, or read off the tables. */
+/* Calls every function of the header on document 01's tables A and B, on a forced play, on level plays and on a match, and says where an answer
+ * is not as it should be: calls B A FORCED LEVEL MATCH, the files of all five. What it expects is printed in document 01, or read off the
+ * tables. */
 #include <stdio.h>
 #include <string.h>
 
 #include "margin_engine.h"
 
-static uint8_t b[MARGIN_MOST_BYTES], a[MARGIN_MOST_BYTES], forced[MARGIN_MOST_BYTES], level[MARGIN_MOST_BYTES];
-static size_t b_len, a_len, forced_len, level_len;
+static uint8_t b[MARGIN_MOST_BYTES], a[MARGIN_MOST_BYTES], forced[MARGIN_MOST_BYTES], level[MARGIN_MOST_BYTES], match[MARGIN_MOST_BYTES];
+static size_t b_len, a_len, forced_len, level_len, match_len;
 static int bad;
 
 #define SAME(count, got, ...) same(__LINE__, count, sizeof (got)[0], (got), (const int64_t[]){__VA_ARGS__})
@@ -130,43 +131,43 @@ static void rollouts(void) {
     SAME(4, leaves, 6, 2, 3, 5);
 }
 
-/* Play 2 of B, at an M root, and play 1 of B turned, at an N root. */
+/* A match of seven positions, the last of them a C; play 1 of the second becomes play 3, which there is none of, and play 1 again. */
 static void report(void) {
-    static uint8_t match[2 * (5 + MARGIN_MOST_BYTES)];
-    const size_t half = 5 + b_len;
-    int64_t numbers[6], losses[3];
-    uint8_t kinds[3];
-    memcpy(match, "   2\n", 5);
-    memcpy(match + 5, b, b_len);
-    memcpy(match + half, "   1\n", 5);
-    returned("margin_turn for the match", margin_turn(b, b_len, match + half + 5, b_len), 0);
+    const size_t second = 5 + 25 * 6; /* after a play number, a header and five nodes */
+    int64_t numbers[6], losses[8];
+    uint8_t kinds[8], marks[8];
     memset(numbers, 0xff, sizeof numbers);
     memset(kinds, 0xff, sizeof kinds);
-    memset(losses, 0xfe, sizeof losses);
-    returned("margin_report in a short list", margin_report(match, 2 * half, kinds, 3, losses, 1, numbers, 6), 11);
-    match[half + 3] = '3';
-    const uint64_t code = margin_report(match, 2 * half, kinds, 3, losses, 3, numbers, 6);
+    memset(losses, 0xff, sizeof losses);
+    memset(marks, 0xff, sizeof marks);
+    returned("margin_report by scale 3", margin_report(match, match_len, 3, kinds, 8, losses, 0, marks, 8, numbers, 6), 20);
+    returned("margin_report in a short list", margin_report(match, match_len, 1, kinds, 8, losses, 6, marks, 8, numbers, 6), 11);
+    returned("margin_report with too few marks", margin_report(match, match_len, 1, kinds, 8, losses, 8, marks, 6, numbers, 6), 11);
+    match[second + 3] = '3';
+    const uint64_t code = margin_report(match, match_len, 2, kinds, 8, losses, 8, marks, 8, numbers, 6);
     returned("margin_report of no child", code, 2000014);
     returned("its number", MARGIN_NUMBER(code), 14);
     returned("its line", MARGIN_LINE(code), 0);
     returned("its position", MARGIN_POSITION(code), 2);
     SAME(0, numbers, 0);
     SAME(0, kinds, 0);
-    match[half + 3] = '1';
-    returned("margin_report", margin_report(match, 2 * half, kinds, 3, losses, 3, numbers, 6), 0);
-    SAME(5, numbers, 2, 1, 1500, 1, 0);
-    SAME(2, kinds, 1, 2);
-    const int64_t untouched = -0x0101010101010102;
-    if (losses[0] != 1500 || losses[1] != 0 || losses[2] != untouched) {
-        printf("calls.c: the losses are not 1500 and 0, or the entry after them was written\n");
-        bad = 1;
-    }
+    SAME(0, losses, 0);
+    SAME(0, marks, 0);
+    match[second + 3] = '1';
+    losses[6] = 0; /* so that the -1 of no decision is seen to be written */
+    returned("margin_report by scale 1", margin_report(match, match_len, 1, kinds, 8, losses, 8, marks, 8, numbers, 6), 0);
+    SAME(5, numbers, 7, 4, 165, 2, 277);
+    SAME(7, kinds, 1, 1, 1, 2, 1, 2, 3);
+    SAME(7, losses, 0, 27, 55, 111, 83, 166, -1);
+    SAME(7, marks, 1, 1, 2, 3, 3, 4, 0);
+    returned("margin_report by scale 2", margin_report(match, match_len, 2, kinds, 8, losses, 8, marks, 8, numbers, 6), 0);
+    SAME(7, marks, 1, 2, 3, 4, 3, 4, 0);
 }
 
 int main(int argc, char **argv) {
-    if (argc != 5 || (b_len = load(argv[1], b)) == 0 || (a_len = load(argv[2], a)) == 0 || (forced_len = load(argv[3], forced)) == 0 ||
-        (level_len = load(argv[4], level)) == 0) {
-        fprintf(stderr, "usage: calls B A FORCED LEVEL\n");
+    if (argc != 6 || (b_len = load(argv[1], b)) == 0 || (a_len = load(argv[2], a)) == 0 || (forced_len = load(argv[3], forced)) == 0 ||
+        (level_len = load(argv[4], level)) == 0 || (match_len = load(argv[5], match)) == 0) {
+        fprintf(stderr, "usage: calls B A FORCED LEVEL MATCH\n");
         return 2;
     }
     reading();

@@ -9,7 +9,7 @@
  *
  * margin_report, which takes a match, adds 1000000 * position to it: 2000309 is the same in the second position.
  *
- * docs/REFUSALS.md says what each number means. The header is line 0 and node i is line i + 1; refusals 1 and 11 to 16 have line 0.
+ * docs/REFUSALS.md says what each number means. The header is line 0 and node i is line i + 1; refusals 1 and those from 11 on have line 0.
  *
  * A pointer is followed by its length: the number of entries that it points to, not of bytes. Each pointer must be valid for that many
  * entries and not null, also where the length is 0; the areas that a call may write (pointers without const) must lie apart from each
@@ -115,16 +115,20 @@ uint64_t margin_rollout(const uint8_t *text, size_t text_len, const uint8_t *pol
 
 /*
  * The report on a match file: positions one after another, each a play number in 4 columns and a newline, and then a table as long as its
- * header's count says. Each play is judged as by margin_judge. Refuses with the position's number, from 1: 15 where a position begins after
- * 500, 16 where a play-number line is ill-written or the file ends in a position, 2 to 10 for its table, 14 as margin_judge does. At the end
- * 11, with position 0, where `kinds` or `losses` has fewer entries than there are positions.
+ * header's count says. Each play is judged as by margin_judge, and its loss is marked by the scale of this number, 1 or 2. Refuses 20, with
+ * position 0, for any other scale, before all else. Then with the position's number, from 1: 15 where a position begins after 500, 16 where a
+ * play-number line is ill-written or the file ends in a position, 2 to 10 for its table, 14 as margin_judge does. At the end 11, with position
+ * 0, where `kinds`, `losses` or `marks` has fewer entries than there are positions.
  *
  * kinds: for each position the kind of its root, as in margin_read.
  * losses: for each position its loss in thousandths of a point, rounded down; -1 where there is no decision, as by margin_judge.
+ * marks: for each position 0 where there is no decision, else the mark of its loss: 1 no mark, 2 doubtful, 3 an error, 4 a blunder. By scale
+ * 1, that of books in print, a loss is doubtful from 40 thousandths on, an error from 80, a blunder from 160; by scale 2, that of new books,
+ * from 20, 50 and 100.
  * numbers (5): the number of positions, the number of decisions at M, the sum of their losses as listed, the same two at N.
  */
-uint64_t margin_report(const uint8_t *file, size_t file_len, uint8_t *kinds, size_t kinds_len, int64_t *losses, size_t losses_len,
-                       int64_t *numbers, size_t numbers_len);
+uint64_t margin_report(const uint8_t *file, size_t file_len, int64_t scale, uint8_t *kinds, size_t kinds_len, int64_t *losses,
+                       size_t losses_len, uint8_t *marks, size_t marks_len, int64_t *numbers, size_t numbers_len);
 
 #ifdef __cplusplus
 }

@@ -27,8 +27,8 @@
 //! Worths, bounds, losses and margins are whole numbers of grains, of which
 //! `per_point` make one point; [`points`] writes them in points. [`report`] takes a
 //! match, many tables with the play made in each, and has losses in thousandths of a
-//! point. The README says how to write a table and a match, and which ends and margin
-//! to choose.
+//! point, with the mark that a book prints beside each. The README says how to write a
+//! table and a match, and which ends and margin to choose.
 
 mod judge;
 mod points;
@@ -45,7 +45,7 @@ pub use judge::{Judgement, judge};
 pub use points::points;
 pub use raw::Record;
 pub use refusal::Refusal;
-pub use report::{Loss, Position, Report, Tally, places, report};
+pub use report::{Loss, Mark, Position, Report, Tally, places, report};
 pub use rollout::{Rolled, rollout};
 pub use search::{Found, Play, search};
 pub use table::{Kind, Node, Table, read};

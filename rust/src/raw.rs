@@ -93,10 +93,13 @@ mod abi {
         pub fn margin_report(
             file: *const u8,
             file_len: usize,
+            scale: i64,
             kinds: *mut u8,
             kinds_len: usize,
             losses: *mut i64,
             losses_len: usize,
+            marks: *mut u8,
+            marks_len: usize,
             numbers: *mut i64,
             numbers_len: usize,
         ) -> u64;
@@ -208,19 +211,31 @@ pub fn rollout(
     }
 }
 
-/// Reports on a match file. `kinds` and `losses` have an entry for each position:
-/// the kind of its root, as in [`read`], and the loss in thousandths of a point, -1
-/// for no decision. `numbers`: the number of positions, the decisions and the
-/// sum of the losses at M, then at N.
-pub fn report(file: &[u8], kinds: &mut [u8], losses: &mut [i64], numbers: &mut [i64]) -> u64 {
+/// Reports on a match file, with the marks of the scale of this number, 1 or 2.
+/// `kinds`, `losses` and `marks` have an entry for each position: the kind of its
+/// root, as in [`read`]; the loss in thousandths of a point, -1 for no decision; and
+/// 0 for no decision, 1 for no mark, 2 for doubtful, 3 for an error, 4 for a blunder.
+/// `numbers`: the number of positions, the decisions and the sum of the losses at M,
+/// then at N.
+pub fn report(
+    file: &[u8],
+    scale: i64,
+    kinds: &mut [u8],
+    losses: &mut [i64],
+    marks: &mut [u8],
+    numbers: &mut [i64],
+) -> u64 {
     unsafe {
         abi::margin_report(
             file.as_ptr(),
             file.len(),
+            scale,
             kinds.as_mut_ptr(),
             kinds.len(),
             losses.as_mut_ptr(),
             losses.len(),
+            marks.as_mut_ptr(),
+            marks.len(),
             numbers.as_mut_ptr(),
             numbers.len(),
         )

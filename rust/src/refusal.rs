@@ -13,10 +13,10 @@ use std::fmt;
 #[derive(Clone, Copy, Debug, PartialEq, Eq)]
 #[non_exhaustive]
 pub struct Refusal {
-    /// Which refusal, from 1 to 16. `docs/REFUSALS.md` says all of each.
+    /// Which refusal, from 1 to 16, or 20. `docs/REFUSALS.md` says all of each.
     pub number: u8,
     /// The line at fault: the header is line 0, and node i is line i + 1. It is 0
-    /// for a refusal that no line is to blame for: 1 and 11 to 16.
+    /// for a refusal that no line is to blame for: 1 and those from 11 on.
     pub line: usize,
     /// The position of a match file at fault, from 1; 0 where there is none.
     pub position: usize,
@@ -121,6 +121,10 @@ impl Refusal {
                 "the play-number line is ill-written, or the file ends in this position",
                 "write the play number right-justified in 4 columns and a newline, then all lines of its table",
             ),
+            20 => (
+                "there is no marking scale of that number",
+                "give 1, the scale of books in print, or 2, that of new books",
+            ),
             _ => ("the engine gave no known number", "report this"),
         }
     }
@@ -167,6 +171,7 @@ mod tests {
             (1_000_016, 16, 0, 1),
             (501_000_015, 15, 0, 501),
             (500_102_403, 3, 1_024, 500),
+            (20, 20, 0, 0),
         ] {
             let refusal = answered(code).expect_err("refused");
             let taken = (refusal.number, refusal.line, refusal.position);

@@ -1,5 +1,6 @@
 //! The report on a match.
 
+use std::fmt;
 use std::ops::Range;
 
 use crate::refusal::{Refusal, answered};
@@ -18,9 +19,9 @@ pub struct Report {
     pub min: Tally,
 }
 
-/// A position of a match and the play that was made there. The engine tells its kind
-/// and the loss, which are proved; the play number and the place are read from the
-/// accepted file by this package.
+/// A position of a match and the play that was made there. The engine tells its kind,
+/// the loss and the mark, which are proved; the play number and the place are read from
+/// the accepted file by this package.
 #[derive(Clone, Debug, PartialEq, Eq)]
 #[non_exhaustive]
 pub struct Position {
@@ -31,6 +32,8 @@ pub struct Position {
     pub play: i64,
     /// What the play loses.
     pub loss: Loss,
+    /// The mark of the loss; none where there is no decision.
+    pub mark: Option<Mark>,
     /// Its bytes in the file: a play-number line of [`PLAY_LINE`] bytes, then the table.
     pub place: Range<usize>,
 }
@@ -45,6 +48,43 @@ pub enum Loss {
     NoDecision,
 }
 
+/// What a book prints beside a loss, from the mildest on.
+#[derive(Clone, Copy, Debug, PartialEq, Eq, PartialOrd, Ord)]
+pub enum Mark {
+    /// The loss is below the scale's first step.
+    NoMark,
+    /// It is from the first step on.
+    Doubtful,
+    /// It is from the second step on.
+    Error,
+    /// It is from the third step on.
+    Blunder,
+}
+
+impl Mark {
+    /// The mark that the engine writes as this number, 0 for none.
+    fn of(number: u8) -> Option<Mark> {
+        match number {
+            0 => None,
+            1 => Some(Mark::NoMark),
+            2 => Some(Mark::Doubtful),
+            3 => Some(Mark::Error),
+            _ => Some(Mark::Blunder),
+        }
+    }
+}
+
+impl fmt::Display for Mark {
+    fn fmt(&self, f: &mut fmt::Formatter) -> fmt::Result {
+        f.write_str(match self {
+            Mark::NoMark => "no mark",
+            Mark::Doubtful => "doubtful",
+            Mark::Error => "error",
+            Mark::Blunder => "blunder",
+        })
+    }
+}
+
 /// The decisions of one side.
 #[derive(Clone, Copy, Debug, Default, PartialEq, Eq)]
 #[non_exhaustive]
@@ -56,37 +96,55 @@ pub struct Tally {
 }
 
 /// Reports on a match file: positions one after another, each a play number in 4
-/// columns and a newline, and then a table. Refuses 2 to 10 and 14 to 16, with the
-/// position at fault.
+/// columns and a newline, and then a table. The losses are marked by the scale of this
+/// number: from 40 thousandths of a point doubtful, from 80 an error and from 160 a
+/// blunder in scale 1, that of books in print; from 20, 50 and 100 in scale 2, that of
+/// new books. Refuses any other scale, 20, and then 2 to 10 and 14 to 16, with the
+/// position at fault. The points are the table's, so that a mark is the book's where
+/// these are.
 ///
 /// ```
-/// use margin_engine::{Kind, Loss, report};
+/// use margin_engine::{Kind, Loss, Mark, report};
 ///
-/// let file = std::fs::read("../examples/match.txt")?;
-/// let report = report(&file)?;
-/// assert_eq!(report.positions.len(), 5);
+/// let file = std::fs::read("../examples/marks.txt")?;
+/// let (printed, new) = (report(&file, 1)?, report(&file, 2)?);
+/// assert_eq!(printed.positions.len(), 7);
 ///
-/// let third = &report.positions[2];
-/// assert_eq!((third.kind, third.play), (Kind::Min, 5));
-/// assert_eq!(third.loss, Loss::Thousandths(41_722)); // 41.722 points
-/// // MIN made another decision, which lost nothing.
-/// assert_eq!((report.min.decisions, report.min.thousandths), (2, 41_722));
+/// let (before, now) = (&printed.positions[2], &new.positions[2]);
+/// assert_eq!((now.kind, now.play), (Kind::Max, 1));
+/// assert_eq!(now.loss, Loss::Thousandths(55)); // 0.055 points
+/// assert_eq!((before.mark, now.mark), (Some(Mark::Doubtful), Some(Mark::Error)));
+/// // Nobody chooses at a C.
+/// assert_eq!((new.positions[6].kind, new.positions[6].mark), (Kind::Chance, None));
+///
+/// assert_eq!((new.min.decisions, new.min.thousandths), (2, 277));
+/// assert_eq!(report(&file, 3).unwrap_err().number, 20);
 /// # Ok::<(), Box<dyn std::error::Error>>(())
 /// ```
-pub fn report(file: &[u8]) -> Result<Report, Refusal> {
+pub fn report(file: &[u8], scale: i64) -> Result<Report, Refusal> {
     let mut kinds = [0; MOST_POSITIONS];
     let mut losses = [0; MOST_POSITIONS];
+    let mut marks = [0; MOST_POSITIONS];
     let mut numbers = [0; 5];
-    answered(raw::report(file, &mut kinds, &mut losses, &mut numbers))?;
+    answered(raw::report(
+        file,
+        scale,
+        &mut kinds,
+        &mut losses,
+        &mut marks,
+        &mut numbers,
+    ))?;
     let [count, max, max_sum, min, min_sum] = numbers;
-    let listed = places(file).zip(kinds).zip(losses).take(count as usize);
-    let positions = listed.map(|((place, kind), loss)| Position {
+    let listed = kinds.into_iter().zip(losses).zip(marks);
+    let listed = places(file).zip(listed).take(count as usize);
+    let positions = listed.map(|(place, ((kind, loss), mark))| Position {
         kind: Kind::of(kind),
         play: number(&file[place.start..][..PLAY_LINE - 1]).expect("an accepted play number"),
         loss: match loss {
             ..0 => Loss::NoDecision,
             _ => Loss::Thousandths(loss),
         },
+        mark: Mark::of(mark),
         place,
     });
     Ok(Report {

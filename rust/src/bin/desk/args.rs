@@ -24,8 +24,13 @@ pub enum Task {
         source: Source,
         tsv: bool,
     },
-    /// A report on each of these, of which there is at least one.
-    Matches { sources: Vec<Source>, tsv: bool },
+    /// A report on each of these, of which there is at least one, with the marks of
+    /// this scale.
+    Matches {
+        sources: Vec<Source>,
+        scale: Number,
+        tsv: bool,
+    },
 }
 
 /// A command line that asks nothing, and the verb that it names, if it does.
@@ -134,7 +139,7 @@ impl Words {
     }
 
     /// The task to report on matches. What is left of the words is their files.
-    pub fn about_matches(self) -> Result<Task, String> {
+    pub fn about_matches(self, scale: Number) -> Result<Task, String> {
         let inputs = self.plain.iter().filter(|word| *word == "-");
         if inputs.count() > 1 {
             return Err("- stands twice, and standard input can be read once".to_string());
@@ -145,6 +150,7 @@ impl Words {
         }
         Ok(Task::Matches {
             sources,
+            scale,
             tsv: self.tsv,
         })
     }
@@ -152,8 +158,7 @@ impl Words {
     /// The next word as a whole number, which its verb calls by this name.
     pub fn number(&mut self, name: &str) -> Result<Number, String> {
         let word = self.next(name)?;
-        let number = word.to_str().and_then(Number::parse);
-        number.ok_or_else(|| format!("{} is no whole number", quoted(&word)))
+        number(&word)
     }
 
     /// The next word as a margin.
@@ -162,12 +167,21 @@ impl Words {
         margin(&word)
     }
 
-    /// The margin after this option, if it was given; the last, where it was given
-    /// more than once.
+    /// The margin after this option, if it was given.
     pub fn margin_after(&self, option: &str) -> Result<Option<Margin>, String> {
+        self.after(option).map(margin).transpose()
+    }
+
+    /// The whole number after this option, if it was given.
+    pub fn number_after(&self, option: &str) -> Result<Option<Number>, String> {
+        self.after(option).map(number).transpose()
+    }
+
+    /// What stands after this option; the last, where it was given more than once.
+    fn after(&self, option: &str) -> Option<&OsStr> {
         let mut options = self.options.iter().rev();
         let given = options.find(|(name, _)| *name == option);
-        given.map(|(_, word)| margin(word)).transpose()
+        given.map(|(_, word)| word.as_os_str())
     }
 
     /// The next word as a list of bytes, if it is made of digits and commas. Any
@@ -218,6 +232,11 @@ fn option(
 fn is_option(word: &str) -> bool {
     let after = word.strip_prefix('-').unwrap_or_default();
     after.starts_with(|c: char| !c.is_ascii_digit() && c != '.')
+}
+
+fn number(word: &OsStr) -> Result<Number, String> {
+    let number = word.to_str().and_then(Number::parse);
+    number.ok_or_else(|| format!("{} is no whole number", quoted(word)))
 }
 
 fn margin(word: &OsStr) -> Result<Margin, String> {

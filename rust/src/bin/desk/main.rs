@@ -47,7 +47,11 @@ fn main() -> ExitCode {
             source,
             tsv,
         }) => answer(question.as_ref(), &source, tsv),
-        Asked::Task(Task::Matches { sources, tsv }) => report::run(&sources, tsv),
+        Asked::Task(Task::Matches {
+            sources,
+            scale,
+            tsv,
+        }) => report::run(&sources, &scale, tsv),
     }
 }
 
@@ -67,7 +71,7 @@ fn answer(question: &dyn Question, source: &Source, tsv: bool) -> ExitCode {
             if tsv {
                 return print(refused.tsv().as_bytes(), REFUSED);
             }
-            complain(&refused.people(source));
+            complain(&refused.people(Some(source)));
             ExitCode::from(REFUSED)
         }
     }

@@ -9,11 +9,18 @@ pub struct Number {
 
 impl Number {
     /// Reads a whole number, with a minus or without. One past the range of an i64
-    /// counts as its end, which is no number of a child either.
+    /// counts as its end, which is no number of a child or a scale either.
     pub fn parse(word: &str) -> Option<Number> {
         let value = whole_number(word)?;
         let word = word.to_string();
         Some(Number { value, word })
+    }
+}
+
+impl From<i64> for Number {
+    fn from(value: i64) -> Number {
+        let word = value.to_string();
+        Number { value, word }
     }
 }
 

@@ -42,6 +42,19 @@ impl Refused {
         }
     }
 
+    /// What was asked is refused, whatever the files are; `detail` says what it was.
+    pub fn given(refusal: Refusal, detail: String) -> Refused {
+        let spot = Spot {
+            detail,
+            ..Spot::default()
+        };
+        Refused {
+            refusal,
+            spot,
+            begins: None,
+        }
+    }
+
     fn reason(&self) -> String {
         let reason = self.spot.reason.unwrap_or(self.refusal.reason());
         match self.spot.detail.as_str() {
@@ -62,8 +75,8 @@ impl Refused {
         self.begins.map(|begins| begins + below)
     }
 
-    /// For people, about a file from there.
-    pub fn people(&self, source: &Source) -> String {
+    /// For people, about a file from there if one is refused.
+    pub fn people(&self, source: Option<&Source>) -> String {
         let Refusal { number, line, .. } = self.refusal;
         let position = self.line_of_file().map(|line| {
             let position = self.refusal.position;
@@ -75,7 +88,8 @@ impl Refused {
             0 => " at line 0 (the header)".to_string(),
             _ => format!(" at line {line} (node {}; the header is line 0)", line - 1),
         };
-        let mut text = format!("desk: {source}: {position}refused {number}{place}\n");
+        let source = source.map_or(String::new(), |source| format!("{source}: "));
+        let mut text = format!("desk: {source}{position}refused {number}{place}\n");
         if let Some(line) = &self.spot.line {
             text += &format!("  |{}|\n", printable(&line.bytes));
             text += &self.marks();

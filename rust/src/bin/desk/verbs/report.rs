@@ -1,38 +1,67 @@
-//! `report`: what the plays of a match lose.
+//! `report`: what the plays of a match lose, and how a book marks them.
 
-use std::fmt::Display;
+use std::fmt::{self, Display};
 use std::process::ExitCode;
 
-use margin_engine::{Loss, Position, Report, Tally, points, report};
+use margin_engine::{Kind, Loss, Mark, Position, Report, Tally, points, report};
 
 use super::{Answer, Verb, formed};
 use crate::grid::{Cell, Row, lay};
 use crate::input::{MATCH, Source};
-use crate::output::{Page, Sheet, Stop, complain, write};
+use crate::margin::Number;
+use crate::output::{Page, Sheet, Stop, complain, print, write};
 use crate::progress::Progress;
 use crate::refused::Refused;
 use crate::{ANSWERED, FAILED, REFUSED};
 
+/// The option that names the marking scale.
+const SCALE: &str = "--scale";
+
+/// The scale of new books, which is used where none is named.
+const NEW_BOOKS: i64 = 2;
+
 pub const VERB: Verb = Verb {
     name: "report",
     arguments: "",
-    options: &[],
+    options: &[(SCALE, "1|2")],
     files: &MATCH,
-    does: "lists what each play of a match loses",
-    more: &["\
+    does: "lists what each play of a match loses, and its mark",
+    more: &[
+        "\
 A match is positions one after another: each a play number in 4 columns and a
 newline, then a table. A position's loss is in points, rounded down to a
 thousandth; `no decision` is a C or L root, or one with a single play, which is
 forced. At the end, for MAX (M) and MIN (N): how many decisions, the sum of the
-listed losses, and the average. Several files each get their own, and at the end
-one line over all.
-"],
-    ask: |words| words.about_matches(),
+listed losses, the average, and how many of each mark. Several files each get
+their own, and at the end come the same over all.
+",
+        "\
+A mark goes by the listed loss and the marking scale. Give --scale 1 for a book in
+print; scale 2 is that of new books, and used where none is given.
+  scale 1  doubtful from 0.040 points, error from 0.080, blunder from 0.160
+  scale 2  doubtful from 0.020 points, error from 0.050, blunder from 0.100
+These are points of the table. Where it has smaller ones than the book, as
+thousandths of a point of equity, the marks are not the book's.
+",
+    ],
+    ask: |words| {
+        let scale = words.number_after(SCALE)?;
+        words.about_matches(scale.unwrap_or_else(|| Number::from(NEW_BOOKS)))
+    },
 };
 
-/// Reports on these files, one after another.
-pub fn run(sources: &[Source], tsv: bool) -> ExitCode {
-    let mut run = Run::over(sources.len(), tsv);
+/// Reports on these files, one after another, with the marks of this scale.
+pub fn run(sources: &[Source], scale: &Number, tsv: bool) -> ExitCode {
+    // The engine refuses a scale before it looks at a file, so it is asked once.
+    if let Err(refusal) = report(&[], scale.value) {
+        let refused = Refused::given(refusal, format!("{} was given", scale.word));
+        if tsv {
+            return print(refused.tsv().as_bytes(), REFUSED);
+        }
+        complain(&refused.people(None));
+        return ExitCode::from(REFUSED);
+    }
+    let mut run = Run::over(sources.len(), scale.value, tsv);
     let mut files = (1..).zip(sources);
     let ran = files.try_for_each(|(number, source)| run.file(number, source));
     let ran = ran.and_then(|()| run.end());
@@ -43,6 +72,7 @@ pub fn run(sources: &[Source], tsv: bool) -> ExitCode {
 /// A run over several files, or over one.
 struct Run {
     files: usize,
+    scale: i64,
     tsv: bool,
     progress: Progress,
     /// The exit status so far, the greatest of the files'.
@@ -56,15 +86,19 @@ struct Run {
 }
 
 impl Run {
-    fn over(files: usize, tsv: bool) -> Run {
+    fn over(files: usize, scale: i64, tsv: bool) -> Run {
         Run {
             files,
+            scale,
             tsv,
             progress: Progress::over(files),
             status: ANSWERED,
             refused: 0,
             unread: 0,
-            all: All::default(),
+            all: All {
+                scale,
+                ..All::default()
+            },
         }
     }
 
@@ -82,7 +116,7 @@ impl Run {
                 return Ok(());
             }
         };
-        match report(&file) {
+        match report(&file, self.scale) {
             Ok(report) => self.answered(source, report),
             Err(refusal) => self.refused(source, &Refused::in_match(refusal, &file)),
         }
@@ -90,12 +124,13 @@ impl Run {
 
     fn answered(&mut self, source: &Source, report: Report) -> Result<(), Stop> {
         let first = self.all.files == 0;
-        self.all.add(&report);
         let part = Part {
             source,
             named: self.files > 1,
+            scale: self.scale,
             report,
         };
+        self.all.add(&part);
         self.print(&part, first)
     }
 
@@ -108,7 +143,7 @@ impl Run {
             self.progress.clear();
             return write((sheet.into_text() + &refused.tsv()).as_bytes());
         }
-        self.complain(&refused.people(source));
+        self.complain(&refused.people(Some(source)));
         Ok(())
     }
 
@@ -163,12 +198,17 @@ struct Part<'a> {
     source: &'a Source,
     /// Whether people are told its name.
     named: bool,
+    scale: i64,
     report: Report,
 }
 
 impl Part<'_> {
-    fn sides(&self) -> [(&'static str, &Tally); 2] {
-        [("M", &self.report.max), ("N", &self.report.min)]
+    fn max(&self) -> Side {
+        Side::of(&self.report, Kind::Max, self.report.max)
+    }
+
+    fn min(&self) -> Side {
+        Side::of(&self.report, Kind::Min, self.report.min)
     }
 }
 
@@ -179,28 +219,33 @@ impl Answer for Part<'_> {
         }
         let rows: Vec<Row> = (1..).zip(&self.report.positions).map(row).collect();
         if !rows.is_empty() {
-            lay(page, &["position", "side", "play", "loss"], &rows);
+            lay(page, &["position", "side", "play", "loss", "mark"], &rows);
             page.plain("\n");
         }
-        for (side, tally) in self.sides() {
-            page.named(side, words(tally));
-        }
+        self.max().people(page, "M");
+        self.min().people(page, "N");
+        page.named("scale", self.scale);
     }
 
     fn tsv(&self, sheet: &mut Sheet) {
         sheet.row("file", &[self.source]);
+        sheet.row("scale", &[&self.scale]);
         for (number, position) in (1..).zip(&self.report.positions) {
             let Position { kind, play, .. } = position;
             let [thousandths, points] = loss_fields(position.loss);
-            sheet.row("position", &[&number, kind, play, &thousandths, &points]);
+            let mark = mark_word(position.mark);
+            sheet.row(
+                "position",
+                &[&number, kind, play, &thousandths, &points, &mark],
+            );
         }
         sheet.row("positions", &[&self.report.positions.len()]);
-        for (side, tally) in self.sides() {
-            let [decisions, thousandths, points, average] = fields(tally);
-            sheet.row(
-                "total",
-                &[&side, &decisions, &thousandths, &points, &average],
-            );
+        for (name, side) in [("M", self.max()), ("N", self.min())] {
+            let (tally, marks) = (fields(&side.tally), side.marks.0);
+            let mut row: Vec<&dyn Display> = vec![&name];
+            row.extend(tally.iter().map(|field| field as &dyn Display));
+            row.extend(marks.iter().map(|count| count as &dyn Display));
+            sheet.row("total", &row);
         }
     }
 }
@@ -217,6 +262,7 @@ fn row((number, position): (usize, &Position)) -> Row {
             Cell::Text(position.kind.to_string()),
             Cell::Number(position.play.to_string()),
             Cell::Number(loss),
+            Cell::Text(mark_word(position.mark)),
         ],
         bold: false,
     }
@@ -229,23 +275,77 @@ fn loss_fields(loss: Loss) -> [String; 2] {
     }
 }
 
+/// The mark in words, empty where there is none.
+fn mark_word(mark: Option<Mark>) -> String {
+    mark.map_or(String::new(), |mark| mark.to_string())
+}
+
+/// What one side did.
+#[derive(Clone, Copy, Default)]
+struct Side {
+    /// Its totals, from the engine.
+    tally: Tally,
+    /// How often it got each mark, counted here.
+    marks: Marks,
+}
+
+impl Side {
+    fn of(report: &Report, kind: Kind, tally: Tally) -> Side {
+        let own = report.positions.iter().filter(|at| at.kind == kind);
+        let given = own.filter_map(|at| at.mark);
+        let mut marks = Marks::default();
+        given.for_each(|mark| marks.0[mark as usize] += 1);
+        Side { tally, marks }
+    }
+
+    fn add(&mut self, other: &Side) {
+        self.tally.decisions += other.tally.decisions;
+        self.tally.thousandths += other.tally.thousandths;
+        for (all, one) in self.marks.0.iter_mut().zip(other.marks.0) {
+            *all += one;
+        }
+    }
+
+    fn people(&self, page: &mut Page, name: &str) {
+        page.named(name, words(&self.tally));
+        if self.tally.decisions > 0 {
+            page.named("marks", self.marks);
+        }
+    }
+}
+
+/// How often each mark came, from the mildest on.
+#[derive(Clone, Copy, Default)]
+struct Marks([i64; 4]);
+
+impl Display for Marks {
+    fn fmt(&self, f: &mut fmt::Formatter) -> fmt::Result {
+        let [none, doubtful, errors, blunders] = self.0;
+        let errors = counted(errors, "error");
+        let blunders = counted(blunders, "blunder");
+        write!(
+            f,
+            "{none} no mark, {doubtful} doubtful, {errors}, {blunders}"
+        )
+    }
+}
+
 /// What was reported of all files.
 #[derive(Default)]
 struct All {
+    scale: i64,
     files: usize,
     positions: usize,
-    max: Tally,
-    min: Tally,
+    max: Side,
+    min: Side,
 }
 
 impl All {
-    fn add(&mut self, report: &Report) {
+    fn add(&mut self, part: &Part) {
         self.files += 1;
-        self.positions += report.positions.len();
-        for (all, one) in [(&mut self.max, &report.max), (&mut self.min, &report.min)] {
-            all.decisions += one.decisions;
-            all.thousandths += one.thousandths;
-        }
+        self.positions += part.report.positions.len();
+        self.max.add(&part.max());
+        self.min.add(&part.min());
     }
 }
 
@@ -253,17 +353,18 @@ impl Answer for All {
     fn people(&self, page: &mut Page) {
         let files = counted(self.files as i64, "file");
         let positions = counted(self.positions as i64, "position");
-        let (max, min) = (words(&self.max), words(&self.min));
-        page.named(
-            "all",
-            format_args!("{files}, {positions}; M {max}; N {min}"),
-        );
+        page.named("all", format_args!("{files}, {positions}"));
+        self.max.people(page, "M");
+        self.min.people(page, "N");
+        page.named("scale", self.scale);
     }
 
     fn tsv(&self, sheet: &mut Sheet) {
-        let (max, min) = (fields(&self.max), fields(&self.min));
+        let (max, min) = (fields(&self.max.tally), fields(&self.min.tally));
+        let marks = [self.max.marks.0, self.min.marks.0].concat();
         let mut row: Vec<&dyn Display> = vec![&self.files, &self.positions];
         row.extend(max.iter().chain(&min).map(|field| field as &dyn Display));
+        row.extend(marks.iter().map(|count| count as &dyn Display));
         sheet.row("all", &row);
     }
 }
