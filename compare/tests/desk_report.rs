@@ -15,12 +15,13 @@ use compare::hold::desk::*;
 use compare::hold::seen::{Seen, ROOTS, SIDES};
 use compare::hold::tally::Tally;
 use compare::random::Random;
-use compare::second::desk::{self, Form, Reported, Stretch, FORMS};
+use compare::second::desk::{self, Form, Reported, Stretch, FORMS, USUAL_SCALE};
 use compare::second::{
-    self, Refusal, Report, Stop, Total, FARTHEST_END, LINE, MOST_POSITIONS, PLAY_LINE,
+    self, Refusal, Report, Stop, Total, FARTHEST_END, LINE, MARKS, MOST_POSITIONS, PLAY_LINE,
 };
 use compare::texts::examples::*;
 use compare::texts::largest;
+use compare::texts::matches::chosen::chosen;
 use compare::texts::matches::rounding::Loss;
 use compare::texts::matches::{self, file, whole, whole_of, Position};
 
@@ -70,8 +71,15 @@ fn the_example() {
     ];
     for (turn, way) in ways.into_iter().enumerate() {
         for form in FORMS {
-            let outcomes = hold_report(from_ref(&way), form, turn as u64, "the example");
-            assert!(matches!(outcomes[..], [Outcome::Reported(_)]));
+            for scale in [None, Some(1), Some(2)] {
+                let manner = Manner {
+                    form,
+                    scale,
+                    turn: turn as u64,
+                };
+                let outcomes = hold_report(from_ref(&way), manner, "the example");
+                assert!(matches!(outcomes[..], [Outcome::Reported(_)]));
+            }
         }
     }
 }
@@ -113,7 +121,11 @@ fn one_file_and_several() {
     for (turn, set) in sets.into_iter().enumerate() {
         let given: Vec<Given> = set.iter().map(|&file| file.clone()).collect();
         for form in FORMS {
-            let outcomes = hold_report(&given, form, turn as u64, "chosen files");
+            let manner = Manner {
+                turn: turn as u64,
+                ..form.into()
+            };
+            let outcomes = hold_report(&given, manner, "chosen files");
             let reported = |outcome: &Outcome| matches!(outcome, Outcome::Reported(_));
             assert!(outcomes.iter().all(reported));
         }
@@ -121,35 +133,38 @@ fn one_file_and_several() {
 }
 
 const FORCED_REPORTED: &str = "\
-position  side  play         loss
-       1  M        2        1.500
+position  side  play         loss  mark
+       1  M        2        1.500  blunder
        2  M        1  no decision
        3  N        0  no decision
        4  M       -1  no decision
-       5  M        1        0.000
+       5  M        1        0.000  no mark
        6  N        1  no decision
        7  M        2  no decision
        8  N     -999  no decision
        9  M     9999  no decision
 
 M       2 decisions, 1.500 points lost, 0.7500 each
+marks   1 no mark, 0 doubtful, 0 errors, 1 blunder
 N       no decisions
+scale   2
 ";
 
 const FORCED_IN_FIELDS: &str = "\
 file\tstandard input
-position\t1\tM\t2\t1500\t1.500
-position\t2\tM\t1\t\t
-position\t3\tN\t0\t\t
-position\t4\tM\t-1\t\t
-position\t5\tM\t1\t0\t0.000
-position\t6\tN\t1\t\t
-position\t7\tM\t2\t\t
-position\t8\tN\t-999\t\t
-position\t9\tM\t9999\t\t
+scale\t2
+position\t1\tM\t2\t1500\t1.500\tblunder
+position\t2\tM\t1\t\t\t
+position\t3\tN\t0\t\t\t
+position\t4\tM\t-1\t\t\t
+position\t5\tM\t1\t0\t0.000\tno mark
+position\t6\tN\t1\t\t\t
+position\t7\tM\t2\t\t\t
+position\t8\tN\t-999\t\t\t
+position\t9\tM\t9999\t\t\t
 positions\t9
-total\tM\t2\t1500\t1.500\t0.7500
-total\tN\t0\t0\t0.000\t
+total\tM\t2\t1500\t1.500\t0.7500\t1\t0\t0\t1
+total\tN\t0\t0\t0.000\t\t0\t0\t0\t0
 ";
 
 /// A forced play counts for neither side, whatever its number: by the words that
@@ -173,41 +188,58 @@ fn forced_plays() {
         (Form::Tsv, FORCED_IN_FIELDS),
     ];
     for (form, printed) in printed {
-        let (words, input) = report_words(from_ref(&given), form, 0);
+        let (words, input) = report_words(from_ref(&given), form);
         let ran = run(&words, input);
         ran.answers(printed);
         hold_reported(&ran, from_ref(&given), form, "forced plays");
 
         let several = [Given::dash(&bytes), in_file("forced", &bytes)];
-        let (words, input) = report_words(&several, form, 0);
+        let (words, input) = report_words(&several, form);
         let ran = run(&words, input);
         hold_reported(&ran, &several, form, "forced plays in two files");
         let all = match form {
-            Form::People => {
-                "all     2 files, 18 positions; M 4 decisions, 3.000 points lost, 0.7500 each; \
-                 N no decisions"
+            Form::People => FORCED_OVER_ALL,
+            Form::Tsv => {
+                "\nall\t2\t18\t4\t3000\t3.000\t0.7500\t0\t0\t0.000\t\t2\t0\t0\t2\t0\t0\t0\t0\n"
             }
-            Form::Tsv => "all\t2\t18\t4\t3000\t3.000\t0.7500\t0\t0\t0.000\t",
         };
-        assert_eq!(ran.out.lines().last(), Some(all));
+        assert!(ran.out.ends_with(all), "{all}: {}", ran.out);
     }
 }
 
+const FORCED_OVER_ALL: &str = "
+scale   2
+
+all     2 files, 18 positions
+M       4 decisions, 3.000 points lost, 0.7500 each
+marks   2 no mark, 0 doubtful, 0 errors, 2 blunders
+N       no decisions
+scale   2
+";
+
 /// Losses of one side in thousandths, and what is said of them: exact averages, then
-/// some that go down or up, then 0.00025 and 0.00075.
+/// some that go down or up, then 0.00025 and 0.00075. After a bar stand the marks.
 const AVERAGES: &str = "\
 : no decisions
-0: 1 decision, 0.000 points lost, 0.0000 each
-1: 1 decision, 0.001 points lost, 0.0010 each
-999999: 1 decision, 999.999 points lost, 999.9990 each
-0 1: 2 decisions, 0.001 points lost, 0.0005 each
-2999 1 0: 3 decisions, 3.000 points lost, 1.0000 each
-1 0 0: 3 decisions, 0.001 points lost, 0.0003 each
-2 0 0: 3 decisions, 0.002 points lost, 0.0007 each
-999999 999999 1000000: 3 decisions, 2999.998 points lost, 999.9993 each
-1 0 0 0: 4 decisions, 0.001 points lost, 0.0003 each
-3 0 0 0: 4 decisions, 0.003 points lost, 0.0008 each
+0: 1 decision, 0.000 points lost, 0.0000 each|1 no mark, 0 doubtful, 0 errors, 0 blunders
+1: 1 decision, 0.001 points lost, 0.0010 each|1 no mark, 0 doubtful, 0 errors, 0 blunders
+999999: 1 decision, 999.999 points lost, 999.9990 each|0 no mark, 0 doubtful, 0 errors, 1 blunder
+0 1: 2 decisions, 0.001 points lost, 0.0005 each|2 no mark, 0 doubtful, 0 errors, 0 blunders
+2999 1 0: 3 decisions, 3.000 points lost, 1.0000 each|2 no mark, 0 doubtful, 0 errors, 1 blunder
+1 0 0: 3 decisions, 0.001 points lost, 0.0003 each|3 no mark, 0 doubtful, 0 errors, 0 blunders
+2 0 0: 3 decisions, 0.002 points lost, 0.0007 each|3 no mark, 0 doubtful, 0 errors, 0 blunders
+999999 999999 1000000: 3 decisions, 2999.998 points lost, 999.9993 each|0 no mark, 0 doubtful, 0 errors, 3 blunders
+1 0 0 0: 4 decisions, 0.001 points lost, 0.0003 each|4 no mark, 0 doubtful, 0 errors, 0 blunders
+3 0 0 0: 4 decisions, 0.003 points lost, 0.0008 each|4 no mark, 0 doubtful, 0 errors, 0 blunders
 ";
+
+/// The lines of a side of which this is said.
+fn lines_of(side: &str, said: &str) -> String {
+    match said.split_once('|') {
+        None => format!("{side}       {said}\n"),
+        Some((lost, marks)) => format!("{side}       {lost}\nmarks   {marks}\n"),
+    }
+}
 
 /// Each side with each list of losses, and what is said of it over all files.
 #[test]
@@ -225,19 +257,20 @@ fn averages() {
         let (min, said_min) = known[(at + 5) % known.len()];
         let positions = [plays(b'M', max), plays(b'N', min)].concat();
         let given = in_file("averages", &file(&positions));
-        let ran = run(&report_words(from_ref(&given), Form::People, 0).0, &[]);
-        let totals = format!("\nM       {said_max}\nN       {said_min}\n");
+        let ran = run(&report_words(from_ref(&given), Form::People).0, &[]);
+        let said = lines_of("M", said_max) + &lines_of("N", said_min);
+        let totals = format!("\n{said}scale   2\n");
         assert!(ran.out.ends_with(&totals), "{totals}: {}", ran.out);
         hold_reported(&ran, from_ref(&given), Form::People, "averages");
 
         let several = [given, Given::dash(b"")];
-        let ran = run(&report_words(&several, Form::People, 0).0, &[]);
+        let ran = run(&report_words(&several, Form::People).0, &[]);
         let plural = if positions.len() == 1 { "" } else { "s" };
         let counted = format!("{} position{plural}", positions.len());
-        let all = format!("\n\nall     2 files, {counted}; M {said_max}; N {said_min}\n");
+        let all = format!("\n\nall     2 files, {counted}\n{said}scale   2\n");
         assert!(ran.out.ends_with(&all), "{all}: {}", ran.out);
         for form in FORMS {
-            hold_report(&several, form, 0, "averages over all");
+            hold_report(&several, form, "averages over all");
         }
     }
 }
@@ -248,12 +281,17 @@ fn averages() {
 fn random_matches() {
     let mut tally = Tally::new("desk on random matches");
     let (mut files, mut runs) = (Seen::default(), Seen::default());
-    let mut forced = Seen::default();
-    for number in 0..1_500 {
+    let (mut forced, mut marks) = (Seen::default(), Seen::default());
+    for number in 0..2_400 {
         let random = &mut Random::of_case(tally.seed, number);
         let given = random_files(random);
-        let form = random.pick(&FORMS);
-        let outcomes = hold_report(&given, form, number, &tally.place());
+        let manner = Manner {
+            form: random.pick(&FORMS),
+            scale: random_scale(random),
+            turn: number,
+        };
+        let form = manner.form;
+        let outcomes = hold_report(&given, manner, &tally.place());
         let mut codes = Vec::new();
         for outcome in &outcomes {
             match outcome {
@@ -266,13 +304,28 @@ fn random_matches() {
                 Outcome::Unread => {}
             }
         }
+        if outcomes.is_empty() {
+            codes.push(20);
+        }
         count_run(&mut runs, &outcomes, form);
+        count_marks(&mut marks, &given, &outcomes, manner);
         tally.add(&codes);
     }
     tally.report();
     files.demand(5);
     runs.demand(5);
     forced.demand(30);
+    marks.demand(5);
+}
+
+/// None, one of the scales, or rarely another number.
+fn random_scale(random: &mut Random) -> Option<i64> {
+    match random.below(12) {
+        0 => Some(matches::no_scale(random)),
+        1..=3 => None,
+        4..=7 => Some(1),
+        _ => Some(2),
+    }
 }
 
 fn random_files(random: &mut Random) -> Vec<Given> {
@@ -280,9 +333,13 @@ fn random_files(random: &mut Random) -> Vec<Given> {
     let dash = random.below(2 * count);
     let (damaged, lacking) = (random.one_in(2), random.one_in(3));
     let files = (0..count).map(|at| {
-        let bytes = match damaged && random.one_in(2) {
-            true => matches::case(random),
-            false => file(&whole(random)),
+        let bytes = match (damaged && random.one_in(2), random.below(2)) {
+            (true, _) => matches::case(random),
+            (false, 0) => file(&whole(random)),
+            (false, _) => {
+                let positions = chosen(random).into_iter().map(|one| one.position);
+                file(&positions.collect::<Vec<_>>())
+            }
         };
         if lacking && random.one_in(4) {
             Given::missing(&format!("no-such-{at}.txt"))
@@ -346,6 +403,47 @@ fn count_forced(seen: &mut Seen, reported: &Reported, form: Form) {
     }
 }
 
+/// Counts the marks of reported files and the refused scales, for each form and by
+/// each way to name a scale.
+fn count_marks(seen: &mut Seen, given: &[Given], outcomes: &[Outcome], manner: Manner) {
+    let reported: Vec<&Report> = outcomes
+        .iter()
+        .filter_map(|outcome| match outcome {
+            Outcome::Reported(reported) => Some(reported.report()),
+            _ => None,
+        })
+        .collect();
+    for form in FORMS {
+        for scale in [None, Some(1), Some(2)] {
+            let here = (manner.form, manner.scale) == (form, scale);
+            let mut count = |sort: &str, is_one| {
+                let scale = scale.map_or("no scale named".to_string(), |n| format!("scale {n}"));
+                seen.count(&format!("{sort}, {scale}, for {form:?}"), here && is_one);
+            };
+            for mark in MARKS {
+                let mut entries = reported.iter().flat_map(|report| &report.entries);
+                let marked = entries.any(|entry| entry.mark == Some(mark));
+                count(&format!("{mark:?}"), marked);
+            }
+            let all = given.len() > 1 && reported.len() == given.len();
+            let with_marks = reported.iter().filter(|report| report.max.decisions > 0);
+            count("marks added up", all && with_marks.count() > 1);
+        }
+        let refused = manner.form == form && outcomes.is_empty();
+        let name = |several: bool| if several { "several files" } else { "one file" };
+        for several in [false, true] {
+            let sort = format!("a refused scale and {} for {form:?}", name(several));
+            seen.count(&sort, refused && several == (given.len() > 1));
+        }
+        let unread = given.iter().any(|file| {
+            let outcome = file.outcome(USUAL_SCALE);
+            matches!(outcome, Outcome::Unread)
+        });
+        let sort = format!("a refused scale and a file that cannot be read for {form:?}");
+        seen.count(&sort, refused && unread);
+    }
+}
+
 fn count_run(seen: &mut Seen, outcomes: &[Outcome], form: Form) {
     let several = outcomes.len() > 1;
     let (mut reported, mut refused, mut unread) = (0, 0, 0);
@@ -375,6 +473,323 @@ fn count_run(seen: &mut Seen, outcomes: &[Outcome], form: Form) {
         count("refused and unread", refused > 0 && unread > 0);
         let others = several && refused > 0 && reported > 0;
         count("reported besides a refused one", others);
+    }
+}
+
+// ---------------------------------------------------------------------------
+// The marking scale
+// ---------------------------------------------------------------------------
+
+/// A match with every mark by either scale, and a position without a decision.
+fn every_mark() -> Vec<u8> {
+    let max = [19, 20, 40, 50, 80, 100, 160].map(|loss| losing(b'M', loss));
+    let min = [39, 79, 159].map(|loss| losing(b'N', loss));
+    file(&[&max[..], &min, &[position(5, LONE_LEAF)]].concat())
+}
+
+const MARKED_BY_1: &str = "\
+position  side  play         loss  mark
+       1  M        2        0.019  no mark
+       2  M        2        0.020  no mark
+       3  M        2        0.040  doubtful
+       4  M        2        0.050  doubtful
+       5  M        2        0.080  error
+       6  M        2        0.100  error
+       7  M        2        0.160  blunder
+       8  N        2        0.039  no mark
+       9  N        2        0.079  doubtful
+      10  N        2        0.159  error
+      11  L        5  no decision
+
+M       7 decisions, 0.469 points lost, 0.0670 each
+marks   2 no mark, 2 doubtful, 2 errors, 1 blunder
+N       3 decisions, 0.277 points lost, 0.0923 each
+marks   1 no mark, 1 doubtful, 1 error, 0 blunders
+scale   1
+";
+
+const MARKED_BY_2: &str = "\
+position  side  play         loss  mark
+       1  M        2        0.019  no mark
+       2  M        2        0.020  doubtful
+       3  M        2        0.040  doubtful
+       4  M        2        0.050  error
+       5  M        2        0.080  error
+       6  M        2        0.100  blunder
+       7  M        2        0.160  blunder
+       8  N        2        0.039  doubtful
+       9  N        2        0.079  error
+      10  N        2        0.159  blunder
+      11  L        5  no decision
+
+M       7 decisions, 0.469 points lost, 0.0670 each
+marks   1 no mark, 2 doubtful, 2 errors, 2 blunders
+N       3 decisions, 0.277 points lost, 0.0923 each
+marks   0 no mark, 1 doubtful, 1 error, 1 blunder
+scale   2
+";
+
+const FIELDS_BY_1: &str = "\
+file\tstandard input
+scale\t1
+position\t1\tM\t2\t19\t0.019\tno mark
+position\t2\tM\t2\t20\t0.020\tno mark
+position\t3\tM\t2\t40\t0.040\tdoubtful
+position\t4\tM\t2\t50\t0.050\tdoubtful
+position\t5\tM\t2\t80\t0.080\terror
+position\t6\tM\t2\t100\t0.100\terror
+position\t7\tM\t2\t160\t0.160\tblunder
+position\t8\tN\t2\t39\t0.039\tno mark
+position\t9\tN\t2\t79\t0.079\tdoubtful
+position\t10\tN\t2\t159\t0.159\terror
+position\t11\tL\t5\t\t\t
+positions\t11
+total\tM\t7\t469\t0.469\t0.0670\t2\t2\t2\t1
+total\tN\t3\t277\t0.277\t0.0923\t1\t1\t1\t0
+";
+
+const FIELDS_BY_2: &str = "\
+file\tstandard input
+scale\t2
+position\t1\tM\t2\t19\t0.019\tno mark
+position\t2\tM\t2\t20\t0.020\tdoubtful
+position\t3\tM\t2\t40\t0.040\tdoubtful
+position\t4\tM\t2\t50\t0.050\terror
+position\t5\tM\t2\t80\t0.080\terror
+position\t6\tM\t2\t100\t0.100\tblunder
+position\t7\tM\t2\t160\t0.160\tblunder
+position\t8\tN\t2\t39\t0.039\tdoubtful
+position\t9\tN\t2\t79\t0.079\terror
+position\t10\tN\t2\t159\t0.159\tblunder
+position\t11\tL\t5\t\t\t
+positions\t11
+total\tM\t7\t469\t0.469\t0.0670\t1\t2\t2\t2
+total\tN\t3\t277\t0.277\t0.0923\t0\t1\t1\t1
+";
+
+/// The options of a scale, and the scale that they name; of several the last counts.
+const NAMED: [(&[&str], i64); 11] = [
+    (&[], 2),
+    (&["--scale", "1"], 1),
+    (&["--scale=1"], 1),
+    (&["--scale", "2"], 2),
+    (&["--scale=2"], 2),
+    (&["--scale", "1", "--scale", "2"], 2),
+    (&["--scale", "2", "--scale", "1"], 1),
+    (&["--scale=2", "--scale", "1"], 1),
+    (&["--scale", "1", "--scale=1"], 1),
+    (&["--scale", "3", "--scale", "1"], 1),
+    (&["--scale=-1", "--scale=2"], 2),
+];
+
+/// Every way to name a scale: by the words that are printed, in both forms, with the
+/// options before the file, after it and on both sides of it.
+#[test]
+fn by_both_scales() {
+    let bytes = every_mark();
+    for (named, scale) in NAMED {
+        for form in FORMS {
+            let printed = match (form, scale) {
+                (Form::People, 1) => MARKED_BY_1,
+                (Form::People, _) => MARKED_BY_2,
+                (Form::Tsv, 1) => FIELDS_BY_1,
+                (Form::Tsv, _) => FIELDS_BY_2,
+            };
+            let tsv: &[&str] = match form {
+                Form::People => &[],
+                Form::Tsv => &["--tsv"],
+            };
+            let lines = [
+                [&["report"], named, tsv].concat(),
+                [&["report", "-"], tsv, named].concat(),
+                [&["report"], named, &["-"], tsv].concat(),
+                [&["report"], tsv, named, &["--", "-"]].concat(),
+            ];
+            let manner = Manner {
+                scale: Some(scale),
+                ..form.into()
+            };
+            for words in lines {
+                let ran = run(&words, &bytes);
+                ran.answers(printed);
+                hold_reported(&ran, &[Given::dash(&bytes)], manner, "every mark");
+            }
+        }
+    }
+}
+
+const ALL_BY_1: &str = "
+scale   1
+
+all     4 files, 24 positions
+M       15 decisions, 1.058 points lost, 0.0705 each
+marks   4 no mark, 4 doubtful, 5 errors, 2 blunders
+N       6 decisions, 0.554 points lost, 0.0923 each
+marks   2 no mark, 2 doubtful, 2 errors, 0 blunders
+scale   1
+";
+
+const ALL_BY_2: &str = "
+scale   2
+
+all     4 files, 24 positions
+M       15 decisions, 1.058 points lost, 0.0705 each
+marks   2 no mark, 4 doubtful, 4 errors, 5 blunders
+N       6 decisions, 0.554 points lost, 0.0923 each
+marks   0 no mark, 2 doubtful, 2 errors, 2 blunders
+scale   2
+";
+
+const ALL_FIELDS_BY_1: &str = "\nall\t4\t24\
+    \t15\t1058\t1.058\t0.0705\t6\t554\t0.554\t0.0923\
+    \t4\t4\t5\t2\t2\t2\t2\t0\n";
+
+const ALL_FIELDS_BY_2: &str = "\nall\t4\t24\
+    \t15\t1058\t1.058\t0.0705\t6\t554\t0.554\t0.0923\
+    \t2\t4\t4\t5\t0\t2\t2\t2\n";
+
+/// The counts of several files are added up.
+#[test]
+fn marks_over_all() {
+    let (one, two) = (every_mark(), file(&[losing(b'M', 120), forced('N', 1)]));
+    let known = [
+        (Form::People, 1, ALL_BY_1),
+        (Form::People, 2, ALL_BY_2),
+        (Form::Tsv, 1, ALL_FIELDS_BY_1),
+        (Form::Tsv, 2, ALL_FIELDS_BY_2),
+    ];
+    let given = [
+        in_file("marks-1", &one),
+        Given::dash(b""),
+        in_file("marks-2", &two),
+        in_file("marks-3", &one),
+    ];
+    for (form, scale, all) in known {
+        for turn in 0..8 {
+            let scale = Some(scale);
+            let manner = Manner { form, scale, turn };
+            let (words, input) = report_words(&given, manner);
+            let ran = run(&words, input);
+            hold_reported(&ran, &given, manner, "marks over all");
+            assert!(ran.out.ends_with(all), "{all}: {}", ran.out);
+        }
+    }
+}
+
+/// Numbers that no scale has, as they are written, also such as have no room in 64
+/// bits or would be 1 or 2 in fewer.
+const NO_SUCH_SCALES: [&str; 16] = [
+    "0",
+    "3",
+    "-1",
+    "-2",
+    "257",
+    "258",
+    "65537",
+    "4294967297",
+    "4294967298",
+    "-4294967295",
+    "9223372036854775807",
+    "-9223372036854775808",
+    "9223372036854775808",
+    "-9223372036854775809",
+    "18446744073709551617",
+    "100000000000000000000000000000000000000000000000000000000002",
+];
+
+/// A refused scale is told of once, before any file is looked at: whatever files are
+/// named, also where one is refused or cannot be read.
+#[test]
+fn refused_scales() {
+    let good = in_file("scales-good", &every_mark());
+    let bad = in_file("scales-bad", b"x");
+    let missing = Given::missing("no-such-match.txt");
+    let dash = Given::dash(&every_mark());
+    let sets: [&[&Given]; 9] = [
+        &[],
+        &[&good],
+        &[&dash],
+        &[&bad],
+        &[&missing],
+        &[&good, &good],
+        &[&good, &missing, &dash, &bad],
+        &[&missing, &missing],
+        &[&bad, &bad, &bad],
+    ];
+    let mut tally = Tally::new("desk on refused scales");
+    for written in NO_SUCH_SCALES {
+        let joined = format!("--scale={written}");
+        let options: [&[&str]; 3] = [
+            &["--scale", written],
+            &[&joined],
+            &["--scale", "1", "--scale", written],
+        ];
+        for (set, options) in sets.iter().flat_map(|set| options.map(|one| (set, one))) {
+            let given: Vec<Given> = set.iter().map(|&file| file.clone()).collect();
+            for form in FORMS {
+                let manner = Manner {
+                    turn: tally.cases,
+                    ..form.into()
+                };
+                let (mut words, input) = report_words(&given, manner);
+                let at = if tally.cases.is_multiple_of(3) {
+                    words.len()
+                } else {
+                    1
+                };
+                words.splice(at..at, options.iter().map(OsString::from));
+                hold_refused_scale(&run(&words, input), form, written);
+                tally.add(&[20]);
+            }
+        }
+    }
+    tally.report();
+}
+
+/// Fails the test unless this scale was refused, and nothing else was printed.
+fn hold_refused_scale(ran: &Ran, form: Form, written: &str) {
+    let refusal = Refusal {
+        number: 20,
+        line: 0,
+    };
+    let stop = Stop {
+        refusal,
+        position: 0,
+    };
+    Refused::of_scale(stop).hold(ran, form, "", written);
+    let (printed, name) = match form {
+        Form::People => (&ran.err, "reason  "),
+        Form::Tsv => (&ran.out, "reason\t"),
+    };
+    let mut lines = printed.lines();
+    let reason = lines.find_map(|line| line.strip_prefix(name));
+    let given = format!(": {written} was given");
+    assert!(reason.unwrap_or_default().ends_with(&given), "{printed}");
+}
+
+/// It is told of while standard input is still open and nothing has come from it.
+#[test]
+fn refused_before_input() {
+    for words in [
+        &["report", "--scale", "3"][..],
+        &["report", "--scale=0", "-"],
+    ] {
+        let mut child = start(command(words));
+        let input = child.stdin.take();
+        let began = Instant::now();
+        while child.try_wait().expect("a program").is_none() {
+            let waits = began.elapsed() > Duration::from_secs(20);
+            if waits {
+                child.kill().expect("a program");
+            }
+            assert!(!waits, "{words:?}: it waits for its input");
+            std::thread::sleep(Duration::from_millis(5));
+        }
+        drop(input);
+        let output = child.wait_with_output().expect("the program ends");
+        let ran = Ran::new(words.join(" "), output);
+        assert_eq!((ran.status, &*ran.out), (Some(1), ""));
+        assert!(ran.err.starts_with("desk: refused 20\n"), "{}", ran.err);
     }
 }
 
@@ -409,7 +824,8 @@ impl Bad {
             refusal: Refusal { number, line },
             position: at.0,
         };
-        assert_eq!(second::report(&file, usize::MAX), Err(stop), "{why}");
+        let report = second::report(&file, USUAL_SCALE, usize::MAX);
+        assert_eq!(report, Err(stop), "{why}");
         let refused = Refused::of_match(&file, stop);
         assert_eq!(refused.at, Some(at), "{why}");
         let stretches = marks.split(',').filter(|stretch| !stretch.is_empty());
@@ -434,7 +850,12 @@ impl Bad {
     /// Asks about it in both forms, alone.
     fn hold(&self, way: Given) {
         for (turn, form) in FORMS.into_iter().enumerate() {
-            hold_report(from_ref(&way), form, turn as u64, &self.why);
+            let turn = turn as u64;
+            let manner = Manner {
+                turn,
+                ..form.into()
+            };
+            hold_report(from_ref(&way), manner, &self.why);
         }
     }
 }
@@ -664,8 +1085,12 @@ fn random_refused_matches() {
     for case in 0..1_500 {
         let random = &mut Random::of_case(tally.seed, case);
         let bytes = damaged(random);
-        let form = random.pick(&FORMS);
-        let outcomes = hold_report(&[Given::input(&bytes)], form, case, &tally.place());
+        let manner = Manner {
+            form: random.pick(&FORMS),
+            scale: random.pick(&[None, Some(1), Some(2)]),
+            turn: case,
+        };
+        let outcomes = hold_report(&[Given::input(&bytes)], manner, &tally.place());
         let [Outcome::Refused(refused)] = &outcomes[..] else {
             panic!("{}: accepted", tally.place());
         };
@@ -699,7 +1124,7 @@ fn random_refused_matches() {
 fn damaged(random: &mut Random) -> Vec<u8> {
     loop {
         let bytes = matches::case(random);
-        if second::report(&bytes, usize::MAX).is_err() {
+        if second::report(&bytes, USUAL_SCALE, usize::MAX).is_err() {
             return bytes;
         }
     }
@@ -815,9 +1240,13 @@ fn several_with_a_refused_one() {
         let (letters, why) = line.split_once(": ").expect("letters and why");
         let given: Vec<Given> = letters.chars().map(file_of).collect();
         for form in FORMS {
-            let (words, input) = report_words(&given, form, turn as u64);
+            let manner = Manner {
+                turn: turn as u64,
+                ..form.into()
+            };
+            let (words, input) = report_words(&given, manner);
             let ran = run(&words, input);
-            hold_reported(&ran, &given, form, line);
+            hold_reported(&ran, &given, manner, line);
             let count = letters.len();
             let last = format!("desk: no totals over all {count} files: {why}\n");
             assert!(ran.err.ends_with(&last), "{last}: {}", ran.err);
@@ -839,7 +1268,7 @@ fn at_its_turn() {
     let last = in_file("turn-4", &file(&[losing(b'N', 6)]));
     let given = [first, bad, missing, last];
     for form in FORMS {
-        let (words, _) = report_words(&given, form, 0);
+        let (words, _) = report_words(&given, form);
         let both = folder().join(format!("desk-report-both-{form:?}"));
         let output = File::create(&both).expect("a file");
         let mut command = command(&words);
@@ -857,10 +1286,10 @@ fn at_its_turn() {
                 format!("file    {four}\n"),
             ],
             Form::Tsv => [
-                format!("file\t{one}\nposition\t"),
+                format!("file\t{one}\nscale\t2\nposition\t"),
                 format!("file\t{two}\nrefused\t16\n"),
                 three,
-                format!("file\t{four}\nposition\t"),
+                format!("file\t{four}\nscale\t2\nposition\t"),
             ],
         };
         let places = starts.map(|start| {
@@ -908,7 +1337,7 @@ fn names() {
             let given = given(bytes);
             for files in [vec![given.clone()], vec![given.clone(), given]] {
                 for form in FORMS {
-                    let mut command = command(&report_words(&files, form, 0).0);
+                    let mut command = command(&report_words(&files, form).0);
                     command.current_dir(&folder);
                     hold_reported(&finish(command, &[]), &files, form, printed);
                 }
@@ -917,7 +1346,7 @@ fn names() {
     }
     let missing = [Given::missing("no\t\u{1b}such"), Given::missing("file\n")];
     for form in FORMS {
-        hold_report(&missing, form, 0, "names of files that are not there");
+        hold_report(&missing, form, "names of files that are not there");
     }
 }
 
@@ -951,7 +1380,7 @@ fn closed_output() {
     let bad = in_file("closed-bad", b"x");
     for before in [&[][..], from_ref(&bad)] {
         let given = [before, &vec![many.clone(); 20]].concat();
-        let mut child = start(command(&report_words(&given, Form::People, 0).0));
+        let mut child = start(command(&report_words(&given, Form::People).0));
         let mut stdout = BufReader::new(child.stdout.take().expect("a pipe"));
         let mut line = String::new();
         stdout.read_line(&mut line).expect("a line");
@@ -984,28 +1413,55 @@ fn inputs_of_megabytes() {
 /// The example in the description is what the second engine and the program answer.
 #[test]
 fn example_in_the_description() {
-    let described = block("docs/DESK.md", "`desk report examples/match.txt`");
-    let (file, bytes) = example("match");
-    let reported = Reported::of(&file, &bytes).expect("accepted");
+    let described = block("docs/DESK.md", "`desk report examples/marks.txt`");
+    let (file, bytes) = example("marks");
+    let reported = Reported::of(&file, &bytes, USUAL_SCALE).expect("accepted");
     assert_eq!(described, desk::report(&reported, false, Form::People));
     run(&["report", &file], &[]).answers(&described);
 }
 
-/// So is the line of totals over all files.
+/// So is the refusal of a scale.
+#[test]
+fn refused_scale_in_the_description() {
+    let described = block("docs/DESK.md", "Another number is refused once");
+    for files in [&[][..], &["examples/marks.txt"], &["no-such-match.txt"; 2]] {
+        let ran = run(&[&["report", "--scale", "3"], files].concat(), &[]);
+        assert_eq!((ran.status, &*ran.out), (Some(1), ""));
+        assert_eq!(ran.err, described);
+    }
+}
+
+/// The steps in the description are those of the second engine.
+#[test]
+fn steps_in_the_description() {
+    let text = fs::read_to_string(root().join("docs/DESK.md")).expect("a document");
+    for scale in [1, 2] {
+        let steps = second::steps(scale).expect("a scale");
+        let [doubtful, error, blunder] = steps.map(|step| format!("0.{step:03}"));
+        let row = format!(
+            "| {scale} | below {doubtful} points | from {doubtful} | from {error} | \
+             from {blunder} |\n"
+        );
+        assert!(text.contains(&row), "docs/DESK.md has no row {row}");
+    }
+}
+
+/// So are the totals over all files.
 #[test]
 fn totals_in_the_description() {
     let described = block(
         "docs/DESK.md",
         "Where several files are named, each that is reported has a line",
     );
-    let leaves = vec![position(1, LONE_LEAF); 4];
-    let losses = vec![position(2, TABLE_B), losing(b'M', 52), losing(b'M', 0)];
-    let given = [
-        in_file("described-1", &file(&leaves)),
-        in_file("described-2", &file(&losses)),
-    ];
-    let ran = run(&report_words(&given, Form::People, 0).0, &[]);
-    hold_reported(&ran, &given, Form::People, "described");
+    let (file, bytes) = example("marks");
+    let given = vec![Given::file(&file, &bytes); 2];
+    let manner = Manner {
+        form: Form::People,
+        scale: Some(1),
+        turn: 0,
+    };
+    let ran = run(&report_words(&given, manner).0, &[]);
+    hold_reported(&ran, &given, manner, "described");
     assert!(
         ran.out.ends_with(&format!("\n\n{described}")),
         "{}",
@@ -1037,7 +1493,7 @@ fn refusals_in_the_description() {
         Given::missing("missing.txt"),
         empty,
     ];
-    let mut command = command(&report_words(&given, Form::People, 0).0);
+    let mut command = command(&report_words(&given, Form::People).0);
     command.current_dir(&folder);
     let ran = finish(command, &[]);
     hold_reported(&ran, &given, Form::People, "described");

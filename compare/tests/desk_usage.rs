@@ -162,6 +162,30 @@ fn wrong_usage() {
         "report - F -",
         "report --margin 3 F",
         "report F --nonsense",
+        "report --scale",
+        "report F --scale",
+        "report F --tsv --scale",
+        "report --scale F",
+        "report --scale x F",
+        "report --scale E F",
+        "report --scale= F",
+        "report --scale=x F",
+        "report --scale 1.5 F",
+        "report --scale=1.5 F",
+        "report --scale 1g F",
+        "report --scale 1,2 F",
+        "report --scale - F",
+        "report --scale --tsv F",
+        "report --scale x --tsv F",
+        "report --scales 1 F",
+        "show --scale 1 F",
+        "worth --scale 1 F",
+        "judge 1 --scale 1 F",
+        "search 3 --scale 1 F",
+        "turn --scale 1 F",
+        "rollout --scale 1 F",
+        "report --scale 3 F --nonsense",
+        "report --scale 3 - -",
         "search --margin 3 F",
         "help nonsense",
         "help show show",
@@ -188,6 +212,7 @@ fn help() {
         assert_eq!(ran.err, "", "{}", ran.asked);
         ran.out
     };
+    assert!(helped(&["help", "report"]).contains("--scale"));
     let all = helped(&["help"]);
     for verb in VERBS {
         assert!(all.contains(verb[0]), "desk help does not name {}", verb[0]);

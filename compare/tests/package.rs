@@ -11,9 +11,13 @@ use compare::hold::seen::{Seen, ROOTS, SIDES};
 use compare::hold::tally::{Tally, OF_TABLES};
 use compare::hold::{code, span};
 use compare::random::{number_from_environment, Random};
-use compare::second::{self, root_children, Bounds, Entry, Refusal, Stop, Table, PLAY_LINE};
+use compare::second::{
+    self, root_children, Bounds, Entry, Mark, Refusal, Stop, Table, MARKS, PLAY_LINE,
+};
 use compare::texts::examples::escaped;
 use compare::texts::knobs::Knobs;
+use compare::texts::matches::chosen::chosen;
+use compare::texts::matches::NO_SCALES;
 use compare::texts::{self, matches};
 use margin_engine as package;
 
@@ -219,9 +223,20 @@ fn typed_calls() {
 // The report
 // ---------------------------------------------------------------------------
 
+/// The second engine's mark in words.
+fn word(mark: Mark) -> String {
+    let word = match mark {
+        Mark::NoMark => "no mark",
+        Mark::Doubtful => "doubtful",
+        Mark::Error => "error",
+        Mark::Blunder => "blunder",
+    };
+    word.to_string()
+}
+
 /// A report as plain text, a line for the totals and one for each position.
-fn second_report(file: &[u8]) -> Said<Vec<String>> {
-    let report = second::report(file, usize::MAX);
+fn second_report(file: &[u8], scale: i64) -> Said<Vec<String>> {
+    let report = second::report(file, scale, usize::MAX);
     let report = report.map_err(|Stop { refusal, position }| {
         let Refusal { number, line } = refusal;
         (number, line, position)
@@ -233,20 +248,22 @@ fn second_report(file: &[u8]) -> Said<Vec<String>> {
     let positions = positions.map(|(position, entry)| {
         let start = end;
         end += PLAY_LINE + position.text.len();
-        (entry.root, position.play, entry.loss, start..end)
+        let mark = entry.mark.map(word);
+        (entry.root, position.play, entry.loss, mark, start..end)
     });
     Ok(lines(totals, positions))
 }
 
-fn package_report(file: &[u8]) -> Said<Vec<String>> {
-    let report = typed(package::report(file))?;
+fn package_report(file: &[u8], scale: i64) -> Said<Vec<String>> {
+    let report = typed(package::report(file, scale))?;
     let totals = [report.max, report.min].map(|total| (total.decisions, total.thousandths));
     let positions = report.positions.into_iter().map(|position| {
         let loss = match position.loss {
             package::Loss::Thousandths(loss) => Some(loss),
             package::Loss::NoDecision => None,
         };
-        (position.kind, position.play, loss, position.place)
+        let mark = position.mark.map(|mark| mark.to_string());
+        (position.kind, position.play, loss, mark, position.place)
     });
     Ok(lines(totals, positions))
 }
@@ -268,31 +285,65 @@ fn hold_places(file: &[u8], position: usize) {
 fn typed_report() {
     let mut tally = Tally::new("the package's typed report");
     let mut seen = Seen::default();
-    for case in 0..15_000 {
+    for case in 0..20_000 {
         let mut random = Random::of_case(tally.seed, case);
-        let file = matches::case(&mut random);
-        let expected = second_report(&file);
-        assert_eq!(package_report(&file), expected, "{}", tally.place());
-        if let Err((_, _, position)) = expected {
-            hold_places(&file, position);
+        let file = match case % 4 {
+            0 => {
+                let positions = chosen(&mut random).into_iter().map(|one| one.position);
+                matches::file(&positions.collect::<Vec<_>>())
+            }
+            _ => matches::case(&mut random),
+        };
+        let scale = matches::scale(&mut random);
+        let expected = second_report(&file, scale);
+        let said = package_report(&file, scale);
+        assert_eq!(said, expected, "{}, scale {scale}", tally.place());
+        match expected {
+            Err((20, ..)) => assert_eq!(said, Err((20, 0, 0))),
+            Err((_, _, position)) => hold_places(&file, position),
+            Ok(_) => {}
         }
-        count_forced(&mut seen, &file);
+        count_listed(&mut seen, &file, scale);
         tally.add(&[expected.err().map_or(0, |(number, ..)| u64::from(number))]);
     }
     tally.report();
     seen.demand(100);
-    tally.demand_refusals(&[2, 3, 4, 5, 6, 7, 8, 9, 10, 14, 15, 16]);
+    tally.demand_refusals(&[2, 3, 4, 5, 6, 7, 8, 9, 10, 14, 15, 16, 20]);
     assert!(tally.counts[0] >= 1_000, "too few reports");
 }
 
-/// Counts the reports where a root M or N is listed as "no decision".
-fn count_forced(seen: &mut Seen, file: &[u8]) {
-    let entries = second::report(file, usize::MAX).map_or(vec![], |report| report.entries);
+/// Counts the reports where a root M or N is listed as "no decision", and those with
+/// each mark by each scale.
+fn count_listed(seen: &mut Seen, file: &[u8], scale: i64) {
+    let report = second::report(file, scale, usize::MAX);
+    let entries = report.map_or(vec![], |report| report.entries);
     for root in SIDES {
-        let forced = Entry { root, loss: None };
+        let forced = Entry {
+            root,
+            loss: None,
+            mark: None,
+        };
         let sort = format!("a forced play at {root:?}");
         seen.count(&sort, entries.contains(&forced));
     }
+    for of in [1, 2] {
+        for mark in MARKS {
+            let marked = entries.iter().any(|entry| entry.mark == Some(mark));
+            seen.count(&format!("{mark:?} by scale {of}"), scale == of && marked);
+        }
+    }
+}
+
+/// The package's marks are in the sequence from the mildest to the hardest, with
+/// words of their own.
+#[test]
+fn typed_marks() {
+    use package::Mark::{Blunder, Doubtful, Error, NoMark};
+    let marks = [NoMark, Doubtful, Error, Blunder];
+    assert!(marks.is_sorted_by(|milder, harder| milder < harder));
+    let words = marks.map(|mark| mark.to_string());
+    assert_eq!(words, ["no mark", "doubtful", "error", "blunder"]);
+    assert_eq!(words, MARKS.map(word));
 }
 
 // ---------------------------------------------------------------------------
@@ -306,7 +357,7 @@ fn words_of_refused_reports() {
     let mut random = Random::new(1);
     while seen.len() < 12 {
         let file = matches::case(&mut random);
-        let Err(refusal) = package::report(&file) else {
+        let Err(refusal) = package::report(&file, 1) else {
             continue;
         };
         let (number, line, position) = (refusal.number, refusal.line, refusal.position);
@@ -320,6 +371,21 @@ fn words_of_refused_reports() {
         one_line_each(refusal);
         if !seen.contains(&number) {
             seen.push(number);
+        }
+    }
+}
+
+/// A refused scale is in no position and at no line, whatever the file.
+#[test]
+fn words_of_refused_scales() {
+    for scale in NO_SCALES {
+        for file in [&b""[..], b"x"] {
+            let refusal = package::report(file, scale).expect_err("no scale");
+            let (number, line, position) = (refusal.number, refusal.line, refusal.position);
+            assert_eq!((number, line, position), (20, 0, 0), "{scale}");
+            let shown = format!("refused 20: {}", refusal.reason());
+            assert_eq!(refusal.to_string(), shown);
+            one_line_each(refusal);
         }
     }
 }

@@ -4,7 +4,7 @@ use compare::hold::desk::{block, root, run};
 use compare::hold::numbers::ROOM;
 use compare::hold::searching::{hold_to, Expected};
 use compare::hold::tally::Tally;
-use compare::second::desk::{self, Form, Reported};
+use compare::second::desk::{self, Form, Reported, USUAL_SCALE};
 use compare::second::{self, Table};
 
 /// Margins in points, at the ends that the examples have and at narrow ones.
@@ -53,12 +53,12 @@ fn example(file: &str) -> Vec<u8> {
 fn first_answers() {
     let table = second::read(&example("examples/b.txt")).expect("accepted");
     let shown = desk::show(&table, Some(12), Form::People).expect("an answer");
-    let file = "examples/match.txt";
-    let reported = Reported::of(file, &example(file)).expect("accepted");
+    let file = "examples/marks.txt";
+    let reported = Reported::of(file, &example(file), USUAL_SCALE).expect("accepted");
     let reported = desk::report(&reported, false, Form::People);
     for (command, answer) in [
         ("show --margin 3 examples/b.txt", shown),
-        ("report examples/match.txt", reported),
+        ("report examples/marks.txt", reported),
     ] {
         assert_eq!(block("README.md", &format!("    ./desk {command}")), answer);
         let words: Vec<&str> = command.split(' ').collect();

@@ -1,5 +1,6 @@
 //! The report of a match, held to the second engine, to judging each position
-//! alone, and to answers that are known.
+//! alone, and to answers that are known. What marks are given for which losses is
+//! in `marking.rs`.
 //!
 //! The environment variable SEED sets the seed of the random files, CASES their
 //! number.
@@ -7,44 +8,60 @@
 use std::collections::HashSet;
 
 use compare::engine::{self, Lent as Arrays};
+use compare::hold::mark_number;
 use compare::hold::numbers::ROOM;
-use compare::hold::reporting::{code, hold_to, numbers, Comparison, Lent, NO_KIND, NO_LOSS};
+use compare::hold::reporting::{code, hold_to, numbers, proved, Answer, Comparison, Lent};
 use compare::hold::seen::Seen;
 use compare::hold::tally::{say, Tally};
 use compare::random::{number_from_environment, Random};
 use compare::second::{
-    self, Entry, Kind, Refusal, Report, Stop, FARTHEST_END, LINE, MOST_POSITIONS, MOST_TOTAL,
+    self, Entry, Kind, Mark, Refusal, Report, Stop, FARTHEST_END, LINE, MOST_POSITIONS, MOST_TOTAL,
 };
 use compare::texts::examples::*;
 use compare::texts::knobs::Knobs;
 use compare::texts::largest;
 use compare::texts::matches::rounding::Loss;
-use compare::texts::matches::{self, file, whole, whole_of, Position};
+use compare::texts::matches::{self, file, whole, whole_of, Position, NO_SCALES};
+
+/// The mark of a loss by scale 1 or 2, as document 02 has it.
+fn marked(scale: i64, loss: i64) -> Mark {
+    match (scale, loss) {
+        (1, ..40) | (2, ..20) => Mark::NoMark,
+        (1, ..80) | (2, ..50) => Mark::Doubtful,
+        (1, ..160) | (2, ..100) => Mark::Error,
+        (1 | 2, _) => Mark::Blunder,
+        _ => panic!("no scale {scale}"),
+    }
+}
 
 // ---------------------------------------------------------------------------
 // Random files
 // ---------------------------------------------------------------------------
 
 /// The refusals of a report; 1 is not given.
-const REFUSALS: [usize; 13] = [2, 3, 4, 5, 6, 7, 8, 9, 10, 11, 14, 15, 16];
+const REFUSALS: [usize; 14] = [2, 3, 4, 5, 6, 7, 8, 9, 10, 11, 14, 15, 16, 20];
 
 /// The main comparison. It also fails where the files were too much alike to
 /// mean anything.
 #[test]
 fn random_files() {
     let mut comparison = Comparison::new("reports of random files");
-    let cases = number_from_environment("CASES", 30_000);
+    let cases = number_from_environment("CASES", 36_000);
     for number in 0..cases {
         let mut random = Random::of_case(comparison.tally.seed, number);
-        let _ = comparison.hold(&matches::case(&mut random));
+        let file = matches::case(&mut random);
+        let _ = comparison.hold(&file, matches::scale(&mut random));
     }
     let tally = &comparison.tally;
     tally.report();
     assert!(tally.cases >= 20_000, "only {} files", tally.cases);
     comparison.accepted.demand(50);
     comparison.refused.demand(50);
+    comparison.lists.demand(100);
+    comparison.scales.demand(100);
     comparison.forced.demand(100);
     tally.demand_refusals(&REFUSALS);
+    assert!(tally.counts[20] >= 1_000, "too few refused scales");
     for (number, count) in tally.counts.iter().enumerate().skip(1) {
         let given = REFUSALS.contains(&number);
         assert!(given || *count == 0, "refused {number}");
@@ -54,21 +71,6 @@ fn random_files() {
 // ---------------------------------------------------------------------------
 // A position among others, by the proved engine alone
 // ---------------------------------------------------------------------------
-
-/// What the proved engine returns, and the kinds, losses and numbers that it
-/// writes.
-type Answer = (u64, Vec<u8>, Vec<i64>, [i64; 5]);
-
-fn proved(file: &[u8]) -> Answer {
-    let mut kinds = vec![NO_KIND; MOST_POSITIONS];
-    let mut losses = vec![NO_LOSS; MOST_POSITIONS];
-    let mut numbers = [0; 5];
-    let returned = engine::report(file, &mut kinds, &mut losses, &mut numbers);
-    // A refused call leaves the number of positions at 0.
-    kinds.truncate(numbers[0] as usize);
-    losses.truncate(numbers[0] as usize);
-    (returned, kinds, losses, numbers)
-}
 
 /// What reading and judging say of a position alone.
 struct Alone {
@@ -104,28 +106,28 @@ impl Alone {
     }
 }
 
-/// The report that these make.
-fn put_together(positions: &[Alone]) -> Answer {
+/// The report that these make by scale 1 or 2.
+fn put_together(positions: &[Alone], scale: i64) -> Answer {
     let losses = |kind: u8| -> Vec<i64> {
         let here = positions.iter().filter(|alone| alone.kind == kind);
         here.filter_map(Alone::thousandths).collect()
     };
     let (max, min) = (losses(1), losses(2));
-    let listed = positions
-        .iter()
-        .map(|alone| alone.thousandths().unwrap_or(-1));
-    (
-        0,
-        positions.iter().map(|alone| alone.kind).collect(),
-        listed.collect(),
-        [
+    let listed = || positions.iter().map(Alone::thousandths);
+    let mark = |loss: Option<i64>| mark_number(loss.map(|loss| marked(scale, loss)));
+    Answer {
+        returned: 0,
+        kinds: positions.iter().map(|alone| alone.kind).collect(),
+        losses: listed().map(|loss| loss.unwrap_or(-1)).collect(),
+        marks: listed().map(mark).collect(),
+        numbers: [
             positions.len() as i64,
             max.len() as i64,
             max.iter().sum(),
             min.len() as i64,
             min.iter().sum(),
         ],
-    )
+    }
 }
 
 /// Counts where another way to round would have changed a loss or a sum.
@@ -160,9 +162,12 @@ fn each_position_alone() {
         let mut random = Random::of_case(tally.seed, number);
         let positions = whole(&mut random);
         let alone: Vec<Alone> = positions.iter().map(Alone::of).collect();
-        let expected = put_together(&alone);
-        assert_eq!(proved(&file(&positions)), expected, "{}", tally.place());
-        tally.add(&[0]);
+        for scale in [1, 2] {
+            let expected = put_together(&alone, scale);
+            let answer = proved(&file(&positions), scale);
+            assert_eq!(answer, expected, "{}", tally.place());
+        }
+        tally.add(&[0; 2]);
         count_rounding(&mut seen, &alone);
     }
     tally.report();
@@ -171,23 +176,27 @@ fn each_position_alone() {
 
 /// The answer for a file that is made of two, the first with nothing wrong in it.
 fn joined(first: Answer, second: Answer) -> Answer {
-    let (_, mut kinds, mut losses, mut numbers) = first;
-    let (code, more_kinds, more_losses, more) = second;
+    let refused = |returned| Answer {
+        returned,
+        ..Answer::default()
+    };
+    let mut both = first;
+    let (before, code) = (both.kinds.len(), second.returned);
     let position = code / 1_000_000;
-    let reached = kinds.len() + more_kinds.len().max(position as usize);
+    let reached = before + second.kinds.len().max(position as usize);
     if reached > MOST_POSITIONS {
-        return (501_000_015, vec![], vec![], [0; 5]);
+        return refused(501_000_015);
     }
     if code > 0 {
-        let moved = code + 1_000_000 * kinds.len() as u64;
-        return (moved, vec![], vec![], [0; 5]);
+        return refused(code + 1_000_000 * before as u64);
     }
-    kinds.extend(more_kinds);
-    losses.extend(more_losses);
-    for (number, more) in numbers.iter_mut().zip(more) {
+    both.kinds.extend(second.kinds);
+    both.losses.extend(second.losses);
+    both.marks.extend(second.marks);
+    for (number, more) in both.numbers.iter_mut().zip(second.numbers) {
         *number += more;
     }
-    (0, kinds, losses, numbers)
+    both
 }
 
 /// A file made of two has the entries of both, and the sums of their totals,
@@ -203,26 +212,28 @@ fn two_files_in_one() {
             0 => file(&whole(&mut random)),
             _ => matches::case(&mut random),
         };
-        let expected = joined(proved(&first), proved(&second));
+        let scale = random.between(1, 2);
+        let expected = joined(proved(&first, scale), proved(&second, scale));
         let whole = [first, second].concat();
-        assert_eq!(proved(&whole), expected, "{}", tally.place());
-        tally.add(&[expected.0]);
+        assert_eq!(proved(&whole, scale), expected, "{}", tally.place());
+        tally.add(&[expected.returned]);
     }
     tally.report();
     tally.demand_refusals(&[2, 15, 16]);
     assert!(tally.counts[0] >= 1_000, "too few reports");
 }
 
-/// A refused position stops the report, whatever follows it. (What follows may
-/// stand for missing lines, so 16 is left out.)
+/// A refused position stops the report, whatever follows it, and so does a refused
+/// scale. (What follows may stand for missing lines, so 16 is left out.)
 #[test]
 fn what_follows_a_refused_position() {
     let mut tally = Tally::new("reports that stop");
     for number in 0..4_000 {
         let mut random = Random::of_case(tally.seed, number);
         let mut file = matches::case(&mut random);
-        let before = proved(&file);
-        if before.0 == 0 || before.0 % 100 == 16 {
+        let scale = matches::scale(&mut random);
+        let before = proved(&file, scale);
+        if before.returned == 0 || before.returned % 100 == 16 {
             continue;
         }
         file.extend(match random.below(3) {
@@ -232,56 +243,84 @@ fn what_follows_a_refused_position() {
                 .map(|_| random.bits() as u8)
                 .collect(),
         });
-        assert_eq!(proved(&file), before, "{}", tally.place());
-        tally.add(&[before.0]);
+        assert_eq!(proved(&file, scale), before, "{}", tally.place());
+        tally.add(&[before.returned]);
     }
     tally.report();
     assert!(tally.cases >= 500, "only {} files", tally.cases);
+    tally.demand_refusals(&[2, 14, 20]);
 }
 
 // ---------------------------------------------------------------------------
 // Answers that are known
 // ---------------------------------------------------------------------------
 
-/// Holds both engines to an answer, where so much is lent.
-fn hold_known(tally: &mut Tally, file: &[u8], lent: Lent, expected: &Result<Report, Stop>) {
-    let answer = second::report(file, lent.room());
-    assert_eq!(answer, *expected, "{}\n{}", tally.place(), escaped(file));
-    hold_to(tally, file, lent, expected);
-    tally.add(&[code(expected)]);
+/// What is listed of a position by every scale: the root's kind, and the loss in
+/// thousandths or none for "no decision".
+type Listed = (Kind, Option<i64>);
+
+/// What is known of a file by every scale.
+type Known = Result<Vec<Listed>, Stop>;
+
+/// Holds both engines to what is known, where so much is lent, by both scales; and
+/// by numbers that no scale has, one of them for each file: they are refused before
+/// all else.
+fn hold_known(tally: &mut Tally, file: &[u8], lent: Lent, known: &Known) {
+    let no_scale = NO_SCALES[tally.cases as usize % NO_SCALES.len()];
+    let codes = [1, 2, no_scale].map(|scale| {
+        let expected = match known {
+            _ if scale == no_scale => Err(stop(20, 0, 0)),
+            Ok(listed) => Ok(report_of(scale, listed)),
+            Err(stop) => Err(*stop),
+        };
+        let answer = second::report(file, scale, lent.room());
+        assert_eq!(answer, expected, "{}\n{}", tally.place(), escaped(file));
+        hold_to(tally, file, scale, lent, &expected);
+        code(&expected)
+    });
+    tally.add(&codes);
 }
 
-/// The report with these entries; a side's total is taken from those with a loss.
-fn report_of(entries: &[Entry]) -> Report {
+/// The report that lists this by scale 1 or 2; a side's total is taken from those
+/// with a loss.
+fn report_of(scale: i64, listed: &[Listed]) -> Report {
     let mut report = Report::default();
     let sides = [(Kind::Max, &mut report.max), (Kind::Min, &mut report.min)];
     for (kind, total) in sides {
-        let here = entries.iter().filter(|entry| entry.root == kind);
-        let losses: Vec<i64> = here.filter_map(|entry| entry.loss).collect();
+        let here = listed.iter().filter(|(root, _)| *root == kind);
+        let losses: Vec<i64> = here.filter_map(|(_, loss)| *loss).collect();
         total.decisions = losses.len() as i64;
         total.sum = losses.iter().sum();
     }
-    report.entries = entries.to_vec();
+    let entries = listed.iter().map(|&(root, loss)| Entry {
+        root,
+        loss,
+        mark: loss.map(|loss| marked(scale, loss)),
+    });
+    report.entries = entries.collect();
     report
 }
 
-fn refused(number: u8, line: usize, position: usize) -> Result<Report, Stop> {
+fn stop(number: u8, line: usize, position: usize) -> Stop {
     let refusal = Refusal { number, line };
-    Err(Stop { refusal, position })
+    Stop { refusal, position }
 }
 
-fn lost(root: Kind, loss: i64) -> Entry {
-    let loss = Some(loss);
-    Entry { root, loss }
+fn refused(number: u8, line: usize, position: usize) -> Known {
+    Err(stop(number, line, position))
 }
 
-fn no_decision(root: Kind) -> Entry {
-    Entry { root, loss: None }
+fn lost(root: Kind, loss: i64) -> Listed {
+    (root, Some(loss))
 }
 
-/// Positions of document 01's tables and two with a forced play, each with its
-/// entry.
-fn known() -> Vec<(Position, Entry)> {
+fn no_decision(root: Kind) -> Listed {
+    (root, None)
+}
+
+/// Positions of document 01's tables and two with a forced play, each with what is
+/// listed of it.
+fn known() -> Vec<(Position, Listed)> {
     let chance = Position::new(9_999, table_b_under_chance());
     let at = |play, table: &str| Position::new(play, dotted(table));
     vec![
@@ -310,10 +349,10 @@ fn forced_at(root: char, play: i64) -> Position {
 fn known_positions() {
     let mut tally = Tally::new("reports of known positions");
     let known = known();
-    for (first, entry) in &known {
+    for (first, listed) in &known {
         for (second, other) in &known {
             let file = file(&[first.clone(), second.clone()]);
-            let report = report_of(&[*entry, *other]);
+            let report = vec![*listed, *other];
             for numbers in 0..=ROOM {
                 let lent = Lent {
                     numbers,
@@ -331,13 +370,15 @@ fn known_positions() {
             }
         }
     }
-    let (positions, entries): (Vec<_>, Vec<_>) = known.into_iter().unzip();
-    let report = report_of(&entries);
-    assert_eq!(numbers(&report), [11, 4, 2_500, 2, 1_500]);
-    let lent = Lent::lists(entries.len());
-    hold_known(&mut tally, &file(&positions), lent, &Ok(report));
+    let (positions, listed): (Vec<_>, Vec<_>) = known.into_iter().unzip();
+    for scale in [1, 2] {
+        let report = report_of(scale, &listed);
+        assert_eq!(numbers(&report), [11, 4, 2_500, 2, 1_500]);
+    }
+    let lent = Lent::lists(listed.len());
+    hold_known(&mut tally, &file(&positions), lent, &Ok(listed));
     // Nothing lent and nothing in the file.
-    hold_known(&mut tally, b"", Lent::lists(0), &Ok(Report::default()));
+    hold_known(&mut tally, b"", Lent::lists(0), &Ok(vec![]));
     tally.report();
 }
 
@@ -361,10 +402,11 @@ fn a_forced_play_between_decisions() {
         for (root, forced) in [('M', Kind::Max), ('N', Kind::Min)] {
             for play in [1, 0, 2, -1, -999, 9_999] {
                 let file = file(&[first.clone(), forced_at(root, play), last.clone()]);
-                let entries = [lost(kind, 1_500), no_decision(forced), lost(kind, 3_000)];
-                let report = report_of(&entries);
-                assert_eq!(numbers(&report), totals);
-                hold_known(&mut tally, &file, Lent::lists(3), &Ok(report));
+                let listed = vec![lost(kind, 1_500), no_decision(forced), lost(kind, 3_000)];
+                for scale in [1, 2] {
+                    assert_eq!(numbers(&report_of(scale, &listed)), totals);
+                }
+                hold_known(&mut tally, &file, Lent::lists(3), &Ok(listed));
             }
         }
     }
@@ -376,7 +418,7 @@ fn a_forced_play_between_decisions() {
 fn every_cut() {
     let mut tally = Tally::new("reports of cut files");
     let known = known();
-    let (positions, entries): (Vec<_>, Vec<_>) =
+    let (positions, listed): (Vec<_>, Vec<_>) =
         [3, 6, 5].map(|i| known[i].clone()).into_iter().unzip();
     let whole = file(&positions);
     let mut ends = vec![0];
@@ -386,13 +428,14 @@ fn every_cut() {
     for length in 0..=whole.len() {
         let before = ends.iter().filter(|end| **end <= length).count() - 1;
         let expected = match ends.contains(&length) {
-            true => Ok(report_of(&entries[..before])),
+            true => Ok(listed[..before].to_vec()),
             false => refused(16, 0, before + 1),
         };
         hold_known(&mut tally, &whole[..length], Lent::lists(3), &expected);
     }
     tally.report();
-    assert_eq!((tally.counts[0], tally.cases), (4, whole.len() as u64 + 1));
+    // Each by both scales.
+    assert_eq!((tally.counts[0], tally.cases), (8, whole.len() as u64 + 1));
 }
 
 /// Every play number in table B, where two are a child's, and where the play is
@@ -402,15 +445,15 @@ fn every_play_number() {
     let mut tally = Tally::new("reports of every play number");
     for play in -999..=9_999 {
         let expected = match play {
-            1 => Ok(report_of(&[lost(Kind::Max, 0)])),
-            2 => Ok(report_of(&[lost(Kind::Max, 1_500)])),
+            1 => Ok(vec![lost(Kind::Max, 0)]),
+            2 => Ok(vec![lost(Kind::Max, 1_500)]),
             _ => refused(14, 0, 1),
         };
         let file = file(&[Position::new(play, dotted(TABLE_B))]);
         hold_known(&mut tally, &file, Lent::lists(1), &expected);
         for (root, kind) in [('M', Kind::Max), ('N', Kind::Min)] {
             let file = matches::file(&[forced_at(root, play)]);
-            let expected = Ok(report_of(&[no_decision(kind)]));
+            let expected = Ok(vec![no_decision(kind)]);
             hold_known(&mut tally, &file, Lent::lists(1), &expected);
         }
     }
@@ -426,7 +469,7 @@ fn every_play_line() {
     let well: HashSet<Vec<u8>> = numbers.collect();
     let mut hold = |play: Vec<u8>| {
         let expected = match well.contains(&play) {
-            true => Ok(report_of(&[no_decision(Kind::Leaf)])),
+            true => Ok(vec![no_decision(Kind::Leaf)]),
             false => refused(16, 0, 1),
         };
         let table = dotted(LONE_LEAF);
@@ -455,7 +498,7 @@ fn every_count() {
         let table = table_b_with(0, &format!("{count:>4}...4.......0.......8"));
         let mut file = file(&[Position::new(1, table)]);
         let short = match count {
-            5 => Ok(report_of(&[lost(Kind::Max, 0)])),
+            5 => Ok(vec![lost(Kind::Max, 0)]),
             6..=1_024 => refused(16, 0, 1),
             _ => refused(4, 0, 1),
         };
@@ -552,18 +595,19 @@ impl Faulty {
         columns.copy_from_slice(written.as_bytes());
     }
 
-    /// The positions, and their entries if the last one has no fault.
-    fn written(&self) -> (Vec<Position>, Vec<Entry>) {
+    /// The positions, and what is listed of them if the last one has no fault.
+    fn written(&self) -> (Vec<Position>, Vec<Listed>) {
         let before = Position::new(7, dotted(LONE_LEAF));
         let mut positions = vec![before; self.before];
         positions.push(self.position.clone());
-        let mut entries = vec![no_decision(Kind::Leaf); self.before];
-        entries.push(lost(Kind::Max, 1_500));
-        (positions, entries)
+        let mut listed = vec![no_decision(Kind::Leaf); self.before];
+        listed.push(lost(Kind::Max, 1_500));
+        (positions, listed)
     }
 }
 
-/// Every set of faults, each made in one of its ways: the report names the first.
+/// Every set of faults, each made in one of its ways: the report names the first, or
+/// the scale if that is refused.
 #[test]
 fn every_set_of_faults() {
     let mut tally = Tally::new("reports of files with several faults");
@@ -583,16 +627,22 @@ fn every_set_of_faults() {
                 first = Some((number, line));
             }
         }
-        let (positions, entries) = faulty.written();
+        let (positions, listed) = faulty.written();
         let expected = match first {
-            None => Ok(report_of(&entries)),
+            None => Ok(listed),
             Some((11, line)) => refused(11, line, 0),
             Some((number, line)) => refused(number, line, positions.len()),
         };
         let mut lent = Lent::lists(positions.len());
-        match number % 3 {
+        // By fives, so that every set of faults comes with each of these.
+        match number % 5 {
             0 => lent.kinds -= faulty.lacking,
             1 => lent.losses -= faulty.lacking,
+            2 => lent.marks -= faulty.lacking,
+            3 => {
+                lent.losses -= faulty.lacking;
+                lent.marks -= faulty.lacking;
+            }
             _ => lent = Lent::lists(positions.len() - faulty.lacking),
         }
         hold_known(&mut tally, &file(&positions), lent, &expected);
@@ -635,7 +685,7 @@ fn losses_are_rounded_down() {
     let mut tally = Tally::new("losses rounded down");
     let (mut up, mut nearest, mut none) = (0, 0, 0);
     for losses in losses().chunks(MOST_POSITIONS) {
-        let mut entries = Vec::new();
+        let mut listed_so = Vec::new();
         for loss in losses {
             let (thousandths, grains) = loss.fraction();
             let (listed, rest) = (thousandths / grains, thousandths % grains);
@@ -646,10 +696,10 @@ fn losses_are_rounded_down() {
                 b'M' => Kind::Max,
                 _ => Kind::Min,
             };
-            entries.push(lost(root, listed));
+            listed_so.push(lost(root, listed));
         }
         let positions: Vec<Position> = losses.iter().map(Loss::position).collect();
-        let expected = Ok(report_of(&entries));
+        let expected = Ok(listed_so);
         let lent = Lent::lists(positions.len());
         hold_known(&mut tally, &file(&positions), lent, &expected);
     }
@@ -678,8 +728,8 @@ fn greatest_matches() {
         // All of the greatest loss, and all five by turns.
         for of in [1, 5] {
             let turns = known[..of].iter().cycle().take(MOST_POSITIONS);
-            let (mut positions, entries): (Vec<_>, Vec<_>) = turns.cloned().unzip();
-            let expected = Ok(report_of(&entries));
+            let (mut positions, listed): (Vec<_>, Vec<_>) = turns.cloned().unzip();
+            let expected = Ok(listed);
             let whole = file(&positions);
             hold_known(&mut tally, &whole, Lent::lists(MOST_POSITIONS), &expected);
             let short = Lent::lists(MOST_POSITIONS - 1);
@@ -702,8 +752,11 @@ fn a_byte_after_500_positions() {
     let lent = Lent::lists(MOST_POSITIONS);
     let mut file = file(&positions);
     let length = file.len();
-    hold_to(&tally, &file, lent, &second::report(&file, MOST_POSITIONS));
-    assert_eq!(proved(&file).3[0], 500);
+    for scale in [1, 2] {
+        let report = second::report(&file, scale, MOST_POSITIONS);
+        hold_to(&tally, &file, scale, lent, &report);
+        assert_eq!(proved(&file, scale).numbers[0], 500);
+    }
     for byte in 0..=u8::MAX {
         file.truncate(length);
         for bytes in [1, 4, 25] {
@@ -723,7 +776,8 @@ fn largest_tables() {
         let setting = [Knobs::largest, Knobs::largest_chains, Knobs::largest_plain];
         let positions = (0..3).map(|i| matches::position(setting[i], &mut random));
         let positions: Vec<Position> = positions.collect();
-        comparison.hold(&file(&positions)).expect("whole");
+        let scale = random.between(1, 2);
+        comparison.hold(&file(&positions), scale).expect("whole");
     }
     comparison.tally.report();
 }

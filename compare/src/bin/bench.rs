@@ -7,7 +7,7 @@ use std::hint::black_box;
 use std::time::{Duration, Instant};
 
 use compare::engine::{self, Lent, Record};
-use compare::hold::{kind_number, reporting};
+use compare::hold::{kind_number, mark_number, reporting};
 use compare::random::{seed, Random};
 use compare::second::{self, root_children, Bounds, Judgement, LINE, MOST_NODES};
 use compare::texts::bench::{bushy, bushy_plain, deep, flat, Shape};
@@ -460,6 +460,9 @@ fn print(cases: &[Case]) {
 const POSITIONS: usize = 200;
 const MATCH_LINES: usize = 400;
 
+/// The marking scale of new books.
+const SCALE: i64 = 2;
+
 /// A match whose tables have one shape.
 struct Match {
     shape: &'static str,
@@ -525,14 +528,23 @@ impl Match {
     fn check(&self) {
         let mut kinds = [0; POSITIONS];
         let mut losses = [0; POSITIONS];
+        let mut marks = [0; POSITIONS];
         let mut numbers = [0; 5];
-        let returned = engine::report(&self.file, &mut kinds, &mut losses, &mut numbers);
+        let returned = engine::report(
+            &self.file,
+            SCALE,
+            &mut kinds,
+            &mut losses,
+            &mut marks,
+            &mut numbers,
+        );
         assert_eq!(returned, 0, "a whole match");
-        let report = second::report(&self.file, POSITIONS).expect("a whole match");
+        let report = second::report(&self.file, SCALE, POSITIONS).expect("a whole match");
         assert_eq!(numbers, reporting::numbers(&report));
         for (i, entry) in report.entries.iter().enumerate() {
             assert_eq!(kinds[i], kind_number(entry.root));
             assert_eq!(Some(losses[i]), entry.loss);
+            assert_eq!(marks[i], mark_number(entry.mark));
         }
     }
 
@@ -552,12 +564,12 @@ impl Match {
 
     fn report(&self) -> f64 {
         let (mut kinds, mut losses) = ([0; POSITIONS], [0; POSITIONS]);
-        let mut numbers = [0; 5];
+        let (mut marks, mut numbers) = ([0; POSITIONS], [0; 5]);
         time(|| {
             let file = black_box(&self.file[..]);
             let (kinds, losses) = (black_box(&mut kinds), black_box(&mut losses));
-            let numbers = black_box(&mut numbers);
-            black_box(engine::report(file, kinds, losses, numbers));
+            let (marks, numbers) = (black_box(&mut marks), black_box(&mut numbers));
+            black_box(engine::report(file, SCALE, kinds, losses, marks, numbers));
         })
     }
 
@@ -576,7 +588,7 @@ impl Match {
     fn second(&self) -> f64 {
         time(|| {
             let file = black_box(&self.file[..]);
-            let _ = black_box(second::report(file, POSITIONS));
+            let _ = black_box(second::report(file, SCALE, POSITIONS));
         })
     }
 }

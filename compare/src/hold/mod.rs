@@ -14,7 +14,7 @@ pub mod tally;
 pub mod turning;
 pub mod worth;
 
-use crate::second::{Kind, Refusal, Table};
+use crate::second::{Kind, Mark, Refusal, Table};
 
 /// What the proved engine must return: 0, or the refusal's line and number.
 pub fn code<T>(answer: &Result<T, Refusal>) -> u64 {
@@ -31,6 +31,17 @@ pub fn kind_number(kind: Kind) -> u8 {
         Kind::Max => 1,
         Kind::Min => 2,
         Kind::Chance => 3,
+    }
+}
+
+/// The number that the proved engine writes for a mark, or for none.
+pub fn mark_number(mark: Option<Mark>) -> u8 {
+    match mark {
+        None => 0,
+        Some(Mark::NoMark) => 1,
+        Some(Mark::Doubtful) => 2,
+        Some(Mark::Error) => 3,
+        Some(Mark::Blunder) => 4,
     }
 }
 

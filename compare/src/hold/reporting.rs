@@ -1,20 +1,22 @@
 //! The report of a match: the refusal with its line and position, or each entry
 //! and the totals; and that all else in what was lent is left as it was.
 
-use super::kind_number;
 use super::numbers::{agree, ROOM};
 use super::seen::{Seen, ROOTS, SIDES};
 use super::tally::Tally;
+use super::{kind_number, mark_number};
 use crate::engine;
+use crate::random::Random;
 use crate::second::{
-    self, root_children, Entry, Kind, Position, Refusal, Report, Stop, LINE, MOST_NODES,
+    self, root_children, Entry, Kind, Position, Refusal, Report, Stop, LINE, MARKS, MOST_NODES,
     MOST_POSITIONS, PLAY_LINE,
 };
 use crate::texts::examples::escaped;
 
 /// No call writes these, so an entry that was written shows.
-pub const NO_KIND: u8 = 0xa5;
-pub const NO_LOSS: i64 = -0x5a5a_5a5a_5a5a_5a5a;
+const NO_KIND: u8 = 0xa5;
+const NO_LOSS: i64 = -0x5a5a_5a5a_5a5a_5a5a;
+const NOT_A_MARK: u8 = 0xc3;
 
 /// Entries kept as a guard after a list lent.
 const GUARD: usize = 2;
@@ -27,23 +29,60 @@ const LONG: usize = MOST_POSITIONS + 2;
 pub struct Lent {
     pub kinds: usize,
     pub losses: usize,
+    pub marks: usize,
     pub numbers: usize,
 }
 
 impl Lent {
-    /// Two lists of one length, and more numbers than are written.
+    /// Three lists of one length, and more numbers than are written.
     pub fn lists(length: usize) -> Lent {
         Lent {
             kinds: length,
             losses: length,
+            marks: length,
             numbers: ROOM,
         }
     }
 
-    /// The entries of the shorter list.
+    /// The entries of the shortest list.
     pub fn room(&self) -> usize {
-        self.kinds.min(self.losses)
+        self.kinds.min(self.losses).min(self.marks)
     }
+}
+
+/// What the proved engine returns for a file, and what it writes.
+#[derive(Clone, Debug, Default, PartialEq, Eq)]
+pub struct Answer {
+    pub returned: u64,
+    pub kinds: Vec<u8>,
+    pub losses: Vec<i64>,
+    pub marks: Vec<u8>,
+    pub numbers: [i64; 5],
+}
+
+/// The proved engine's answer, where lists are lent that are long enough.
+pub fn proved(file: &[u8], scale: i64) -> Answer {
+    let mut answer = Answer {
+        returned: 0,
+        kinds: vec![NO_KIND; MOST_POSITIONS],
+        losses: vec![NO_LOSS; MOST_POSITIONS],
+        marks: vec![NOT_A_MARK; MOST_POSITIONS],
+        numbers: [0; 5],
+    };
+    answer.returned = engine::report(
+        file,
+        scale,
+        &mut answer.kinds,
+        &mut answer.losses,
+        &mut answer.marks,
+        &mut answer.numbers,
+    );
+    // A refused call leaves the number of positions at 0.
+    let positions = answer.numbers[0] as usize;
+    answer.kinds.truncate(positions);
+    answer.losses.truncate(positions);
+    answer.marks.truncate(positions);
+    answer
 }
 
 /// What the proved engine must return.
@@ -69,34 +108,46 @@ pub fn numbers(report: &Report) -> [i64; 5] {
 }
 
 /// Holds the proved engine to this, where so much is lent.
-pub fn hold_to(tally: &Tally, file: &[u8], lent: Lent, expected: &Result<Report, Stop>) {
+pub fn hold_to(
+    tally: &Tally,
+    file: &[u8],
+    scale: i64,
+    lent: Lent,
+    expected: &Result<Report, Stop>,
+) {
     let (entries, numbers) = match expected {
         Ok(report) => (&report.entries[..], &numbers(report)[..]),
         Err(_) => (&[][..], &[][..]),
     };
     let mut kinds = vec![NO_KIND; lent.kinds + GUARD];
     let mut losses = vec![NO_LOSS; lent.losses + GUARD];
-    let asked = format_args!("the report with {lent:?}");
+    let mut marks = vec![NOT_A_MARK; lent.marks + GUARD];
+    let asked = format_args!("the report by scale {scale} with {lent:?}");
     let returned = (code(expected), numbers);
     agree(tally, file, asked, lent.numbers, returned, |numbers| {
         let (kinds, losses) = (&mut kinds[..lent.kinds], &mut losses[..lent.losses]);
-        engine::report(file, kinds, losses, numbers)
+        let marks = &mut marks[..lent.marks];
+        engine::report(file, scale, kinds, losses, marks, numbers)
     });
 
     let mut expected_kinds = vec![NO_KIND; kinds.len()];
     let mut expected_losses = vec![NO_LOSS; losses.len()];
+    let mut expected_marks = vec![NOT_A_MARK; marks.len()];
     for (i, entry) in entries.iter().enumerate() {
         expected_kinds[i] = kind_number(entry.root);
         expected_losses[i] = entry.loss.unwrap_or(-1);
+        expected_marks[i] = mark_number(entry.mark);
     }
-    if kinds != expected_kinds || losses != expected_losses {
+    if kinds != expected_kinds || losses != expected_losses || marks != expected_marks {
         panic!(
             "{}: the engines differ on {asked}\n\
-             {NO_KIND} and {NO_LOSS} stand for each entry left alone\n\
+             {NO_KIND}, {NO_LOSS} and {NOT_A_MARK} stand for each entry left alone\n\
              kinds: expected {expected_kinds:?}\n\
              got {kinds:?}\n\
              losses: expected {expected_losses:?}\n\
              got {losses:?}\n\
+             marks: expected {expected_marks:?}\n\
+             got {marks:?}\n\
              file of {} bytes:\n{}",
             tally.place(),
             file.len(),
@@ -108,14 +159,17 @@ pub fn hold_to(tally: &Tally, file: &[u8], lent: Lent, expected: &Result<Report,
 /// Compares the two engines on files.
 pub struct Comparison {
     pub tally: Tally,
-    /// What the accepted files and the lists lent for them, and what the refused
-    /// files were like.
+    /// What the reported files and the refused ones were like.
     pub accepted: Seen,
     pub refused: Seen,
-    /// What the forced plays of accepted files were like.
+    /// The lists lent where it is their lengths that decide.
+    pub lists: Seen,
+    /// What was given besides a scale that is refused.
+    pub scales: Seen,
+    /// What the forced plays of reported files were like.
     pub forced: Seen,
     /// Files compared so far; it sets the lengths lent next.
-    turn: usize,
+    turn: u64,
 }
 
 impl Comparison {
@@ -124,90 +178,132 @@ impl Comparison {
             tally: Tally::new(name),
             accepted: Seen::default(),
             refused: Seen::default(),
+            lists: Seen::default(),
+            scales: Seen::default(),
             forced: Seen::default(),
             turn: 0,
         }
     }
 
-    /// Gives a file to both engines with lists of several lengths. Fails the test
-    /// unless they agree.
-    pub fn hold(&mut self, file: &[u8]) -> Result<Report, Stop> {
-        let answer = second::report(file, usize::MAX);
-        let positions = answer.as_ref().ok().map(|report| report.entries.len());
+    /// Gives a file and a scale's number to both engines with lists of several
+    /// lengths. Fails the test unless they agree.
+    pub fn hold(&mut self, file: &[u8], scale: i64) -> Result<Report, Stop> {
+        let answer = second::report(file, scale, usize::MAX);
+        let no_scale = second::steps(scale).is_none();
+        // What a file would be reported as by a scale that there is.
+        let otherwise = match no_scale {
+            true => second::report(file, 1, usize::MAX),
+            false => answer.clone(),
+        };
+        let positions = otherwise.as_ref().ok().map(|report| report.entries.len());
         let mut codes = Vec::new();
         for lent in self.lengths(positions) {
-            let expected = second::report(file, lent.room());
-            hold_to(&self.tally, file, lent, &expected);
+            let expected = second::report(file, scale, lent.room());
+            hold_to(&self.tally, file, scale, lent, &expected);
             codes.push(code(&expected));
-            match positions {
-                Some(positions) => count_lists(&mut self.accepted, lent, positions),
-                None => self.refused.count("a list of no entries", lent.room() == 0),
+            if no_scale {
+                count_scale(&mut self.scales, scale, lent, positions);
+            } else if let Some(positions) = positions {
+                count_lists(&mut self.lists, lent, positions);
+            } else {
+                self.refused.count("a list of no entries", lent.room() == 0);
             }
         }
         self.tally.add(&codes);
         match &answer {
             Ok(report) => {
-                count_report(&mut self.accepted, report);
+                count_report(&mut self.accepted, scale, report);
                 count_forced(&mut self.forced, file, report);
             }
+            Err(stop) if no_scale => assert_eq!(code(&Err(*stop)), 20),
             Err(stop) => count_stop(&mut self.refused, file, *stop),
         }
         answer
     }
 
-    /// The lengths to lend, by turns: lists exact, longer, or too short, one of
-    /// the two or both, and room for 0 to 6 numbers.
+    /// The lengths to lend for a file of so many positions: once lists that are
+    /// long enough, once any; for a file that is refused any, once. Each length is
+    /// drawn for itself, and so is the room for 0 to 6 numbers.
     fn lengths(&mut self, positions: Option<usize>) -> Vec<Lent> {
         self.turn += 1;
-        let Some(exact) = positions else {
-            return vec![self.lent([(0, 0), (LONG, LONG), (1, LONG), (LONG, 0)][self.turn % 4])];
+        // Not the numbers that the file was made with.
+        let random = &mut Random::of_case(!self.tally.seed, self.turn);
+        let mut lent = |length: &dyn Fn(&mut Random) -> usize| Lent {
+            kinds: length(random),
+            losses: length(random),
+            marks: length(random),
+            numbers: random.below(ROOM + 1),
         };
-        let fewer = exact.saturating_sub(1);
-        let longer = exact + 1 + self.turn % 30;
-        let pairs = match self.turn % 8 {
-            0 => [(exact, exact), (fewer, exact)],
-            1 => [(exact, exact), (exact, fewer)],
-            2 => [(longer, longer), (fewer, fewer)],
-            3 => [(exact, longer), (exact / 2, exact)],
-            4 => [(longer, exact), (LONG, 0)],
-            5 => [(MOST_POSITIONS, MOST_POSITIONS), (0, LONG)],
-            6 => [(LONG, LONG), (fewer, longer)],
-            _ => [(exact, LONG), (LONG, exact)],
-        };
-        pairs.map(|pair| self.lent(pair)).to_vec()
-    }
-
-    /// Lists of these lengths, and the next room for numbers.
-    fn lent(&self, (kinds, losses): (usize, usize)) -> Lent {
-        let numbers = (self.turn / 8 + kinds) % (ROOM + 1);
-        Lent {
-            kinds,
-            losses,
-            numbers,
+        match positions {
+            Some(exact) => vec![
+                lent(&|random| enough(exact, random)),
+                lent(&|random| match random.one_in(2) {
+                    true => enough(exact, random),
+                    false => random.pick(&[exact.saturating_sub(1), exact / 2, 0]),
+                }),
+            ],
+            None => vec![lent(&|random| random.pick(&[0, 1, LONG]))],
         }
     }
 }
 
+/// The length of a list for so many positions: exact in half the cases, or longer.
+fn enough(exact: usize, random: &mut Random) -> usize {
+    match random.below(6) {
+        0..=2 => exact,
+        3 => exact + 1 + random.below(30),
+        4 => MOST_POSITIONS,
+        _ => LONG,
+    }
+}
+
 fn count_lists(seen: &mut Seen, lent: Lent, positions: usize) {
-    let lists = [("kinds", lent.kinds), ("losses", lent.losses)];
+    let lists = [
+        ("kinds", lent.kinds),
+        ("losses", lent.losses),
+        ("marks", lent.marks),
+    ];
+    let short = lists.iter().filter(|(_, length)| *length < positions);
+    let short = short.count();
     for (name, length) in lists {
         let mut count = |sort, is_one| seen.count(&format!("{name} {sort}"), is_one);
         count("exact", length == positions);
         count("longer", length > positions);
         count("too short by one", length + 1 == positions);
+        let here = length < positions;
+        count("alone too short", here && short == 1);
+        count("alone long enough", !here && short == 2);
     }
-    let (kinds, losses) = (lent.kinds < positions, lent.losses < positions);
-    seen.count("kinds alone too short", kinds && !losses);
-    seen.count("losses alone too short", losses && !kinds);
-    seen.count("both too short", kinds && losses);
-    if !kinds && !losses {
-        for room in 0..=ROOM {
-            seen.count(&format!("room for {room} numbers"), lent.numbers == room);
-        }
+    seen.count("all three too short", short == 3);
+    for room in 0..=ROOM {
+        let here = short == 0 && lent.numbers == room;
+        seen.count(&format!("room for {room} numbers"), here);
     }
 }
 
-fn count_report(seen: &mut Seen, report: &Report) {
+/// Counts what a refused scale's number was like, and what else would have been
+/// refused: 20 comes before all else.
+fn count_scale(seen: &mut Seen, scale: i64, lent: Lent, positions: Option<usize>) {
+    let short = positions.is_some_and(|positions| lent.room() < positions);
+    let nothing = positions.is_some() && !short;
+    seen.count("20 and nothing else to refuse", nothing);
+    seen.count("20 for a file refused otherwise", positions.is_none());
+    seen.count("20 with a list too short", short);
+
+    seen.count("scale 0", scale == 0);
+    seen.count("scale 3", scale == 3);
+    seen.count("scale -1", scale == -1);
+    seen.count("the least number", scale == i64::MIN);
+    seen.count("the greatest number", scale == i64::MAX);
+    for (bits, lost) in [(8, 56), (16, 48), (32, 32)] {
+        // What is left of it in a type of so many bits.
+        let kept = scale << lost >> lost;
+        let sort = format!("1 or 2 in {bits} bits");
+        seen.count(&sort, kept == 1 || kept == 2);
+    }
+}
+
+fn count_report(seen: &mut Seen, scale: i64, report: &Report) {
     let (entries, count) = (&report.entries, report.entries.len());
     seen.count("no position", count == 0);
     seen.count("one position", count == 1);
@@ -228,6 +324,13 @@ fn count_report(seen: &mut Seen, report: &Report) {
         entry.loss.is_some_and(|loss| 0 < loss && loss < 1_000)
     });
     add("a point or more lost", &|entry| entry.loss >= Some(1_000));
+    for of in [1, 2] {
+        for mark in MARKS {
+            add(&format!("{mark:?} by scale {of}"), &|entry| {
+                scale == of && entry.mark == Some(mark)
+            });
+        }
+    }
 
     let (max, min) = (report.max, report.min);
     let (at_max, at_min) = (max.decisions > 0, min.decisions > 0);
@@ -246,6 +349,7 @@ fn count_forced(seen: &mut Seen, file: &[u8], report: &Report) {
         let forced = Entry {
             root: kind,
             loss: None,
+            mark: None,
         };
         let beside = total.decisions > 0 && report.entries.contains(&forced);
         let sort = format!("forced plays beside decisions at {kind:?}");
@@ -314,7 +418,7 @@ fn count_fifteen(seen: &mut Seen, rest: &[u8], refused: bool) {
 fn count_sixteen(seen: &mut Seen, rest: &[u8], refused: bool) {
     let length = rest.len();
     let (line, _) = rest.split_at(length.min(PLAY_LINE));
-    let well = refused && second::report(&[line, LONE_LEAF].concat(), 1).is_ok();
+    let well = refused && second::report(&[line, LONE_LEAF].concat(), 1, 1).is_ok();
     let short = length < PLAY_LINE + LINE;
     seen.count("16, fewer than 5 bytes", refused && length < PLAY_LINE);
     seen.count("16, a good line and fewer than 30 bytes", well && short);

@@ -9,7 +9,7 @@ use crate::random::seed;
 pub const OF_TABLES: [usize; 10] = [1, 2, 3, 4, 5, 6, 7, 8, 9, 10];
 
 /// The last refusal's number.
-const LAST: usize = 16;
+const LAST: usize = 20;
 
 /// Counts the texts of a test, and what the engines returned for them: once for
 /// each text, or for each question asked of it.

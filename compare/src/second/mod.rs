@@ -5,6 +5,7 @@
 
 pub mod desk;
 mod judge;
+mod marking;
 mod program;
 mod read;
 mod report;
@@ -15,6 +16,7 @@ mod turn;
 mod worth;
 
 pub use judge::{judge, Judgement};
+pub use marking::{mark, steps, Mark, MARKS};
 pub use program::output;
 pub use read::read;
 pub use report::{

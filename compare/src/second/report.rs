@@ -1,8 +1,10 @@
 //! The report of a match (document 02, Item 1): refusals 11, 15 and 16, besides
 //! those of a table and of judging. A forced play counts for neither side
-//! (document 02, Item 2).
+//! (document 02, Item 2). Each loss is marked by one of two scales, and 20 refuses
+//! another before all else (document 02, Item 11).
 
 use super::judge::{judge, Judgement};
+use super::marking::{mark, steps, Mark};
 use super::read::{field, read, Header};
 use super::table::*;
 
@@ -19,6 +21,8 @@ pub struct Entry {
     pub root: Kind,
     /// The loss in thousandths of a point; none for "no decision".
     pub loss: Option<i64>,
+    /// The mark of that loss.
+    pub mark: Option<Mark>,
 }
 
 /// The decisions of one side, and the sum of the losses listed for it.
@@ -50,21 +54,21 @@ pub struct Position<'a> {
     pub text: &'a [u8],
 }
 
-/// Reports a match into lists of which the shortest has so many entries.
-pub fn report(file: &[u8], room: usize) -> Result<Report, Stop> {
+/// Reports a match by the marking scale with this number, into lists of which the
+/// shortest has so many entries.
+pub fn report(file: &[u8], scale: i64, room: usize) -> Result<Report, Stop> {
+    let steps = steps(scale).ok_or(of_no_position(20))?;
     let mut report = Report::default();
     let mut rest = file;
     while !rest.is_empty() {
         let position = report.entries.len() + 1;
-        let (entry, after) = next(rest, position).map_err(|refusal| Stop { refusal, position })?;
+        let (entry, after) =
+            next(rest, position, steps).map_err(|refusal| Stop { refusal, position })?;
         report.add(entry);
         rest = after;
     }
     if room < report.entries.len() {
-        return Err(Stop {
-            refusal: refusal(11),
-            position: 0,
-        });
+        return Err(of_no_position(11));
     }
     Ok(report)
 }
@@ -97,12 +101,12 @@ impl Report {
 }
 
 /// The entry of the position that begins here, and what follows it.
-fn next(rest: &[u8], number: usize) -> Result<(Entry, &[u8]), Refusal> {
+fn next(rest: &[u8], number: usize, steps: [i64; 3]) -> Result<(Entry, &[u8]), Refusal> {
     if number > MOST_POSITIONS {
         return Err(refusal(15));
     }
     let (position, after) = Position::take(rest)?;
-    Ok((position.entry()?, after))
+    Ok((position.entry(steps)?, after))
 }
 
 impl<'a> Position<'a> {
@@ -115,16 +119,19 @@ impl<'a> Position<'a> {
         Ok((Position { play, text }, after))
     }
 
-    /// What is listed of it: the refusals of its table, 14.
-    fn entry(&self) -> Result<Entry, Refusal> {
+    /// What is listed of it, marked by these steps: the refusals of its table, 14.
+    fn entry(&self, steps: [i64; 3]) -> Result<Entry, Refusal> {
         let table = read(self.text)?;
         let loss = match judge(&table, self.play)? {
             Judgement::NoDecision => None,
             // No loss is below zero, so this rounds down.
             Judgement::Loss { grains, .. } => Some(1_000 * grains / table.grains),
         };
-        let root = table.nodes[0].kind;
-        Ok(Entry { root, loss })
+        Ok(Entry {
+            root: table.nodes[0].kind,
+            loss,
+            mark: loss.map(|loss| mark(steps, loss)),
+        })
     }
 }
 
@@ -148,4 +155,12 @@ fn count(header: &[u8; LINE]) -> Result<usize, u8> {
 
 fn refusal(number: u8) -> Refusal {
     Refusal { number, line: 0 }
+}
+
+/// A refusal for which no one position is to blame.
+fn of_no_position(number: u8) -> Stop {
+    Stop {
+        refusal: refusal(number),
+        position: 0,
+    }
 }

@@ -1,6 +1,7 @@
 //! Tables made by a plan of what each play at the root loses: nothing, though the
 //! plays are different subtrees; a grain, nearly a point, a point, or more. Other
-//! random tables seldom have plays so close to each other (document 02, Item 8).
+//! random tables seldom have plays so close to each other (document 02, Item 8). A
+//! plan may also be given, as that of a match is (document 02, Item 11).
 
 use super::draft::Draft;
 use super::grow::parts;
@@ -26,6 +27,18 @@ const SIDES_BELOW: usize = 3;
 /// then has less than 500 lines, so there are never more than 1,024.
 const MANY_LINES: usize = 300;
 
+/// What a table is made by.
+pub struct Plan {
+    /// T, at least 2.
+    pub total: i64,
+    /// K, at least 1.
+    pub chances: u32,
+    pub ends: (i64, i64),
+    /// What each play loses, in grains; one of them nothing, and none more than the
+    /// ends are apart. They are at most eight.
+    pub losses: Vec<i64>,
+}
+
 pub fn planned(random: &mut Random) -> Planned {
     let total = match random.below(3) {
         0 => random.pick(&[2, 3, WAYS, MOST_TOTAL - 1, MOST_TOTAL]),
@@ -34,44 +47,64 @@ pub fn planned(random: &mut Random) -> Planned {
     let chances = 1 + random.below(MOST_CHANCES) as u32;
     let grains = total.pow(chances);
     let ends = settings::ends(random);
-    let (low, high) = (ends.0 * grains, ends.1 * grains);
-    let losses = losses(random, grains, high - low);
-    let side = random.pick(b"MN");
-    let most = losses.iter().max().expect("a play");
-    let best = match side {
-        b'M' => best(random, grains, (low + most, high), high),
-        _ => best(random, grains, (low, high - most), low),
-    };
-
-    let mut draft = Draft::new(vec![total], ends);
-    let root = draft.add(side, None, None, None);
-    let deep = random.below(losses.len());
-    let mut maker = Maker {
-        random,
-        draft,
+    let losses = losses(random, grains, (ends.1 - ends.0) * grains);
+    let plan = Plan {
         total,
         chances,
-        grains,
-        ends: (low, high),
-    };
-    for (play, loss) in losses.iter().enumerate() {
-        let worth = match side {
-            b'M' => best - loss,
-            _ => best + loss,
-        };
-        let place = Place {
-            parent: root,
-            weight: None,
-            chances,
-            sides: SIDES_BELOW,
-            deep: play == deep,
-        };
-        maker.add(worth, place);
-    }
-    Planned {
-        text: maker.draft.text(),
-        grains,
+        ends,
         losses,
+    };
+    plan.table(random)
+}
+
+impl Plan {
+    /// A table by this plan, for either side.
+    pub fn table(self, random: &mut Random) -> Planned {
+        let Plan {
+            total,
+            chances,
+            ends,
+            losses,
+        } = self;
+        let grains = total.pow(chances);
+        let (low, high) = (ends.0 * grains, ends.1 * grains);
+        let side = random.pick(b"MN");
+        let most = losses.iter().max().expect("a play");
+        let best = match side {
+            b'M' => best(random, grains, (low + most, high), high),
+            _ => best(random, grains, (low, high - most), low),
+        };
+
+        let mut draft = Draft::new(vec![total], ends);
+        let root = draft.add(side, None, None, None);
+        let deep = random.below(losses.len());
+        let mut maker = Maker {
+            random,
+            draft,
+            total,
+            chances,
+            grains,
+            ends: (low, high),
+        };
+        for (play, loss) in losses.iter().enumerate() {
+            let worth = match side {
+                b'M' => best - loss,
+                _ => best + loss,
+            };
+            let place = Place {
+                parent: root,
+                weight: None,
+                chances,
+                sides: SIDES_BELOW,
+                deep: play == deep,
+            };
+            maker.add(worth, place);
+        }
+        Planned {
+            text: maker.draft.text(),
+            grains,
+            losses,
+        }
     }
 }
 

@@ -4,7 +4,8 @@
 //! Random tables come from one generator: `knobs` says what can be set, `settings`
 //! sets it, `grow` makes a draft by it, and `draft` writes that out. The damages,
 //! the inputs of the margin program and the matches begin with its tables. Only
-//! those of `level` are made otherwise, by a plan of what their plays lose.
+//! those of `level` are made otherwise, by a plan of what their plays lose; some
+//! matches are made of such tables.
 
 pub mod bench;
 pub mod broken;

@@ -16,7 +16,10 @@ pub struct Refused {
 }
 
 /// The refusals that have no line of their own.
-const WITHOUT_LINE: [u8; 6] = [1, 12, 13, 14, 15, 16];
+const WITHOUT_LINE: [u8; 7] = [1, 12, 13, 14, 15, 16, 20];
+
+/// The refusal of the command line, not of a file, so that none is named.
+const OF_NO_FILE: u8 = 20;
 
 impl Refused {
     pub fn of(text: &[u8], refusal: Refusal) -> Refused {
@@ -26,6 +29,18 @@ impl Refused {
             at: None,
             shown: shown.map(|(number, line)| (Some(number), line)),
             marks: desk::marks(text, refusal),
+        }
+    }
+
+    /// A refused scale, for which no file is looked at.
+    pub fn of_scale(stop: Stop) -> Refused {
+        let Stop { refusal, position } = stop;
+        assert_eq!((refusal.number, refusal.line, position), (20, 0, 0));
+        Refused {
+            refusal,
+            at: None,
+            shown: None,
+            marks: Vec::new(),
         }
     }
 
@@ -82,7 +97,10 @@ impl Refused {
         let at = self.at.map_or(String::new(), |(position, line)| {
             format!("position {position}, line {line} of the file: ")
         });
-        let start = format!("desk: {name}: {at}refused {number}");
+        let start = match number {
+            OF_NO_FILE => format!("desk: refused {number}"),
+            _ => format!("desk: {name}: {at}refused {number}"),
+        };
         if WITHOUT_LINE.contains(&number) {
             assert_eq!(printed, start, "{place}");
         } else if line == 0 {

@@ -3,7 +3,8 @@
 use std::ffi::{OsStr, OsString};
 
 use super::{run, Printed, Ran, Refused};
-use crate::second::desk::{self, Form, Reported};
+use crate::second;
+use crate::second::desk::{self, Form, Reported, USUAL_SCALE};
 
 /// A file that the command is given.
 #[derive(Clone)]
@@ -63,29 +64,74 @@ impl Given {
         }
     }
 
-    pub fn outcome(&self) -> Outcome {
+    pub fn outcome(&self, scale: i64) -> Outcome {
         let Some(bytes) = &self.bytes else {
             return Outcome::Unread;
         };
-        match Reported::of(&self.name(), bytes) {
+        match Reported::of(&self.name(), bytes, scale) {
             Ok(reported) => Outcome::Reported(reported),
             Err(stop) => Outcome::Refused(Refused::of_match(bytes, stop)),
         }
     }
 }
 
+/// How a report is asked for.
+#[derive(Clone, Copy, Debug)]
+pub struct Manner {
+    pub form: Form,
+    /// The scale's number, none where the option is not given.
+    pub scale: Option<i64>,
+    /// Sets where the options stand, and how the scale's number does.
+    pub turn: u64,
+}
+
+impl From<Form> for Manner {
+    /// Without a scale.
+    fn from(form: Form) -> Manner {
+        Manner {
+            form,
+            scale: None,
+            turn: 0,
+        }
+    }
+}
+
+impl Manner {
+    /// The number of the scale that is used.
+    pub fn scale(&self) -> i64 {
+        self.scale.unwrap_or(USUAL_SCALE)
+    }
+
+    /// The words of the options, in either sequence.
+    fn options(&self) -> Vec<OsString> {
+        let scale = match (self.scale, self.turn / 4 % 2) {
+            (None, _) => vec![],
+            (Some(scale), 0) => vec!["--scale".into(), scale.to_string().into()],
+            (Some(scale), _) => vec![format!("--scale={scale}").into()],
+        };
+        let tsv = match self.form {
+            Form::People => vec![],
+            Form::Tsv => vec!["--tsv".into()],
+        };
+        match self.turn / 2 % 2 {
+            0 => [tsv, scale].concat(),
+            _ => [scale, tsv].concat(),
+        }
+    }
+}
+
 /// The words of a report on these files, the options before all else or at the end
 /// by turns, and what stands on standard input.
-pub fn report_words(given: &[Given], form: Form, turn: u64) -> (Vec<OsString>, &[u8]) {
+pub fn report_words(given: &[Given], manner: impl Into<Manner>) -> (Vec<OsString>, &[u8]) {
+    let manner = manner.into();
+    let files = given.iter().filter_map(|file| file.word.clone());
     let mut words: Vec<OsString> = vec!["report".into()];
-    words.extend(given.iter().filter_map(|file| file.word.clone()));
-    if form == Form::Tsv {
-        let at = if turn.is_multiple_of(2) {
-            1
-        } else {
-            words.len()
-        };
-        words.insert(at, "--tsv".into());
+    if manner.turn.is_multiple_of(2) {
+        words.extend(manner.options());
+        words.extend(files);
+    } else {
+        words.extend(files);
+        words.extend(manner.options());
     }
     let input = given.iter().find(|file| file.is_input());
     let input = input.and_then(|file| file.bytes.as_deref());
@@ -93,19 +139,33 @@ pub fn report_words(given: &[Given], form: Form, turn: u64) -> (Vec<OsString>, &
 }
 
 /// Asks for a report on these files, and holds it to the second engine.
-pub fn hold_report(given: &[Given], form: Form, turn: u64, why: &str) -> Vec<Outcome> {
-    let (words, input) = report_words(given, form, turn);
+pub fn hold_report(given: &[Given], manner: impl Into<Manner>, why: &str) -> Vec<Outcome> {
+    let manner = manner.into();
+    let (words, input) = report_words(given, manner);
     let ran = run(&words, input);
-    hold_reported(&ran, given, form, why)
+    hold_reported(&ran, given, manner, why)
 }
 
 /// Fails the test unless this is what must come of these files, to the byte but for
-/// the words of reasons and mends and of what cannot be read.
-pub fn hold_reported(ran: &Ran, given: &[Given], form: Form, why: &str) -> Vec<Outcome> {
+/// the words of reasons and mends and of what cannot be read. Nothing comes of them
+/// where the scale is refused.
+pub fn hold_reported(
+    ran: &Ran,
+    given: &[Given],
+    manner: impl Into<Manner>,
+    why: &str,
+) -> Vec<Outcome> {
+    let manner = manner.into();
+    let (form, scale) = (manner.form, manner.scale());
+    // Of no file at all, only the scale can be refused.
+    if let Err(stop) = second::report(b"", scale, 0) {
+        Refused::of_scale(stop).hold(ran, form, "", why);
+        return Vec::new();
+    }
     let (mut out, mut err) = (Printed(&ran.out), Printed(&ran.err));
     let place = format!("{}: {why}\n{}\n{}", ran.asked, ran.out, ran.err);
     let several = given.len() > 1;
-    let outcomes: Vec<Outcome> = given.iter().map(Given::outcome).collect();
+    let outcomes: Vec<Outcome> = given.iter().map(|file| file.outcome(scale)).collect();
     let mut before = 0;
     for (file, outcome) in given.iter().zip(&outcomes) {
         match outcome {
@@ -130,7 +190,7 @@ pub fn hold_reported(ran: &Ran, given: &[Given], form: Form, why: &str) -> Vec<O
         }
     }
     if several {
-        match end(&outcomes, form) {
+        match end(&outcomes, scale, form) {
             Ok(totals) => out.take_text(&totals, &place),
             Err(none) => err.take_text(&none, &place),
         }
@@ -144,7 +204,7 @@ pub fn hold_reported(ran: &Ran, given: &[Given], form: Form, why: &str) -> Vec<O
 
 /// The end of several reports: the totals over all, or the line that says why there
 /// are none.
-fn end(outcomes: &[Outcome], form: Form) -> Result<String, String> {
+fn end(outcomes: &[Outcome], scale: i64, form: Form) -> Result<String, String> {
     let mut reported = Vec::new();
     let (mut refused, mut unread) = (0, 0);
     for outcome in outcomes {
@@ -157,7 +217,7 @@ fn end(outcomes: &[Outcome], form: Form) -> Result<String, String> {
     if refused + unread > 0 {
         return Err(desk::no_totals(outcomes.len(), refused, unread));
     }
-    let totals = desk::all(&reported, form);
+    let totals = desk::all(&reported, scale, form);
     Ok(match form {
         Form::People => format!("\n{totals}"),
         Form::Tsv => totals,

@@ -15,7 +15,7 @@ mod stopped;
 mod tree;
 mod tsv;
 
-pub use matches::{all, no_totals, printed_name, report, Reported};
+pub use matches::{all, no_totals, printed_name, report, Reported, USUAL_SCALE};
 pub use refused::{marks, shown, Stretch};
 pub use stopped::{stopped, Stopped};
 

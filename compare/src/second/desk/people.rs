@@ -3,9 +3,9 @@
 use std::fmt::Display;
 
 use super::columns::{average, listed, points, side_by_side, Column};
-use super::matches::{Reported, Sums};
+use super::matches::{word, Reported, Side, Sums};
 use super::{letter, plays, tree, Play, RolledOut, Searched};
-use crate::second::{worths, Kind, Table, Total};
+use crate::second::{worths, Kind, Table};
 
 /// The columns of a name, the blanks after it included.
 const NAME: usize = 8;
@@ -132,22 +132,15 @@ pub fn report(reported: &Reported, several: bool) -> String {
         answer += &positions(reported);
         answer += "\n";
     }
-    for (side, total) in Sums::of(reported).sides {
-        answer += &line(side, lost(total));
-    }
-    answer
+    answer += &sides(&Sums::of(reported));
+    answer + &line("scale", reported.scale)
 }
 
 /// The totals over all files.
-pub fn all(files: usize, sums: &Sums) -> String {
+pub fn all(files: usize, sums: &Sums, scale: i64) -> String {
     let positions = counted(sums.positions, "position");
-    let sides = sums
-        .sides
-        .map(|(side, total)| format!("; {side} {}", lost(total)));
-    line(
-        "all",
-        format!("{files} files, {positions}{}", sides.concat()),
-    )
+    let counts = line("all", format!("{files} files, {positions}"));
+    counts + &sides(sums) + &line("scale", scale)
 }
 
 fn positions(reported: &Reported) -> String {
@@ -157,22 +150,37 @@ fn positions(reported: &Reported) -> String {
         None => "no decision".to_string(),
     });
     let sides = entries.iter().map(|entry| letter(entry.root).to_string());
+    let marks = entries.iter().map(|entry| entry.mark.map_or("", word));
     side_by_side(&[
         Column::of_numbers("position", 1..=entries.len()),
         Column::of_words("side", sides.collect()),
         Column::of_numbers("play", reported.plays.iter()),
         Column::of_numbers("loss", losses),
+        Column::of_words("mark", marks.map(str::to_string).collect()),
     ])
 }
 
-/// What a side lost in all, and on average.
-fn lost(total: Total) -> String {
-    let Some(average) = average(total) else {
-        return "no decisions".to_string();
+/// The lines of both sides.
+fn sides(sums: &Sums) -> String {
+    sums.sides.iter().map(side).collect()
+}
+
+/// What a side lost in all and on average, and its marks.
+fn side(side: &Side) -> String {
+    let Some(average) = average(side.total) else {
+        return line(side.letter, "no decisions");
     };
-    let decisions = counted(total.decisions, "decision");
-    let lost = listed(total.sum);
-    format!("{decisions}, {lost} points lost, {average} each")
+    let decisions = counted(side.total.decisions, "decision");
+    let lost = listed(side.total.sum);
+    let [none, doubtful, errors, blunders] = side.marks;
+    let (errors, blunders) = (counted(errors, "error"), counted(blunders, "blunder"));
+    line(
+        side.letter,
+        format!("{decisions}, {lost} points lost, {average} each"),
+    ) + &line(
+        "marks",
+        format!("{none} no mark, {doubtful} doubtful, {errors}, {blunders}"),
+    )
 }
 
 /// A number of these, in the plural unless it is 1.

@@ -3,9 +3,9 @@
 use std::fmt::Display;
 
 use super::columns::{average, listed, points};
-use super::matches::{Reported, Sums};
+use super::matches::{word, Reported, Side, Sums};
 use super::{letter, plays, Play, RolledOut, Searched};
-use crate::second::{worths, Kind, Table, Total};
+use crate::second::{worths, Kind, Table};
 
 pub fn worth(table: &Table, worth: i64) -> String {
     row("worth", &[&amount(table, worth)]) + &grain(table)
@@ -92,31 +92,49 @@ fn child(table: &Table, searched: &Searched, play: &Play) -> String {
 
 pub fn report(reported: &Reported) -> String {
     let mut answer = row("file", &[&reported.name]);
+    answer += &row("scale", &[&reported.scale]);
     let positions = reported.report.entries.iter().zip(&reported.plays);
     for (number, (entry, play)) in (1..).zip(positions) {
         let (kind, loss) = (letter(entry.root), field(entry.loss));
-        let points = field(entry.loss.map(listed));
-        answer += &row("position", &[&number, &kind, play, &loss, &points]);
+        let (points, mark) = (field(entry.loss.map(listed)), field(entry.mark.map(word)));
+        answer += &row("position", &[&number, &kind, play, &loss, &points, &mark]);
     }
     let sums = Sums::of(reported);
     answer += &row("positions", &[&sums.positions]);
-    for (side, total) in sums.sides {
-        answer += &row("total", &[&side, &lost(total)]);
+    for side in &sums.sides {
+        answer += &row("total", &[&side.letter, &lost(side), &marks(side)]);
     }
     answer
 }
 
 /// The totals over all files.
 pub fn all(files: usize, sums: &Sums) -> String {
-    let [max, min] = sums.sides.map(|(_, total)| lost(total));
-    row("all", &[&files, &sums.positions, &max, &min])
+    let [max, min] = &sums.sides;
+    let (lost_max, lost_min) = (lost(max), lost(min));
+    let (marks_max, marks_min) = (marks(max), marks(min));
+    row(
+        "all",
+        &[
+            &files,
+            &sums.positions,
+            &lost_max,
+            &lost_min,
+            &marks_max,
+            &marks_min,
+        ],
+    )
 }
 
-/// The four fields of a side's total.
-fn lost(total: Total) -> String {
-    let Total { decisions, sum } = total;
-    let (points, average) = (listed(sum), field(average(total)));
+/// The four fields of what a side lost.
+fn lost(side: &Side) -> String {
+    let (decisions, sum) = (side.total.decisions, side.total.sum);
+    let (points, average) = (listed(sum), field(average(side.total)));
     format!("{decisions}\t{sum}\t{points}\t{average}")
+}
+
+/// The four fields of a side's marks.
+fn marks(side: &Side) -> String {
+    side.marks.map(|count| count.to_string()).join("\t")
 }
 
 // The lines of several answers

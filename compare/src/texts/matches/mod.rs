@@ -1,6 +1,8 @@
-//! Random matches for the report: whole ones, and by `damage` ones that are
-//! damaged or cut.
+//! Random matches for the report: whole ones, by `damage` ones that are damaged or
+//! cut, and by `chosen` ones whose plays lose what is planned. And the numbers of
+//! marking scales.
 
+pub mod chosen;
 mod damage;
 pub mod rounding;
 
@@ -43,6 +45,54 @@ pub fn case(random: &mut Random) -> Vec<u8> {
     match random.below(3) {
         0 => file(&whole(random)),
         _ => damage::damaged(random),
+    }
+}
+
+/// The number of a marking scale: 1 or 2, or in one of six cases none of them.
+pub fn scale(random: &mut Random) -> i64 {
+    match random.one_in(6) {
+        true => no_scale(random),
+        false => random.between(1, 2),
+    }
+}
+
+/// Numbers that no scale has: next to 1 and 2, the farthest, and such as a narrower
+/// type would take for 1 or 2.
+pub const NO_SCALES: [i64; 18] = [
+    0,
+    3,
+    -1,
+    -2,
+    i64::MIN,
+    i64::MAX,
+    i64::MIN + 1,
+    i64::MIN + 2,
+    257,
+    258,
+    -255,
+    -254,
+    65_537,
+    65_538,
+    (1 << 32) + 1,
+    (1 << 32) + 2,
+    1 - (1 << 32),
+    2 - (1 << 32),
+];
+
+/// A number that no scale has.
+pub fn no_scale(random: &mut Random) -> i64 {
+    match random.below(4) {
+        0 => random.pick(&NO_SCALES[..6]),
+        1 => random.pick(&NO_SCALES),
+        // 1 or 2, and bits that a narrower type would lose.
+        2 => {
+            let above = random.bits().cast_signed() | 1;
+            random.between(1, 2) + (above << random.pick(&[8, 16, 32]))
+        }
+        _ => match random.bits().cast_signed() {
+            1 | 2 => 0,
+            number => number,
+        },
     }
 }
 
