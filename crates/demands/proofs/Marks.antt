@@ -14,27 +14,26 @@ use Rattle.mark.specs.declared.Mark.the-variants.{NoMark, Doubtful, Error, Blun
 use Rattle.mark.specs.declared.Marking.{Marking}
 use Rattle.mark.specs.declared.Marking.the-variants.{Printed, New}
 use Rattle.mark.specs.declared.Choice.{Choice}
-use Rattle.mark.specs.Marks.{printedMark, newMark, markBy, markCode, marksIn}
+use Rattle.mark.specs.Marks.{steps, printedMark, newMark, markBy, markCode, marksIn}
 use Rattle.mark.proofs.Marks.{from-doubtful, from-error, from-blunder, below-doubtful, below-error, below-blunder, earlier-steps, choice-none}
 use Rattle.report_call.specs.Call.{byScale, filled, reported, reportAnswer, reportLosses}
 use Rattle.report_call.proofs.Answered.{report-twenty}
-use Rattle.demands.specs.Marks.{PrintedSteps, NewSteps, markFor, MarksFollow, SameOtherwise, NeverMilder, TwentyIs}
+use Rattle.demands.specs.Marks.{BeginAt, PrintedSteps, NewSteps, markFor, MarksFollow, SameOtherwise, NeverMilder, TwentyIs}
 
 -- ---- where the marks of a scale begin
 
-pub printed-steps : PrintedSteps
-printed-steps = (
-  λ loss. (from-doubtful 40 80 160 loss, below-doubtful 40 80 160 loss (omega arith) (omega arith)),
-  λ loss. (from-error 40 80 160 loss, below-error 40 80 160 loss (omega arith) (omega arith)),
-  λ loss. (from-blunder 40 80 160 loss, below-blunder 40 80 160 loss (omega arith) (omega arith)),
+begin-at : (d e b : ℕ) → d ≤ e → e ≤ b → BeginAt (steps d e b) d e b
+begin-at d e b p q = (
+  λ loss. (from-doubtful d e b loss, below-doubtful d e b loss p q),
+  λ loss. (from-error d e b loss, below-error d e b loss p q),
+  λ loss. (from-blunder d e b loss, below-blunder d e b loss p q),
 )
 
+pub printed-steps : PrintedSteps
+printed-steps = begin-at 40 80 160 (omega arith) (omega arith)
+
 pub new-steps : NewSteps
-new-steps = (
-  λ loss. (from-doubtful 20 50 100 loss, below-doubtful 20 50 100 loss (omega arith) (omega arith)),
-  λ loss. (from-error 20 50 100 loss, below-error 20 50 100 loss (omega arith) (omega arith)),
-  λ loss. (from-blunder 20 50 100 loss, below-blunder 20 50 100 loss (omega arith) (omega arith)),
-)
+new-steps = begin-at 20 50 100 (omega arith) (omega arith)
 
 -- by computation, beside every step
 printed-known : map printedMark (39 ∷ 40 ∷ 79 ∷ 80 ∷ 159 ∷ 160 ∷ []) ≡ NoMark ∷ Doubtful ∷ Doubtful ∷ Error ∷ Error ∷ Blunder ∷ []

@@ -19,13 +19,16 @@ abbrev pub From : (ℕ → Mark) → Mark → (step : ℕ) → Type 0
 From mark m step =
     (loss : ℕ) → (step ≤ loss → markNumber m ≤ markNumber (mark loss)) × (loss < step → markNumber (mark loss) < markNumber m)
 
+abbrev pub BeginAt : (ℕ → Mark) → (doubtful error blunder : ℕ) → Type 0
+BeginAt mark doubtful error blunder = From mark Doubtful doubtful × From mark Error error × From mark Blunder blunder
+
 -- "Books up to this year mark a loss from 40 thousandths as doubtful, from 80 as an error, from 160 as a blunder."
 abbrev pub PrintedSteps : Type 0
-PrintedSteps = From printedMark Doubtful 40 × From printedMark Error 80 × From printedMark Blunder 160
+PrintedSteps = BeginAt printedMark 40 80 160
 
 -- "New books use 20, 50 and 100."
 abbrev pub NewSteps : Type 0
-NewSteps = From newMark Doubtful 20 × From newMark Error 50 × From newMark Blunder 100
+NewSteps = BeginAt newMark 20 50 100
 
 -- ---- at the call
 
