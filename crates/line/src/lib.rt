@@ -25,6 +25,7 @@ pub enum Refusal {
     NoChild,
     TooMany,
     NoPosition,
+    BadBudget,
     BadScale,
 }
 
@@ -82,6 +83,7 @@ pub fn refusal_number(r: Refusal) -> u64
         Refusal::NoChild => 14,
         Refusal::TooMany => 15,
         Refusal::NoPosition => 16,
+        Refusal::BadBudget => 17,
         Refusal::BadScale => 20,
     }
 }
@@ -107,6 +109,7 @@ pub fn refusal_line(r: Refusal) -> usize
         Refusal::NoChild => 0,
         Refusal::TooMany => 0,
         Refusal::NoPosition => 0,
+        Refusal::BadBudget => 0,
         Refusal::BadScale => 0,
     }
 }
