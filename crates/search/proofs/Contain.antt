@@ -6,7 +6,7 @@ use native.Mathlib.Omega.{arith}
 use Rattle.field.proofs.Small.{choose}
 use Rattle.table.specs.Tree.{Kind, MAX, MIN, CHANCE, Forest, end, leaf, inner, weigh}
 use Rattle.table.specs.Inside.{taken, sealed}
-use Rattle.search.specs.Search.{Frame, Seen, State, Rules, begin, lower, upper, update, finish, cut, stop, point, scan}
+use Rattle.search.specs.Search.{Frame, Seen, State, Rules, begin, lower, upper, update, finish, cut, stop, point, unmet, met, scan}
 use Rattle.search.specs.Inside.{natural}
 use Rattle.search.proofs.Steps.{seenUnder, seenAfter}
 use Rattle.search.proofs.Heights.{Paid, Sound, Within, start, total, worth}
@@ -79,10 +79,19 @@ pub hold-point : (e : Frame ℕ) (n h : ℕ) (l : List ℕ) → Inside e h → H
 unfolding point
 hold-point e n h l q = omega arith
 
+hold-unmet : (e : Frame ℕ) (v : ℕ) (l : List ℕ) → Inside e v → Holding e v (unmet e l)
+unfolding unmet
+hold-unmet e v l q = omega arith
+
 pub hold-under : (e d : Frame ℕ) (v : ℕ) (r : Seen ℕ) → e .bottom ≤ d .bottom → d .top ≤ e .top → Holding d v r → Holding e v r
 hold-under e d v r p q h = (le-trans p (h .0), h .1, h .2, le-trans (h .3) q)
 
 module _ (R : Rules ℕ) where
+  -- a node met unread lies between its parent's ends
+  pub hold-met : (e : Frame ℕ) (l : List ℕ) (v : ℕ) (r : Seen ℕ) → Holding e v r → Holding e v (met R e l r)
+  hold-met e l v r h =
+      choose (Holding e v) (R .full l) (λ _. hold-unmet e v l (le-trans (h .0) (h .1), le-trans (h .2) (h .3))) (λ _. h)
+
   pub kept-update : (e : Frame ℕ) (k : Kind) (n w W : ℕ) (s : State ℕ) (a : ℕ) (r : Seen ℕ) (v : ℕ) → Kept e k (w + W) s a → Holding e v r
       → Kept e k W (update natural e k n w s r) (taken k a w v)
   unfolding update
@@ -110,14 +119,14 @@ module _ (R : Rules ℕ) where
   contain e k end s a q i j = kept-finish e k s a q j
   contain e k (leaf n w h rest) s a q i j =
       let r : Seen ℕ = point n h (s .read) in
-      let j2 = kept-update e k n w (weigh rest) s a r h j (hold-point e n h _ (i .0, i .1)) in
+      let j2 = kept-update e k n w (weigh rest) s a _ h j (hold-met e (s .read) h r (hold-point e n h _ (i .0, i .1))) in
       kept-after e k rest _ _ q (i .2) j2 (contain e k rest _ _ q (i .2) j2)
   contain e k (inner n w c under rest) s a q i j =
       let d : Frame ℕ = R .frame n under in
       let r : Seen ℕ = seenUnder natural R e k n w c under s in
       let u = hold-under e d _ r (i .0) (i .1)
       (contain d c under _ _ (i .2 .paid) (i .3) (kept-begin d c under (lower natural e k w s) (upper natural e k w s) (s .read) (i .2))) in
-      let j2 = kept-update e k n w (weigh rest) s a r _ j u in
+      let j2 = kept-update e k n w (weigh rest) s a _ _ j (hold-met e (s .read) _ r u) in
       kept-after e k rest _ _ q (i .4) j2 (contain e k rest _ _ q (i .4) j2)
 
   -- low ≤ worth ≤ high inside the frame, whatever the window

@@ -1,7 +1,7 @@
 -- A search reads at most as many leaves as there are, and its play is a node of the table. Assumes nothing.
 use Prim.Native.Nat.{ℕ, _+_, _≤_, _<_}
-use mathlib.Core.Path.{_≡_, refl, subst}
-use mathlib.Core.List.{[], _∷_}
+use mathlib.Core.Path.{_≡_, subst}
+use mathlib.Core.List.{List, [], _∷_}
 use mathlib.Core.Option.{none, some}
 use native.Mathlib.Omega.{arith}
 use lib.ListN.{length, getD, length-append}
@@ -10,7 +10,7 @@ use Rattle.table.specs.Tree.{Kind, MAX, MIN, CHANCE, Forest, end, leaf, inner, 
 use Rattle.table.specs.Inside.{Slices, Spans}
 use Rattle.table.specs.Root.{children}
 use Rattle.table.proofs.Spans.{spans-le}
-use Rattle.search.specs.Search.{Frame, Play, noPlay, child, Seen, State, Arith, Rules, begin, finish, cut, point, lower, upper, beats, better, update, stop, scan, search, searchRoot, nodeOf}
+use Rattle.search.specs.Search.{Frame, Play, noPlay, child, Seen, State, Arith, Rules, begin, finish, cut, point, unmet, met, lower, upper, beats, better, update, stop, scan, search, searchRoot, nodeOf}
 use Rattle.search.specs.Inside.{grained}
 use Rattle.search.proofs.Steps.{seenUnder, seenAfter}
 
@@ -26,28 +26,35 @@ module _ {A : Type 0} (O : Arith A) (R : Rules A) where
   unfolding cut
   few-after e k rest t n h more = choose (λ (r : Seen A). length (r .read) ≤ n) (stop O (R .margin) rest t) (λ _. omega arith) (λ _. more)
 
+  pub few-met : (e : Frame A) (l : List ℕ) (r : Seen A) (n : ℕ) → length l ≤ n → length (r .read) ≤ n → length (met R e l r .read) ≤ n
+  unfolding unmet
+  few-met e l r n h more = choose (λ (r : Seen A). length (r .read) ≤ n) (R .full l) (λ _. h) (λ _. more)
+
   pub few-scan : (e : Frame A) (k : Kind) (f : Forest A) (s : State A) → length (scan O R e k f s .read) ≤ length (s .read) + leaves f
   unfolding scan finish leaves point update begin
   few-scan e k end s = omega arith
   few-scan e k (leaf n w v rest) s =
-      let t : State A = update O e k n w s (point n v (s .read)) in
-      let one : length (t .read) ≡ length (s .read) + 1 = length-append (s .read) (n ∷ []) in
+      let r : Seen A = point n v (s .read) in
+      let t : State A = update O e k n w s (met R e (s .read) r) in
+      let one : length (r .read) ≡ length (s .read) + 1 = length-append (s .read) (n ∷ []) in
+      let got : length (t .read) ≤ length (s .read) + 1 = few-met e (s .read) r _ (omega arith) (omega arith) in
       few-after e k rest t _ (omega arith) (omega (arith, few-scan e k rest t))
   few-scan e k (inner n w c under rest) s =
       let r : Seen A = seenUnder O R e k n w c under s in
-      let t : State A = update O e k n w s r in
+      let t : State A = update O e k n w s (met R e (s .read) r) in
       let d : Frame A = R .frame n under in
       let some = few-scan d c under (begin d c (lower O e k w s) (upper O e k w s) (s .read)) in
-      let same : length (t .read) ≡ length (r .read) = refl in
+      let got : length (t .read) ≤ length (s .read) + leaves under = few-met e (s .read) r _ (omega arith) some in
       few-after e k rest t _ (omega arith) (omega (arith, few-scan e k rest t))
 
   pub few-reads : (f : Forest A) → length (searchRoot O R f .read) ≤ leaves f
   unfolding searchRoot search point leaves begin
   few-reads end = omega arith
-  few-reads (leaf n w v rest) = omega arith
+  few-reads (leaf n w v rest) = few-met (R .frame n end) [] (point n v []) _ (omega arith) (omega arith)
   few-reads (inner n w k under rest) =
       let e : Frame A = R .frame n under in
-      omega (arith, few-scan e k under (begin e k (e .bottom) (e .top) []))
+      let s : State A = begin e k (e .bottom) (e .top) [] in
+      few-met e [] (scan O R e k under s) _ (omega arith) (omega (arith, few-scan e k under s))
 
 -- ---- the play
 
@@ -82,17 +89,24 @@ module _ {A : Type 0} (O : Arith A) (R : Rules A) (P : ℕ → Type 0) where
   unfolding scan finish
   among-scan e k end s h i = i
   among-scan e k (leaf m w v rest) s h i =
-      let j = among-update e k m w s (point m v (s .read)) (h .0) i in
+      let j = among-update e k m w s (met R e (s .read) (point m v (s .read))) (h .0) i in
       among-after e k rest _ j (among-scan e k rest _ (h .1) j)
   among-scan e k (inner m w c under rest) s h i =
-      let j = among-update e k m w s (seenUnder O R e k m w c under s) (h .0) i in
+      let j = among-update e k m w s (met R e (s .read) (seenUnder O R e k m w c under s)) (h .0) i in
       among-after e k rest _ j (among-scan e k rest _ (h .1) j)
+
+  among-met : (e : Frame A) (l : List ℕ) (r : Seen A) → Among (r .play) → Among (met R e l r .play)
+  unfolding unmet
+  among-met e l r i = choose (λ (r : Seen A). Among (r .play)) (R .full l) (λ _. tt) (λ _. i)
 
   among-root : (f : Forest A) → EachNode P (children f) → Among (searchRoot O R f .play)
   unfolding searchRoot search point begin
   among-root end h = tt
-  among-root (leaf m w v rest) h = tt
-  among-root (inner m w k under rest) h = let e : Frame A = R .frame m under in among-scan e k under (begin e k (e .bottom) (e .top) []) h tt
+  among-root (leaf m w v rest) h = among-met (R .frame m end) [] (point m v []) tt
+  among-root (inner m w k under rest) h =
+      let e : Frame A = R .frame m under in
+      let s : State A = begin e k (e .bottom) (e .top) [] in
+      among-met e [] (scan O R e k under s) (among-scan e k under s h tt)
 
   -- the play of a root is a root child: what holds of the number of each of these holds of its
   pub play-among : (f : Forest A) → EachNode P (children f) → (m : ℕ) → nodeOf (searchRoot O R f .play) ≡ some m → P m

@@ -1,6 +1,6 @@
 -- What an accepted table's tree of heights, in grains, has: every height within the ends, and weights of at least 1. Assumes nothing.
 use Prim.Native.Nat.{ℕ, suc, _+_, _*_, _≤_, _<_}
-use mathlib.Core.Path.{_≡_, refl, ap, ap₂}
+use mathlib.Core.Path.{_≡_, refl, ap, ap₂, _∙_}
 use mathlib.Core.Bool.{Bool}
 use native.Mathlib.Nat.{mul-le-mul-right, le-refl}
 use native.Mathlib.Omega.{arith}
@@ -8,8 +8,8 @@ use lib.IntN.{ℤ, pos, _*ℤ_}
 use Rattle.line.specs.declared.Head.{Head}
 use Rattle.line.specs.Inside.{Weighs}
 use Rattle.line.specs.Line.{Within as Between}
-use Rattle.table.specs.Tree.{Kind, MAX, MIN, CHANCE, Forest, end, leaf, inner, isChance, weigh, leaves}
-use Rattle.table.specs.Accepted.{one, Sums, Balanced, Proper}
+use Rattle.table.specs.Tree.{Kind, MAX, MIN, CHANCE, Forest, end, leaf, inner, isEnd, isChance, weigh, leaves}
+use Rattle.table.specs.Accepted.{one, Sums, Filled, Balanced, Proper, Rooted}
 use Rattle.table.proofs.Heights.{above, mapForest}
 use Rattle.table.proofs.Ends.{utility-shift}
 use Rattle.search.specs.Search.{Frame, framed}
@@ -83,3 +83,22 @@ grains-shift T G K h d c u end p = refl
 grains-shift T G K h d c u (leaf n w v rest) p = rw (utility-shift G h v (p .1), grains-shift T G K h d c u rest (p .4)) refl
 grains-shift T G K h d c u (inner n w k under rest) p =
     rw (grains-shift T G K h (suc d) (c + one k) (isChance k) under (p .3), grains-shift T G K h d c u rest (p .4)) refl
+
+-- grains change no node's place
+pub grains-end : (G : ℕ) (f : Forest ℤ) → isEnd (inGrains G f) ≡ isEnd f
+unfolding inGrains
+grains-end G end = refl
+grains-end G (leaf n w v rest) = refl
+grains-end G (inner n w k under rest) = refl
+
+pub grains-filled : (G : ℕ) (f : Forest ℤ) → Filled f → Filled (inGrains G f)
+unfolding inGrains
+grains-filled G end x = tt
+grains-filled G (leaf n w v rest) x = grains-filled G rest x
+grains-filled G (inner n w k under rest) x = (grains-end G under ∙ x .0, grains-filled G under (x .1), grains-filled G rest (x .2))
+
+pub grains-rooted : (G : ℕ) (f : Forest ℤ) → Rooted f → Rooted (inGrains G f)
+unfolding inGrains
+grains-rooted G end x = x
+grains-rooted G (leaf n w v rest) x = (x .0, x .1, ap (inGrains G) (x .2))
+grains-rooted G (inner n w k under rest) x = (x .0, x .1, ap (inGrains G) (x .2))

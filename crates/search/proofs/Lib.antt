@@ -6,3 +6,5 @@ pub mod Shift
 pub mod Grains
 pub mod Few
 pub mod Table
+pub mod Budget
+pub mod Within

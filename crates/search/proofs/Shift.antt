@@ -11,12 +11,12 @@ use lib.Signed.{ltZ, leZ}
 use Rattle.numbers.specs.Integers.{maxZ, minZ, floorZ, ceilZ}
 use Rattle.numbers.proofs.Signs.{same-test, Is, is-eq, is-add, is-neg, is-minus, is-mul, is-le, is-max, is-min, is-floor}
 use Rattle.table.specs.Tree.{Kind, MAX, MIN, CHANCE, Forest, end, leaf, inner, isEnd, weigh}
-use Rattle.search.specs.Search.{Frame, Play, noPlay, child, Seen, State, Rules, begin, lower, upper, beats, better, update, finish, cut, stop, point, scan, search, searchRoot}
+use Rattle.search.specs.Search.{Frame, Play, noPlay, child, Seen, State, Rules, begin, lower, upper, beats, better, update, finish, cut, stop, point, unmet, met, scan, search, searchRoot}
 use Rattle.search.specs.Whole.{whole, downZ, upZ, gainZ, lossZ}
 use Rattle.search.specs.Inside.{natural, ceil}
 use Rattle.search.proofs.Steps.{seenUnder, seenAfter}
 use Rattle.search.proofs.Heights.{Sound, Within, Pays, Positive, shift, total}
-use Rattle.search.proofs.Contain.{contained, Holding, hold-point, hold-under}
+use Rattle.search.proofs.Contain.{contained, Holding, hold-point, hold-under, hold-met}
 use Rattle.search.proofs.Safe.{drop-top, share-fits, Safe, safe-begin, safe-lower, safe-upper, safe-update}
 
 -- m - n is the quotient of a - b by w, rounded up
@@ -167,25 +167,27 @@ module _ (p q : ℕ) where
     pub hi : Rel (s .hi) (z .hi)
     pub play : RelPlay (s .play) (z .play)
     pub read : z .read ≡ s .read
+    pub spent : z .spent ≡ s .spent
 
   pub record RelSeen (s : Seen ℕ) (z : Seen ℤ) : Type 0 where
     pub low : Rel (s .low) (z .low)
     pub high : Rel (s .high) (z .high)
     pub play : RelPlay (s .play) (z .play)
     pub read : z .read ≡ s .read
+    pub spent : z .spent ≡ s .spent
 
   pub rel-begin : (e : Frame ℕ) (ez : Frame ℤ) (k : Kind) (a b : ℕ) (y z : ℤ) (l m : List ℕ) → RelFrame e ez → Rel a y → Rel b z → m ≡ l
       → RelState (begin e k a b l) (begin ez k y z m)
   unfolding begin
-  rel-begin e ez MAX a b y z l m f i j r = record { alpha = i; beta = j; lo = f .bottom; hi = f .bottom; play = tt; read = r }
-  rel-begin e ez MIN a b y z l m f i j r = record { alpha = i; beta = j; lo = f .top; hi = f .top; play = tt; read = r }
-  rel-begin e ez CHANCE a b y z l m f i j r = record { alpha = i; beta = j; lo = f .bottom; hi = f .top; play = tt; read = r }
+  rel-begin e ez MAX a b y z l m f i j r = record { alpha = i; beta = j; lo = f .bottom; hi = f .bottom; play = tt; read = r; spent = refl }
+  rel-begin e ez MIN a b y z l m f i j r = record { alpha = i; beta = j; lo = f .top; hi = f .top; play = tt; read = r; spent = refl }
+  rel-begin e ez CHANCE a b y z l m f i j r = record { alpha = i; beta = j; lo = f .bottom; hi = f .top; play = tt; read = r; spent = refl }
 
   rel-cut : (e : Frame ℕ) (ez : Frame ℤ) (k : Kind) (s : State ℕ) (z : State ℤ) → RelFrame e ez → RelState s z → RelSeen (cut e k s) (cut ez k z)
   unfolding cut
-  rel-cut e ez MAX s z f i = record { low = i .lo; high = f .top; play = i .play; read = i .read }
-  rel-cut e ez MIN s z f i = record { low = f .bottom; high = i .hi; play = i .play; read = i .read }
-  rel-cut e ez CHANCE s z f i = record { low = i .lo; high = i .hi; play = i .play; read = i .read }
+  rel-cut e ez MAX s z f i = record { low = i .lo; high = f .top; play = i .play; read = i .read; spent = i .spent }
+  rel-cut e ez MIN s z f i = record { low = f .bottom; high = i .hi; play = i .play; read = i .read; spent = i .spent }
+  rel-cut e ez CHANCE s z f i = record { low = i .lo; high = i .hi; play = i .play; read = i .read; spent = i .spent }
 
   pub rel-lower : (e : Frame ℕ) (ez : Frame ℤ) (k : Kind) (w : ℕ) (s : State ℕ) (z : State ℤ) → Pays k w → e .bottom ≤ e .top → RelFrame e ez
       → Open k false s → RelState s z → Rel (lower natural e k w s) (lower whole ez k w z)
@@ -236,11 +238,11 @@ module _ (p q : ℕ) where
   rel-update S e ez MAX n w W s z r x f bl lh rS j i o =
       let l = rel-max _ _ (z .lo) (x .low) (i .lo) (o .low) in
       let h = rel-max _ _ (z .hi) (x .high) (i .hi) (o .high) in
-      record { alpha = rel-max _ _ (z .alpha) _ (i .alpha) l; beta = rel-min _ _ (z .beta) _ (i .beta) (f .top); lo = l; hi = h; play = rel-better MAX n (s .play) (z .play) r x (i .play) o; read = o .read }
+      record { alpha = rel-max _ _ (z .alpha) _ (i .alpha) l; beta = rel-min _ _ (z .beta) _ (i .beta) (f .top); lo = l; hi = h; play = rel-better MAX n (s .play) (z .play) r x (i .play) o; read = o .read; spent = o .spent }
   rel-update S e ez MIN n w W s z r x f bl lh rS j i o =
       let l = rel-min _ _ (z .lo) (x .low) (i .lo) (o .low) in
       let h = rel-min _ _ (z .hi) (x .high) (i .hi) (o .high) in
-      record { alpha = rel-max _ _ (z .alpha) _ (i .alpha) (f .bottom); beta = rel-min _ _ (z .beta) _ (i .beta) h; lo = l; hi = h; play = rel-better MIN n (s .play) (z .play) r x (i .play) o; read = o .read }
+      record { alpha = rel-max _ _ (z .alpha) _ (i .alpha) (f .bottom); beta = rel-min _ _ (z .beta) _ (i .beta) h; lo = l; hi = h; play = rel-better MIN n (s .play) (z .play) r x (i .play) o; read = o .read; spent = o .spent }
   rel-update S e ez CHANCE n w W s z r x f bl lh rS j i o =
       let T : ℕ = e .total in
       let B : ℕ = e .bottom in
@@ -250,20 +252,27 @@ module _ (p q : ℕ) where
       rw (f .total) (
       let l = rel-low-chance T w B (s .lo) (r .low) (ez .bottom) (z .lo) (x .low) (j .4) bl (f .bottom) (i .lo) (o .low) in
       let h = rel-high-chance T w (e .top) (s .hi) (r .high) (ez .top) (z .hi) (x .high) (j .4) rS fits (f .top) (i .hi) (o .high) in
-      record { alpha = rel-max _ _ (z .alpha) _ (i .alpha) l; beta = rel-min _ _ (z .beta) _ (i .beta) h; lo = l; hi = h; play = tt; read = o .read })
+      record { alpha = rel-max _ _ (z .alpha) _ (i .alpha) l; beta = rel-min _ _ (z .beta) _ (i .beta) h; lo = l; hi = h; play = tt; read = o .read; spent = o .spent })
 
   module _ (Lo : ℤ) (isLo : Is Lo p q) (S : ℕ) (R : Rules ℕ) (frameZ : ℕ → Forest ℤ → Frame ℤ)
       (frames : (n : ℕ) (f : Forest ℕ) → RelFrame (R .frame n f) (frameZ n (shift Lo f)))
       (flat : (n : ℕ) (f : Forest ℕ) → (R .frame n f .bottom ≡ 0) × (R .frame n f .top ≡ S)) where
     abbrev Z : Rules ℤ
-    Z = record { frame = frameZ; margin = R .margin }
+    Z = record { frame = frameZ; margin = R .margin; full = R .full }
 
     rel-lift : (h : ℕ) → Rel h (Lo +ℤ pos h)
     rel-lift h = is-eq (Lo +ℤ pos h) (p + h) (q + 0) _ _ (is-add Lo (pos h) p q h 0 isLo (omega arith)) (omega arith)
 
     pub rel-point : (n h : ℕ) (l m : List ℕ) → m ≡ l → RelSeen (point n h l) (point n (Lo +ℤ pos h) m)
     unfolding point
-    rel-point n h l m r = record { low = rel-lift h; high = rel-lift h; play = tt; read = ap (λ x. x ++ (n ∷ [])) r }
+    rel-point n h l m r = record { low = rel-lift h; high = rel-lift h; play = tt; read = ap (λ x. x ++ (n ∷ [])) r; spent = refl }
+
+    pub rel-met : (e : Frame ℕ) (ez : Frame ℤ) (l m : List ℕ) (r : Seen ℕ) (x : Seen ℤ) → RelFrame e ez → m ≡ l → RelSeen r x
+        → RelSeen (met R e l r) (met Z ez m x)
+    unfolding unmet
+    rel-met e ez l m r x f q i =
+        pick-rel RelSeen _ _ _ _ (R .full l) (R .full m) (ap (R .full) q)
+        (record { low = f .bottom; high = f .top; play = tt; read = q; spent = refl }) (λ _. i)
 
     pub rel-stop : (rest : Forest ℕ) (s : State ℕ) (z : State ℤ) → RelState s z
         → stop whole (R .margin) (shift Lo rest) z ≡ stop natural (R .margin) rest s
@@ -292,10 +301,12 @@ module _ (p q : ℕ) where
         → Within (R .frame) e f → Positive k f → Safe S e k (weigh f) s → Open k (isEnd f) s → RelState s z
         → RelSeen (scan natural R e k f s) (scan whole Z ez k (shift Lo f) z)
     unfolding scan shift weigh finish
-    shifted e ez k end s z f b t i o j r g = record { low = g .lo; high = g .hi; play = g .play; read = g .read }
+    shifted e ez k end s z f b t i o j r g = record { low = g .lo; high = g .hi; play = g .play; read = g .read; spent = g .spent }
     shifted e ez k (leaf n w h rest) s z f b t i o j r g =
-        rel-step e ez k n w rest s z (point n h (s .read)) (point n (Lo +ℤ pos h) (z .read)) h f t
-        (hold-point e n h (s .read) (i .0, i .1)) j g (rel-point n h (s .read) (z .read) (g .read))
+        let r : Seen ℕ = point n h (s .read) in
+        let x : Seen ℤ = point n (Lo +ℤ pos h) (z .read) in
+        rel-step e ez k n w rest s z (met R e (s .read) r) (met Z ez (z .read) x) h f t (hold-met R e (s .read) h r (hold-point e n h (s .read) (i .0, i .1))) j g
+        (rel-met e ez (s .read) (z .read) r x f (g .read) (rel-point n h (s .read) (z .read) (g .read)))
         (λ u y j2 r2 g2. shifted e ez k rest u y f b t (i .2) (o .1) j2 r2 g2)
     shifted e ez k (inner n w c under rest) s z f b t i o j r g =
         let d : Frame ℕ = R .frame n under in
@@ -311,7 +322,9 @@ module _ (p q : ℕ) where
         (safe-begin S d c under la ub (s .read) (i .2) (le-trans (i .1) t) la-fits ub-fits)
         (open-begin d c (isEnd under) la ub (s .read) (let q = flat n under in (rw (q .0) (omega arith), rw (q .1) la-fits)))
         (rel-begin d dz c la ub (lower whole ez k w z) (upper whole ez k w z) (s .read) (z .read) (frames n under) (rel-lower e ez k w s z (o .0) b f r g) (rel-upper e ez k w s z (o .0) b f r g) (g .read)) in
-        rel-step e ez k n w rest s z y (seenUnder whole Z ez k n w c (shift Lo under) z) _ f t v j g u
+        let x : Seen ℤ = seenUnder whole Z ez k n w c (shift Lo under) z in
+        rel-step e ez k n w rest s z (met R e (s .read) y) (met Z ez (z .read) x) _ f t (hold-met R e (s .read) _ y v) j g
+        (rel-met e ez (s .read) (z .read) y x f (g .read) u)
         (λ u y j2 r2 g2. shifted e ez k rest u y f b t (i .4) (o .2) j2 r2 g2)
 
     pub shifted-search : (n : ℕ) (k : Kind) (f : Forest ℕ) → Sound (R .frame n f) k f → R .frame n f .top ≤ S → Within (R .frame) (R .frame n f) f
@@ -321,15 +334,19 @@ module _ (p q : ℕ) where
         let e : Frame ℕ = R .frame n f in
         let ez : Frame ℤ = frameZ n (shift Lo f) in
         let g : RelFrame e ez = frames n f in
-        shifted e ez k f (begin e k (e .bottom) (e .top) []) (begin ez k (ez .bottom) (ez .top) []) g (x .ends) t i o
+        let s : State ℕ = begin e k (e .bottom) (e .top) [] in
+        let z : State ℤ = begin ez k (ez .bottom) (ez .top) [] in
+        rel-met e ez [] [] (scan natural R e k f s) (scan whole Z ez k (shift Lo f) z) g refl
+        (shifted e ez k f s z g (x .ends) t i o
         (safe-begin S e k f (e .bottom) (e .top) [] x t (le-trans (x .ends) t) t)
         (open-begin e k (isEnd f) (e .bottom) (e .top) [] (x .ends, x .ends))
-        (rel-begin e ez k (e .bottom) (e .top) (ez .bottom) (ez .top) [] [] g (g .bottom) (g .top) refl)
+        (rel-begin e ez k (e .bottom) (e .top) (ez .bottom) (ez .top) [] [] g (g .bottom) (g .top) refl))
 
     -- the search of a root
     pub shifted-root : (e : Frame ℕ) (f : Forest ℕ) → e .top ≤ S → Within (R .frame) e f → Positive MAX f
         → RelSeen (searchRoot natural R f) (searchRoot whole Z (shift Lo f))
     unfolding searchRoot shift
-    shifted-root e end t i o = record { low = frames 0 end .bottom; high = frames 0 end .top; play = tt; read = refl }
-    shifted-root e (leaf n w h rest) t i o = rel-point n h [] [] refl
+    shifted-root e end t i o = record { low = frames 0 end .bottom; high = frames 0 end .top; play = tt; read = refl; spent = refl }
+    shifted-root e (leaf n w h rest) t i o =
+        rel-met (R .frame n end) (frameZ n end) [] [] (point n h []) (point n (Lo +ℤ pos h) []) (frames n end) refl (rel-point n h [] [] refl)
     shifted-root e (inner n w k under rest) t i o = shifted-search n k under (i .2) (le-trans (i .1) t) (i .3) (o .1)

@@ -1,5 +1,7 @@
 -- The search over heights, in grains above the lowest end: what is computed with. No promise names these.
 use Prim.Native.Nat.{ℕ, _+_, _-_, _*_, _/_, min, max}
+use mathlib.Core.Bool.{Bool}
+use mathlib.Core.List.{List}
 use lib.Dec.{leb, ltb}
 use Rattle.table.specs.Tree.{Forest, end, leaf, inner}
 use Rattle.table.specs.Table.{Table, grain}
@@ -29,9 +31,9 @@ grained G end = end
 grained G (leaf n w h rest) = leaf n w (h * G) (grained G rest)
 grained G (inner n w k under rest) = inner n w k (grained G under) (grained G rest)
 
-abbrev pub heightRules : (bottom top ε : ℕ) → Rules ℕ
-heightRules bottom top ε = record { frame = λ (n : ℕ) (f : Forest ℕ). framed bottom top f; margin = ε }
+abbrev pub heightRules : (bottom top ε : ℕ) (full : List ℕ → Bool) → Rules ℕ
+heightRules bottom top ε full = record { frame = λ (n : ℕ) (f : Forest ℕ). framed bottom top f; margin = ε; full = full }
 
 -- the search of a table, every bound in grains above the lowest end
-abbrev pub heightSearched : Table → (ε : ℕ) → Seen ℕ
-heightSearched t ε = searchRoot natural (heightRules 0 (span (t .head) * grain t) ε) (grained (grain t) (heightTree t))
+abbrev pub heightSearched : Table → (ε : ℕ) (full : List ℕ → Bool) → Seen ℕ
+heightSearched t ε full = searchRoot natural (heightRules 0 (span (t .head) * grain t) ε full) (grained (grain t) (heightTree t))

@@ -1,9 +1,11 @@
--- Algorithm 1 of document 000, over any arithmetic, with the play of document 01, 'The search'. Whole.antt has the paper's own arithmetic,
--- whole grains, and the search of a table.
+-- Algorithm 1 of document 000, over any arithmetic, with the play of document 01, 'The search', and the leaf budget of document 02, Item 3.
+-- Whole.antt has the paper's own arithmetic, whole grains, and the search of a table.
 use Prim.Native.Nat.{ℕ}
-use mathlib.Core.Bool.{Bool, false, not, _&&_, cond}
+use mathlib.Core.Bool.{Bool, true, false, not, _&&_, cond}
 use mathlib.Core.List.{List, [], _∷_, _++_}
 use mathlib.Core.Option.{Option, none, some}
+use lib.Dec.{leb}
+use lib.ListN.{length}
 use Rattle.table.specs.Tree.{Kind, MAX, MIN, CHANCE, Forest, end, leaf, inner, isEnd, weigh}
 
 -- What Algorithm 1 knows of a node: v_min and v_max, and the total of its children's weights, "π as weight/T".
@@ -17,12 +19,14 @@ pub data Play (A : Type 0) : Type 0 where
   noPlay : Play A
   child : (node : ℕ) (low high : A) → Play A
 
--- What the search of a node gives: its two bounds, the best child, and the leaves read so far in reading sequence.
+-- What the search of a node gives: its two bounds, the best child, the leaves read so far in reading sequence, and whether the node met last was met
+-- with the budget spent. No leaf is read from then on, so every node met later is met so too.
 pub record Seen (A : Type 0) : Type 0 where
   pub low : A
   pub high : A
   pub play : Play A
   pub read : List ℕ
+  pub spent : Bool
 
 -- Where the search of a node stands between two children: α(n) and β(n); `lo` is L(n), at a MIN node best_L; `hi` is U(n), at a MAX node best_U.
 pub record State (A : Type 0) : Type 0 where
@@ -32,6 +36,7 @@ pub record State (A : Type 0) : Type 0 where
   pub hi : A
   pub play : Play A
   pub read : List ℕ
+  pub spent : Bool
 
 -- What the search computes with: the larger and the smaller of two, whether x < y, and whether β ≤ α + ε. `down` and `up` are the new α and β
 -- of lines 9 and 10, from the parent's α and U, and β and L; `gain` and `loss` are the new L and U of lines 20 and 21, from L(n) and L(c), and U(n)
@@ -46,10 +51,19 @@ pub record Arith (A : Type 0) : Type 0 where
   pub gain : (e : Frame A) (w : ℕ) (L Lc : A) → A
   pub loss : (e : Frame A) (w : ℕ) (U Uc : A) → A
 
--- the frame of each node, from its number and its children, and the margin ε
+-- the frame of each node, from its number and its children, the margin ε, and whether the budget is spent once these leaves are read
 pub record Rules (A : Type 0) : Type 0 where
   pub frame : (n : ℕ) (under : Forest A) → Frame A
   pub margin : ℕ
+  pub full : (read : List ℕ) → Bool
+
+-- document 01's search: its budget never ends
+abbrev pub unlimited : (read : List ℕ) → Bool
+unlimited read = false
+
+-- document 02, Item 3: "The search takes a number of leaf reads"
+abbrev pub limited : (budget : ℕ) (read : List ℕ) → Bool
+limited budget read = leb budget (length read)
 
 module _ {A : Type 0} where
   -- The frame of a node with these children, between two ends. T is the node's own total; that in an accepted table every C's weights sum to the
@@ -82,20 +96,28 @@ module _ {A : Type 0} where
   -- lines 3 to 10, for the window α, β of a node, and the leaves read before it
   unfoldable pub begin : (e : Frame A) (k : Kind) (α β : A) (before : List ℕ) → State A
   unfolding firstLow firstHigh
-  begin e k α β before = record { alpha = α; beta = β; lo = firstLow e k; hi = firstHigh e k; play = noPlay; read = before }
+  begin e k α β before = record { alpha = α; beta = β; lo = firstLow e k; hi = firstHigh e k; play = noPlay; read = before; spent = false }
 
   -- lines 25 to 27
   unfoldable pub finish : (s : State A) → Seen A
-  finish s = record { low = s .lo; high = s .hi; play = s .play; read = s .read }
+  finish s = record { low = s .lo; high = s .hi; play = s .play; read = s .read; spent = s .spent }
 
   -- the return of line 24
   unfoldable pub cut : (e : Frame A) (k : Kind) (s : State A) → Seen A
   unfolding runLow runHigh
-  cut e k s = record { low = runLow e k (s .lo); high = runHigh e k (s .hi); play = s .play; read = s .read }
+  cut e k s = record { low = runLow e k (s .lo); high = runHigh e k (s .hi); play = s .play; read = s .read; spent = s .spent }
 
   -- lines 1 and 2: a leaf's two bounds are its worth, and it is read
   unfoldable pub point : (n : ℕ) (v : A) (before : List ℕ) → Seen A
-  point n v before = record { low = v; high = v; play = noPlay; read = before ++ (n ∷ []) }
+  point n v before = record { low = v; high = v; play = noPlay; read = before ++ (n ∷ []); spent = false }
+
+  -- Item 3: "A node first met when the budget is spent gives the table's two ends as its bounds and reads nothing". Its parent's frame e has these ends.
+  unfoldable pub unmet : (e : Frame A) (before : List ℕ) → Seen A
+  unmet e before = record { low = e .bottom; high = e .top; play = noPlay; read = before; spent = true }
+
+  -- what a node gives that would give r, were the budget not spent
+  abbrev pub met : (R : Rules A) (e : Frame A) (before : List ℕ) (r : Seen A) → Seen A
+  met R e before r = cond (R .full before) (unmet e before) r
 
   module _ (O : Arith A) where
     -- lines 7 to 10: the window of a child of weight w
@@ -145,7 +167,7 @@ module _ {A : Type 0} where
     update e k n w s r =
         let l : A = nextLow e k w (s .lo) (r .low) in
         let h : A = nextHigh e k w (s .hi) (r .high) in
-        record { alpha = O .high-of (s .alpha) (runLow e k l); beta = O .low-of (s .beta) (runHigh e k h); lo = l; hi = h; play = prefer k n (s .play) r; read = r .read }
+        record { alpha = O .high-of (s .alpha) (runLow e k l); beta = O .low-of (s .beta) (runHigh e k h); lo = l; hi = h; play = prefer k n (s .play) r; read = r .read; spent = r .spent }
 
     -- line 24: "The cut test comes after each child but the last, never before the first."
     unfoldable pub stop : (ε : ℕ) (rest : Forest A) (s : State A) → Bool
@@ -160,26 +182,26 @@ module _ {A : Type 0} where
       abbrev pub after : (e : Frame A) (k : Kind) (rest : Forest A) (t : State A) (later : Seen A) → Seen A
       after e k rest t later = cond (stop (R .margin) rest t) (cut e k t) later
 
-      -- Lines 11 to 27 for the children that are left. "A line of each kind has its own rule, and each rule hands a child to the rule of that
+      -- Lines 11 to 27 for the children that are left; "the rules go on over" a child met unread "as over any child". "A line of each kind has its own rule, and each rule hands a child to the rule of that
       -- child's kind."
       unfoldable pub scan : (e : Frame A) (k : Kind) (f : Forest A) (s : State A) → Seen A
       scan e k end s = finish s
       scan e k (leaf n w v rest) s =
-          let t : State A = update e k n w s (point n v (s .read)) in
+          let t : State A = update e k n w s (met R e (s .read) (point n v (s .read))) in
           after e k rest t (scan e k rest t)
       scan e k (inner n w c under rest) s =
           let d : Frame A = R .frame n under in
-          let t : State A = update e k n w s (scan d c under (enter e k w d c s)) in
+          let t : State A = update e k n w s (met R e (s .read) (scan d c under (enter e k w d c s))) in
           after e k rest t (scan e k rest t)
 
-      -- line 6: the window of the root is v_min to v_max
+      -- line 6: the window of the root is v_min to v_max. "If the root is so met, no play is named."
       unfoldable pub search : (e : Frame A) (k : Kind) (f : Forest A) → Seen A
-      search e k f = scan e k f (begin e k (e .bottom) (e .top) [])
+      search e k f = met R e [] (scan e k f (begin e k (e .bottom) (e .top) []))
 
       -- Algorithm 1 on the first node, which is "node 0, the root", in a table's tree. Of no node, which no accepted table has, it is the two ends.
       unfoldable pub searchRoot : Forest A → Seen A
-      searchRoot end = record { low = R .frame 0 end .bottom; high = R .frame 0 end .top; play = noPlay; read = [] }
-      searchRoot (leaf n w v rest) = point n v []
+      searchRoot end = record { low = R .frame 0 end .bottom; high = R .frame 0 end .top; play = noPlay; read = []; spent = false }
+      searchRoot (leaf n w v rest) = met R (R .frame n end) [] (point n v [])
       searchRoot (inner n w k under rest) = search (R .frame n under) k under
 
   -- the node number of the play

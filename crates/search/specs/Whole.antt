@@ -1,11 +1,13 @@
 -- The paper's arithmetic, whole numbers of grains, and the search of a table. Document 01, 'Grains' and 'The search'.
 use Prim.Native.Nat.{ℕ}
+use mathlib.Core.Bool.{Bool}
+use mathlib.Core.List.{List}
 use lib.IntN.{ℤ, pos, _+ℤ_, _-ℤ_, _*ℤ_}
 use lib.Signed.{ltZ, leZ}
 use Rattle.numbers.specs.Integers.{maxZ, minZ, floorZ, ceilZ}
 use Rattle.table.specs.Tree.{Forest, end, leaf, inner}
 use Rattle.table.specs.Table.{Table, tree, grain}
-use Rattle.search.specs.Search.{Frame, Arith, Rules, Seen, framed, searchRoot}
+use Rattle.search.specs.Search.{Frame, Arith, Rules, Seen, unlimited, limited, framed, searchRoot}
 
 -- Line 9, from α(p(n)) and U(p(n)): "rounded outward: the new alpha down". π is w / T, and U(n) of a node not yet searched is v_max.
 unfoldable pub downZ : (e : Frame ℤ) (w : ℕ) (α U : ℤ) → ℤ
@@ -41,13 +43,22 @@ inGrains G (leaf n w u rest) = leaf n w (u *ℤ pos G) (inGrains G rest)
 inGrains G (inner n w k under rest) = inner n w k (inGrains G under) (inGrains G rest)
 
 -- "Algorithm 1 in grains, with the ends times G as its least and greatest values and π as weight/T"
-abbrev pub rules : Table → (ε : ℕ) → Rules ℤ
-rules t ε =
+abbrev pub rules : Table → (ε : ℕ) (full : List ℕ → Bool) → Rules ℤ
+rules t ε full =
     record {
       frame = λ (n : ℕ) (f : Forest ℤ). framed (t .head .lowest *ℤ pos (grain t)) (t .head .highest *ℤ pos (grain t)) f;
       margin = ε;
+      full = full;
     }
 
--- the search of a table at the margin ε
+-- the search of a table at the margin ε, until the budget is spent
+abbrev pub searchedUntil : Table → (ε : ℕ) (full : List ℕ → Bool) → Seen ℤ
+searchedUntil t ε full = searchRoot whole (rules t ε full) (inGrains (grain t) (tree t))
+
+-- document 01: the search of a table at the margin ε
 abbrev pub searched : Table → (ε : ℕ) → Seen ℤ
-searched t ε = searchRoot whole (rules t ε) (inGrains (grain t) (tree t))
+searched t ε = searchedUntil t ε unlimited
+
+-- document 02, Item 3: with a budget of so many leaf reads "besides the margin"
+abbrev pub searchedWithin : Table → (ε budget : ℕ) → Seen ℤ
+searchedWithin t ε budget = searchedUntil t ε (limited budget)
