@@ -1,7 +1,7 @@
 -- Two accepted tables that differ in utilities of unread leaves alone: the same answer, and what it says is still true. Assumes nothing.
 use Prim.Native.Nat.{ℕ, _+_, _^_, max}
 use mathlib.Core.Path.{_≡_, refl, sym, ap, ap₂, subst, _∙_}
-use mathlib.Core.Bool.{true}
+use mathlib.Core.Bool.{Bool, true}
 use mathlib.Core.List.{List, [], _∷_, _++_}
 use mathlib.Core.Option.{some}
 use native.Mathlib.Omega.{arith}
@@ -15,8 +15,8 @@ use Rattle.table.specs.Table.{Table, tree, readText, greatest, grain}
 use Rattle.table.specs.Accepted.{one, flat}
 use Rattle.table.proofs.Accepted.{accepted-flat}
 use Rattle.worth.specs.Worth.{worthOf}
-use Rattle.search.specs.Search.{Frame, Seen, framed, searchRoot, nodeOf}
-use Rattle.search.specs.Whole.{whole, inGrains, rules, searched}
+use Rattle.search.specs.Search.{Frame, Seen, unlimited, framed, searchRoot, nodeOf}
+use Rattle.search.specs.Whole.{whole, inGrains, rules, searched, searchedUntil}
 use Rattle.promise.specs.Play.{playWorth}
 use Rattle.promise.specs.Unread.{ReadBy, Alike, alike-end, alike-leaf, alike-inner}
 use Rattle.promise.proofs.Unread.{unread-root}
@@ -56,8 +56,8 @@ alike-greatest p c (alike-inner {n} {w} {k} {under} {under2} {rest} {rest2} u a)
 
 -- ---- the same header, and trees that differ in unread leaves alone
 
-module _ (a b : List ℕ) (t u : Table) (p : readText a ≡ fine t) (q : readText b ≡ fine u) (ε : ℕ) (same : u .head ≡ t .head)
-    (alike : Alike (ReadBy (searched t ε)) (tree t) (tree u)) where
+module _ (a b : List ℕ) (t u : Table) (p : readText a ≡ fine t) (q : readText b ≡ fine u) (ε : ℕ) (full : List ℕ → Bool) (same : u .head ≡ t .head)
+    (alike : Alike (ReadBy (searchedUntil t ε full)) (tree t) (tree u)) where
   same-greatest : greatest (u .lines) ≡ greatest (t .lines)
   same-greatest =
       ap greatest (sym (accepted-flat b u q)) ∙ sym (alike-greatest 0 0 alike) ∙ ap greatest (accepted-flat a t p)
@@ -69,7 +69,7 @@ module _ (a b : List ℕ) (t u : Table) (p : readText a ≡ fine t) (q : readTex
   abbrev searchOf : Head → ℕ → Forest ℤ → Seen ℤ
   searchOf h G f =
       searchRoot whole
-      (record { frame = λ (n : ℕ) (f : Forest ℤ). framed (h .lowest *ℤ pos G) (h .highest *ℤ pos G) f; margin = ε })
+      (record { frame = λ (n : ℕ) (f : Forest ℤ). framed (h .lowest *ℤ pos G) (h .highest *ℤ pos G) f; margin = ε; full = full })
       (inGrains G f)
 
   -- a frame of the table's ends
@@ -77,17 +77,19 @@ module _ (a b : List ℕ) (t u : Table) (p : readText a ≡ fine t) (q : readTex
   framedBy t N = record { bottom = t .head .lowest *ℤ pos (grain t); top = t .head .highest *ℤ pos (grain t); total = N }
 
   -- "The same answer means that every part of it is equal, low, high, play and number of leaves read, and every entry of the reading sequence too"
-  pub same-answer : searched u ε ≡ searched t ε
+  pub same-answer : searchedUntil u ε full ≡ searchedUntil t ε full
   same-answer =
       ap₂ (λ (h : Head) (G : ℕ). searchOf h G (tree u)) same same-grain
       ∙ sym
-      (unread-root whole (rules t ε) (inGrains (grain t) (tree t)) (inGrains (grain t) (tree u)) (λ n x y i. ap (framedBy t) (alike-weigh i)) (alike-grains (grain t) alike))
+      (unread-root whole (rules t ε full) (inGrains (grain t) (tree t)) (inGrains (grain t) (tree u)) (λ n x y i. ap (framedBy t) (alike-weigh i)) (alike-grains (grain t) alike))
 
   -- "the exact worth, taken afresh with the new utilities, lies within those same bounds"
-  pub still-contains : (leZ (searched t ε .low) (worthOf u) ≡ true) × (leZ (worthOf u) (searched t ε .high) ≡ true)
-  still-contains = subst (λ (r : Seen ℤ). (leZ (r .low) (worthOf u) ≡ true) × (leZ (worthOf u) (r .high) ≡ true)) same-answer (contains b u q ε)
+  pub still-contains : (leZ (searchedUntil t ε full .low) (worthOf u) ≡ true) × (leZ (worthOf u) (searchedUntil t ε full .high) ≡ true)
+  still-contains = subst (λ (r : Seen ℤ). (leZ (r .low) (worthOf u) ≡ true) × (leZ (worthOf u) (r .high) ≡ true)) same-answer (contains b u q ε full)
 
-  -- "and .. the play's worth, taken afresh too, is within the margin of it"
-  pub still-near : (m : ℕ) → nodeOf (searched t ε .play) ≡ some m
-      → (v : ℤ) × (playWorth u m ≡ some v) × (leZ v (worthOf u +ℤ pos ε) ≡ true) × (leZ (worthOf u) (v +ℤ pos ε) ≡ true)
-  still-near m e = play-near b u q ε m (ap (λ (r : Seen ℤ). nodeOf (r .play)) same-answer ∙ e)
+-- "and .. the play's worth, taken afresh too, is within the margin of it", without a budget
+pub still-near : (a b : List ℕ) (t u : Table) → readText a ≡ fine t → readText b ≡ fine u → (ε : ℕ) → u .head ≡ t .head
+    → Alike (ReadBy (searched t ε)) (tree t) (tree u) → (m : ℕ) → nodeOf (searched t ε .play) ≡ some m
+    → (v : ℤ) × (playWorth u m ≡ some v) × (leZ v (worthOf u +ℤ pos ε) ≡ true) × (leZ (worthOf u) (v +ℤ pos ε) ≡ true)
+still-near a b t u p q ε same alike m e =
+    play-near b u q ε m (ap (λ (r : Seen ℤ). nodeOf (r .play)) (same-answer a b t u p q ε unlimited same alike) ∙ e)

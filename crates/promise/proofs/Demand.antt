@@ -1,9 +1,9 @@
--- Demand 3 of the search of every accepted table. Document 01, 'The search'. Assumes nothing.
+-- Demand 3 of the search of every accepted table, with a budget and without. Document 01, 'The search', and document 02, Item 3. Assumes nothing.
 use Prim.Native.Nat.{ℕ, _+_, _*_, _^_, _≤_, _<_}
 use mathlib.Core.Path.{_≡_, refl, sym, ap, ap₂, subst, _∙_}
-use mathlib.Core.Bool.{true, false}
+use mathlib.Core.Bool.{Bool, true, false}
 use mathlib.Core.List.{List, []}
-use mathlib.Core.Option.{none, some, Option·some-injective}
+use mathlib.Core.Option.{none, some}
 use native.Mathlib.Nat.{le-refl}
 use lib.ListN.{length}
 use lib.IntN.{ℤ, pos, _+ℤ_, _*ℤ_, +ℤ-assoc}
@@ -23,18 +23,18 @@ use Rattle.worth.specs.Worth.{worthOf}
 use Rattle.worth.specs.Inside.Heights.{heightWorth, SmallWorths}
 use Rattle.worth.proofs.Bounds.{own-totals}
 use Rattle.worth.proofs.Worth.{heights-small, shift as worth-shift}
-use Rattle.search.specs.Search.{Seen, nodeOf}
+use Rattle.search.specs.Search.{Seen, unlimited, nodeOf}
 use Rattle.search.specs.Inside.{grained, heightRules, heightSearched}
-use Rattle.search.specs.Whole.{whole, inGrains, rules, searched}
-use Rattle.search.proofs.Grains.{plain}
+use Rattle.search.specs.Whole.{whole, inGrains, rules, searched, searchedUntil}
+use Rattle.search.proofs.Grains.{plain, grains-filled}
 use Rattle.search.proofs.Table.{frames, tree-shift, tree-within, tree-positive, shifted}
 use Rattle.promise.specs.Play.{playWorth}
 use Rattle.promise.specs.Entered.{Entered, FirstBest, enteredOf}
 use Rattle.promise.specs.Exact.{NoRemainder}
 use Rattle.promise.proofs.Fit.{Fit, fit}
 use Rattle.promise.proofs.Play.{Child}
-use Rattle.promise.proofs.Named.{Chosen, root-named, root-entered, strict-whole, grains-filled, grains-root, grains-children}
-use Rattle.promise.proofs.Root.{OnSide, Played, holds, narrow, plays}
+use Rattle.promise.proofs.Named.{Held, Chosen, root-held, root-named, root-unread, root-entered, strict-whole, grains-root, grains-children}
+use Rattle.promise.proofs.Root.{OnSide, Played, near, holds, narrow, plays}
 use Rattle.promise.proofs.Remainder.{whole-root}
 use Rattle.promise.proofs.Children.{play-worth, root-same}
 
@@ -42,7 +42,7 @@ use Rattle.promise.proofs.Children.{play-worth, root-same}
 le-margin : (b : ℤ) (x y ε : ℕ) → x ≤ y + ε → leZ (b +ℤ pos x) (b +ℤ pos y +ℤ pos ε) ≡ true
 le-margin b x y ε h = rw (+ℤ-assoc b (pos y) (pos ε)) (le-above b x (y + ε) h)
 
-module _ (s : List ℕ) (t : Table) (r : readText s ≡ fine t) (ε : ℕ) where
+module _ (s : List ℕ) (t : Table) (r : readText s ≡ fine t) where
   abbrev G : ℕ
   G = grain t
 
@@ -52,11 +52,6 @@ module _ (s : List ℕ) (t : Table) (r : readText s ≡ fine t) (ε : ℕ) where
   abbrev top-height : ℕ
   top-height = span (t .head) * G
 
-  abbrev heights : Seen ℕ
-  heights = heightSearched t ε
-
-  -- ---- the search over heights
-
   abbrev Tree : Forest ℕ → Type 0
   Tree f =
       Proper (t .head .total) (greatest (t .lines)) (λ (x : ℕ). x ≤ span (t .head)) 0 0 false f × Filled f × Balanced (t .head .total) f × Rooted f
@@ -64,59 +59,15 @@ module _ (s : List ℕ) (t : Table) (r : readText s ≡ fine t) (ε : ℕ) where
   tree-fine : Tree (heightTree t)
   tree-fine = (heights-proper s t r, heights-filled s t r, heights-balanced s t r, heights-rooted s t r)
 
-  -- its bounds hold the worth, and lie between the ends
-  pub heights-hold : (heights .low ≤ heightWorth t) × (heightWorth t ≤ heights .high) × (heights .high ≤ span (t .head) * grain t)
-  heights-hold = holds (t .head .total) (greatest (t .lines)) (span (t .head)) ε (accepted-ranged s t r .some) (heightTree t) tree-fine
+  tree-fit : Fit (plain top-height) (t .head .total ^ 0) (grained G (heightTree t))
+  tree-fit = fit (t .head .total) (span (t .head)) (greatest (t .lines)) 0 0 false (heightTree t) (heights-proper s t r) (heights-balanced s t r)
 
-  pub heights-width : heights .high ≤ heights .low + ε
-  heights-width = narrow (t .head .total) (greatest (t .lines)) (span (t .head)) ε (accepted-ranged s t r .some) (heightTree t) tree-fine
+  -- ---- the root and its children
 
-  -- ---- over the integers
-
-  low-is : searched t ε .low ≡ base +ℤ pos (heights .low)
-  low-is = shifted s t r ε .0
-
-  high-is : searched t ε .high ≡ base +ℤ pos (heights .high)
-  high-is = shifted s t r ε .1
-
-  play-is : nodeOf (searched t ε .play) ≡ nodeOf (heights .play)
-  play-is = shifted s t r ε .2
-
-  -- the exact worth "lies within those same bounds"
-  pub contains : (leZ (searched t ε .low) (worthOf t) ≡ true) × (leZ (worthOf t) (searched t ε .high) ≡ true)
-  contains = (
-    ap₂ leZ low-is (worth-shift s t r) ∙ le-above base (heights .low) (heightWorth t) (heights-hold .0),
-    ap₂ leZ (worth-shift s t r) high-is ∙ le-above base (heightWorth t) (heights .high) (heights-hold .1),
-  )
-
-  -- "demand 3's width": the bounds are at most the margin apart
-  pub width : leZ (searched t ε .high) (searched t ε .low +ℤ pos ε) ≡ true
-  width = ap₂ leZ high-is (ap (λ (z : ℤ). z +ℤ pos ε) low-is) ∙ le-margin base (heights .high) (heights .low) ε heights-width
-
-  -- ---- the play
-
-  chosen : Chosen whole (rootOf (tree t)) (enteredOf t ε) (searched t ε .play)
-  chosen =
-      subst (λ (q : Root). Chosen whole q (enteredOf t ε) (searched t ε .play)) (grains-root G (tree t))
-      (root-named whole strict-whole (rules t ε) (inGrains G (tree t)) (grains-filled G (tree t) (accepted-filled s t r)))
-
-  -- at an M or N root there is a play: the first child entered of those with the highest low, or the lowest high
-  pub play-named : (side : Side) → rootOf (tree t) ≡ toPlay side
-      → (x : Entered ℤ) × (nodeOf (searched t ε .play) ≡ some (x .node)) × FirstBest whole side (enteredOf t ε) x
-  play-named side e = subst (λ (q : Root). Chosen whole q (enteredOf t ε) (searched t ε .play)) e chosen
-
-  -- "at C and L there is none"
-  pub play-none : rootOf (tree t) ≡ nobody → nodeOf (searched t ε .play) ≡ none
-  play-none e = subst (λ (q : Root). Chosen whole q (enteredOf t ε) (searched t ε .play)) e chosen
-
-  -- where the root has a child, one is entered
-  pub child-entered : isEnd (children (tree t)) ≡ false → enteredOf t ε ≡ [] → ⊥
-  child-entered x = root-entered whole strict-whole (rules t ε) (inGrains G (tree t)) (grains-children G (tree t) ∙ x)
-
-  played : (m : ℕ) → nodeOf (searched t ε .play) ≡ some m
-      → Played top-height ε (grained G (heightTree t)) (heights .low) (heights .high) (heightWorth t) m
-  played m e =
-      plays (t .head .total) (greatest (t .lines)) (span (t .head)) ε (accepted-ranged s t r .some) (heightTree t) tree-fine m (sym play-is ∙ e)
+  root-is : rootOf (grained G (heightTree t)) ≡ rootOf (tree t)
+  root-is =
+      ap (λ (f : Forest ℕ). rootOf (grained G f)) (heights-map t)
+      ∙ root-same G (above (t .head .lowest)) (tree t)
 
   lowered-small : SmallWorths G top-height (mapForest (above (t .head .lowest)) (tree t))
   lowered-small = rw (heights-map t) at (heights-small s t r)
@@ -130,43 +81,106 @@ module _ (s : List ℕ) (t : Table) (r : readText s ≡ fine t) (ε : ℕ) where
       (own-totals (λ (n : ℕ). 0 < n) (t .head .total) (accepted-ranged s t r .some) (tree t) (accepted-balanced s t r)) lowered-small (slicesOf t) (length (t .lines)) lowered-spans m v
       (subst (λ (f : Forest ℕ). Child (plain top-height) m v (children (grained G f))) (heights-map t) c)
 
-  -- "the play's worth .. is within the margin of it"
-  pub play-near : (m : ℕ) → nodeOf (searched t ε .play) ≡ some m
-      → (v : ℤ) × (playWorth t m ≡ some v) × (leZ v (worthOf t +ℤ pos ε) ≡ true) × (leZ (worthOf t) (v +ℤ pos ε) ≡ true)
-  play-near m e =
-      let p = played m e in (
-        base +ℤ pos (p .value),
-        child-is m (p .value) (p .named),
-        ap (λ (z : ℤ). leZ (base +ℤ pos (p .value)) (z +ℤ pos ε)) (worth-shift s t r) ∙ le-margin base (p .value) (heightWorth t) ε (p .at-most),
-        ap (λ (z : ℤ). leZ z (base +ℤ pos (p .value) +ℤ pos ε)) (worth-shift s t r) ∙ le-margin base (heightWorth t) (p .value) ε (p .at-least),
-      )
+  -- ---- whatever the budget is
 
-  root-is : rootOf (grained G (heightTree t)) ≡ rootOf (tree t)
-  root-is =
-      ap (λ (f : Forest ℕ). rootOf (grained G f)) (heights-map t)
-      ∙ root-same G (above (t .head .lowest)) (tree t)
+  module _ (ε : ℕ) (full : List ℕ → Bool) where
+    abbrev heights : Seen ℕ
+    heights = heightSearched t ε full
 
-  -- at M the play is worth at least low, at N at most high
-  pub play-side : (m : ℕ) → nodeOf (searched t ε .play) ≡ some m → (v : ℤ) → playWorth t m ≡ some v
-      → (rootOf (tree t) ≡ toPlay AtM → leZ (searched t ε .low) v ≡ true) × (rootOf (tree t) ≡ toPlay AtN → leZ v (searched t ε .high) ≡ true)
-  play-side m e v f =
-      let p = played m e in
-      let x : v ≡ base +ℤ pos (p .value) = Option·some-injective v (base +ℤ pos (p .value)) (sym f ∙ child-is m (p .value) (p .named)) in (
-        λ d. ap₂ leZ low-is x ∙ le-above base (heights .low) (p .value)
-            (subst (λ (q : Root). OnSide q (heights .low) (heights .high) (p .value)) (root-is ∙ d) (p .side)),
-        λ d. ap₂ leZ x high-is ∙ le-above base (p .value) (heights .high)
-            (subst (λ (q : Root). OnSide q (heights .low) (heights .high) (p .value)) (root-is ∙ d) (p .side)),
-      )
+    -- the bounds over heights hold the worth, and lie between the ends
+    pub heights-hold : (heights .low ≤ heightWorth t) × (heightWorth t ≤ heights .high) × (heights .high ≤ span (t .head) * grain t)
+    heights-hold = holds (t .head .total) (greatest (t .lines)) (span (t .head)) ε full (accepted-ranged s t r .some) (heightTree t) tree-fine
 
-  -- ---- the divisions of lines 20 and 21
+    low-is : searchedUntil t ε full .low ≡ base +ℤ pos (heights .low)
+    low-is = shifted s t r ε full .0
 
-  tree-fit : Fit (plain top-height) (t .head .total ^ 0) (grained G (heightTree t))
-  tree-fit = fit (t .head .total) (span (t .head)) (greatest (t .lines)) 0 0 false (heightTree t) (heights-proper s t r) (heights-balanced s t r)
+    high-is : searchedUntil t ε full .high ≡ base +ℤ pos (heights .high)
+    high-is = shifted s t r ε full .1
 
-  -- "that division never leaves a remainder, and this is proved": of the search's divisions by T
-  pub no-remainder : NoRemainder t ε
-  no-remainder =
-      rw (tree-shift s t r)
-      (whole-root (plus base) (minus base) base (parts base) top-height (heightRules 0 top-height ε) (rules t ε .frame) (λ n f. frames s t r f)
-      (λ n f. (refl, refl)) (record { bottom = 0; top = top-height; total = 0 }) (t .head .total ^ 0) (grained G (heightTree t)) (le-refl top-height)
-      (tree-within s t r) (tree-positive s t r) tree-fit)
+    -- the exact worth "lies within those same bounds"
+    pub contains : (leZ (searchedUntil t ε full .low) (worthOf t) ≡ true) × (leZ (worthOf t) (searchedUntil t ε full .high) ≡ true)
+    contains = (
+      ap₂ leZ low-is (worth-shift s t r) ∙ le-above base (heights .low) (heightWorth t) (heights-hold .0),
+      ap₂ leZ (worth-shift s t r) high-is ∙ le-above base (heightWorth t) (heights .high) (heights-hold .1),
+    )
+
+    -- ---- the play
+
+    -- at an M or N root that is not met unread there is a play: the first child entered of those with the highest low, or the lowest high
+    pub play-named : full [] ≡ false → (side : Side) → rootOf (tree t) ≡ toPlay side
+        → (x : Entered ℤ) × (nodeOf (searchedUntil t ε full .play) ≡ some (x .node)) × FirstBest whole side (enteredOf t ε full) x
+    play-named z side e =
+        subst (λ (q : Root). Chosen whole q (enteredOf t ε full) (searchedUntil t ε full .play)) (grains-root G (tree t) ∙ e)
+        (root-named whole strict-whole (rules t ε full) (inGrains G (tree t)) z (grains-filled G (tree t) (accepted-filled s t r)))
+
+    -- "at C and L there is none"
+    pub play-none : rootOf (tree t) ≡ nobody → nodeOf (searchedUntil t ε full .play) ≡ none
+    play-none e =
+        subst (λ (q : Root). Held whole q (enteredOf t ε full) (searchedUntil t ε full .play)) (grains-root G (tree t) ∙ e)
+        (root-held whole strict-whole (rules t ε full) (inGrains G (tree t)))
+
+    -- "If the root is so met, no play is named"
+    pub play-unread : full [] ≡ true → nodeOf (searchedUntil t ε full .play) ≡ none
+    play-unread z = root-unread whole strict-whole (rules t ε full) (inGrains G (tree t)) z
+
+    -- where the root has a child and is not met unread, one is entered
+    pub child-entered : full [] ≡ false → isEnd (children (tree t)) ≡ false → enteredOf t ε full ≡ [] → ⊥
+    child-entered z x = root-entered whole strict-whole (rules t ε full) (inGrains G (tree t)) z (grains-children G (tree t) ∙ x)
+
+    played : (m : ℕ) → nodeOf (searchedUntil t ε full .play) ≡ some m
+        → Played top-height (grained G (heightTree t)) (heights .low) (heights .high) (heightWorth t) m
+    played m e =
+        plays (t .head .total) (greatest (t .lines)) (span (t .head)) ε full (accepted-ranged s t r .some) (heightTree t) tree-fine m
+        (sym (shifted s t r ε full .2) ∙ e)
+
+    -- "a named play is worth at least low at M and at most high at N"
+    pub play-side : (m : ℕ) → nodeOf (searchedUntil t ε full .play) ≡ some m
+        → (v : ℤ) × (playWorth t m ≡ some v)
+        × (rootOf (tree t) ≡ toPlay AtM → leZ (searchedUntil t ε full .low) v ≡ true)
+        × (rootOf (tree t) ≡ toPlay AtN → leZ v (searchedUntil t ε full .high) ≡ true)
+    play-side m e =
+        let p = played m e in (
+          base +ℤ pos (p .value),
+          child-is m (p .value) (p .named),
+          λ d. ap (λ (z : ℤ). leZ z (base +ℤ pos (p .value))) low-is ∙ le-above base (heights .low) (p .value)
+              (subst (λ (q : Root). OnSide q (heights .low) (heights .high) (heightWorth t) (p .value)) (root-is ∙ d) (p .side) .0),
+          λ d. ap (leZ (base +ℤ pos (p .value))) high-is ∙ le-above base (p .value) (heights .high)
+              (subst (λ (q : Root). OnSide q (heights .low) (heights .high) (heightWorth t) (p .value)) (root-is ∙ d) (p .side) .0),
+        )
+
+    -- ---- the divisions of lines 20 and 21
+
+    -- "that division never leaves a remainder, and this is proved": of the search's divisions by T
+    pub no-remainder : NoRemainder t ε full
+    no-remainder =
+        rw (tree-shift s t r)
+        (whole-root (plus base) (minus base) base (parts base) top-height (heightRules 0 top-height ε full) (rules t ε full .frame) (λ n f. frames s t r f)
+        (λ n f. (refl, refl)) (record { bottom = 0; top = top-height; total = 0 }) (t .head .total ^ 0) (grained G (heightTree t)) (le-refl top-height)
+        (tree-within s t r) (tree-positive s t r) tree-fit)
+
+  -- ---- without a budget
+
+  module _ (ε : ℕ) where
+    pub heights-width : heightSearched t ε unlimited .high ≤ heightSearched t ε unlimited .low + ε
+    heights-width =
+        narrow (t .head .total) (greatest (t .lines)) (span (t .head)) ε unlimited (accepted-ranged s t r .some) (λ _. refl) (heightTree t) tree-fine
+
+    -- "demand 3's width": the bounds are at most the margin apart
+    pub width : leZ (searched t ε .high) (searched t ε .low +ℤ pos ε) ≡ true
+    width =
+        ap₂ leZ (high-is ε unlimited) (ap (λ (z : ℤ). z +ℤ pos ε) (low-is ε unlimited))
+        ∙ le-margin base (heights ε unlimited .high) (heights ε unlimited .low) ε heights-width
+
+    -- "the play's worth .. is within the margin of it"
+    pub play-near : (m : ℕ) → nodeOf (searched t ε .play) ≡ some m
+        → (v : ℤ) × (playWorth t m ≡ some v) × (leZ v (worthOf t +ℤ pos ε) ≡ true) × (leZ (worthOf t) (v +ℤ pos ε) ≡ true)
+    play-near m e =
+        let p = played ε unlimited m e in
+        let h = heights-hold ε unlimited in
+        let n = near (rootOf (grained G (heightTree t))) (heights ε unlimited .low) (heights ε unlimited .high) (heightWorth t) (p .value) ε (h .0) (h .1)
+        heights-width (p .side) in (
+          base +ℤ pos (p .value),
+          child-is m (p .value) (p .named),
+          ap (λ (z : ℤ). leZ (base +ℤ pos (p .value)) (z +ℤ pos ε)) (worth-shift s t r) ∙ le-margin base (p .value) (heightWorth t) ε (n .0),
+          ap (λ (z : ℤ). leZ z (base +ℤ pos (p .value) +ℤ pos ε)) (worth-shift s t r) ∙ le-margin base (heightWorth t) (p .value) ε (n .1),
+        )

@@ -7,9 +7,9 @@ use native.Mathlib.Decide.{decLe}
 use native.Mathlib.Omega.{arith}
 use Rattle.field.proofs.Small.{choose}
 use Rattle.table.specs.Tree.{Kind, MAX, MIN, CHANCE, Forest, end, leaf, inner}
-use Rattle.search.specs.Search.{Frame, Seen, State, Rules, begin, lower, upper, update, finish, cut, stop, point, scan}
+use Rattle.search.specs.Search.{Frame, Seen, State, Rules, begin, lower, upper, update, finish, cut, stop, point, unmet, met, scan}
 use Rattle.search.specs.Inside.{natural}
-use Rattle.search.proofs.Steps.{seenAfter}
+use Rattle.search.proofs.Steps.{seenUnder, seenAfter}
 use Rattle.search.proofs.Heights.{Paid, Within, total}
 use Rattle.promise.proofs.Fit.{grade, Even, Fit}
 
@@ -58,6 +58,11 @@ module _ (R : Rules ℕ) where
   even-update e CHANCE g n w s r q h x i =
       (dvd-add g (i .0) (share-grade (e .total) g w q (dvd-sub (e .total * g) (x .0) (h .0))), dvd-sub g (i .1) (share-grade (e .total) g w q (dvd-sub (e .total * g) (h .1) (x .1))))
 
+  -- a node met unread has its parent's ends
+  pub even-met : (e : Frame ℕ) (l : List ℕ) (r : Seen ℕ) (g : ℕ) → Even g e → EvenR g r → EvenR g (met R e l r)
+  unfolding unmet
+  even-met e l r g h x = choose (EvenR g) (R .full l) (λ _. h) (λ _. x)
+
   even-after : (e : Frame ℕ) (k : Kind) (rest : Forest ℕ) (t : State ℕ) (g : ℕ) → Even (grade e k g) e → EvenS g t
       → EvenR g (scan natural R e k rest t) → EvenR g (seenAfter natural R e k rest t)
   even-after e k rest t g h i x = choose (EvenR g) (stop natural (R .margin) rest t) (λ _. even-cut e k g t h i) (λ _. x)
@@ -67,12 +72,14 @@ module _ (R : Rules ℕ) where
   unfolding scan finish point
   even e k end s g q y h i j = j
   even e k (leaf n w x rest) s g q y h i j =
-      let j2 = even-update e k g n w s _ q h (i .0, i .0) j in
+      let j2 = even-update e k g n w s _ q h (even-met e (s .read) (point n x (s .read)) (grade e k g) h (i .0, i .0)) j in
       even-after e k rest _ g h j2 (even e k rest _ g q (y .2) h (i .1) j2)
   even e k (inner n w c under rest) s g q y h i j =
       let d : Frame ℕ = R .frame n under in
       let lo : Even (grade e k g) d = (below d c (grade e k g) (i .0 .0), below d c (grade e k g) (i .0 .1)) in
       let u = even d c under _ (grade e k g) (y .2 .paid) (y .3) (i .0) (i .1)
       (even-begin d c (grade e k g) (lower natural e k w s) (upper natural e k w s) (s .read) lo) in
-      let j2 = even-update e k g n w s _ q h u j in
-      even-after e k rest _ g h j2 (even e k rest _ g q (y .4) h (i .2) j2)
+      let r : Seen ℕ = seenUnder natural R e k n w c under s in
+      let t : State ℕ = update natural e k n w s (met R e (s .read) r) in
+      let j2 = even-update e k g n w s (met R e (s .read) r) q h (even-met e (s .read) r (grade e k g) h u) j in
+      even-after e k rest t g h j2 (even e k rest t g q (y .4) h (i .2) j2)

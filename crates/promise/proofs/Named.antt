@@ -1,5 +1,5 @@
--- The play named at an M or N root is the first best child entered, and no play is named at any other, over any arithmetic whose `less` is a
--- strict order. Document 01, 'The search'. Assumes nothing.
+-- The play named at an M or N root is the first best child entered, and no play is named at any other root or at one met unread, over any
+-- arithmetic whose `less` is a strict order. Document 01, 'The search', and document 02, Item 3. Assumes nothing.
 use Prim.Native.Nat.{ℕ}
 use mathlib.Core.Path.{_≡_, refl, sym, ap, subst, _∙_}
 use mathlib.Core.Logic.{_⊎_, inl, inr}
@@ -11,13 +11,15 @@ use borrow.Author.Tests.{ltb-true, ltb-false, lt-ltb, le-ltb}
 use lib.Dec.{ltb}
 use lib.IntN.{ℤ, pos, negsuc}
 use lib.Signed.{ltZ}
+use Rattle.field.proofs.Small.{choose}
 use Rattle.line.proofs.Signs.{true-ne-false}
 use Rattle.table.specs.Tree.{Kind, MAX, MIN, CHANCE, Forest, end, leaf, inner, isEnd}
 use Rattle.table.specs.Accepted.{Filled}
 use Rattle.table.specs.Root.{Side, AtM, AtN, Root, nobody, toPlay, sideOf, rootOf, children}
-use Rattle.search.specs.Search.{Frame, Play, noPlay, child, Seen, State, Arith, Rules, begin, finish, cut, point, beats, better, prefer, update, stop, scan, search, searchRoot, nodeOf}
+use Rattle.search.specs.Search.{Frame, Play, noPlay, child, Seen, State, Arith, Rules, begin, finish, cut, point, unmet, met, beats, better, prefer, update, stop, scan, search, searchRoot, nodeOf}
 use Rattle.search.specs.Whole.{inGrains}
 use Rattle.search.proofs.Steps.{both, seenUnder, seenAfter}
+use Rattle.search.proofs.Grains.{grains-end}
 use Rattle.promise.specs.Entered.{Entered, asEntered, entered, enteredRoot, worse, FirstBest}
 
 -- what is asked of `less`: where a is below c, b is above a or below c
@@ -32,7 +34,7 @@ Chosen {A} O (toPlay side) xs p = (x : Entered A) × (nodeOf p ≡ some (x .node
 
 -- the play so far, where the children entered so far are xs
 module _ {A : Type 0} (O : Arith A) where
-  abbrev Held : Root → List (Entered A) → Play A → Type 0
+  abbrev pub Held : Root → List (Entered A) → Play A → Type 0
   Held nobody xs p = nodeOf p ≡ none
   Held (toPlay side) xs noPlay = xs ≡ []
   Held (toPlay side) xs (child m l h) = FirstBest O side xs (record { node = m; low = l; high = h })
@@ -141,12 +143,12 @@ module _ {A : Type 0} (O : Arith A) (strict : Strict (O .less)) where
     unfolding scan entered finish
     scan-held e k end s xs h = subst (λ (l : List (Entered A)). Held O (sideOf k) l (s .play)) (sym (append-nil xs)) h
     scan-held e k (leaf n w v rest) s xs h =
-        let r : Seen A = point n v (s .read) in
+        let r : Seen A = met R e (s .read) (point n v (s .read)) in
         let t : State A = update O e k n w s r in
         let j = update-held e k n w s r xs h in
         after-held e k rest t xs (asEntered n r) j (scan-held e k rest t (xs ++ (asEntered n r ∷ [])) j)
     scan-held e k (inner n w c under rest) s xs h =
-        let r : Seen A = seenUnder O R e k n w c under s in
+        let r : Seen A = met R e (s .read) (seenUnder O R e k n w c under s) in
         let t : State A = update O e k n w s r in
         let j = update-held e k n w s r xs h in
         after-held e k rest t xs (asEntered n r) j (scan-held e k rest t (xs ++ (asEntered n r ∷ [])) j)
@@ -164,21 +166,45 @@ module _ {A : Type 0} (O : Arith A) (strict : Strict (O .less)) where
     entered-some e k (leaf n w v rest) s x q = let z : _≡_ {A = ℕ} 0 1 = cc in omega arith
     entered-some e k (inner n w c under rest) s x q = let z : _≡_ {A = ℕ} 0 1 = cc in omega arith
 
-    pub root-entered : (f : Forest A) → isEnd (children f) ≡ false → enteredRoot O R f ≡ [] → ⊥
+    pub root-entered : (f : Forest A) → R .full [] ≡ false → isEnd (children f) ≡ false → enteredRoot O R f ≡ [] → ⊥
     unfolding enteredRoot
-    root-entered end x q = true-ne-false x
-    root-entered (leaf n w v rest) x q = true-ne-false x
-    root-entered (inner n w k under rest) x q = entered-some (R .frame n under) k under _ x q
+    root-entered end z x q = true-ne-false x
+    root-entered (leaf n w v rest) z x q = true-ne-false x
+    root-entered (inner n w k under rest) z x q =
+        let e : Frame A = R .frame n under in
+        entered-some e k under (begin e k (e .bottom) (e .top) []) x (rw z at q)
 
-    pub root-named : (f : Forest A) → Filled f → Chosen O (rootOf f) (enteredRoot O R f) (searchRoot O R f .play)
+    -- a node met unread names no play
+    unmet-held : (q : Root) (e : Frame A) (l : List ℕ) → Held O q [] (unmet e l .play)
+    unfolding unmet
+    unmet-held nobody e l = refl
+    unmet-held (toPlay side) e l = refl
+
+    pub root-held : (f : Forest A) → Held O (rootOf f) (enteredRoot O R f) (searchRoot O R f .play)
     unfolding searchRoot search point enteredRoot
-    root-named end x = refl
-    root-named (leaf n w v rest) x = refl
-    root-named (inner n w k under rest) x =
+    root-held end = refl
+    root-held (leaf n w v rest) =
+        choose (λ (r : Seen A). nodeOf (r .play) ≡ none) (R .full []) (λ _. unmet-held nobody (R .frame n end) []) (λ _. refl)
+    root-held (inner n w k under rest) =
         let e : Frame A = R .frame n under in
         let s : State A = begin e k (e .bottom) (e .top) [] in
-        held-chosen O (sideOf k) (entered O R e k under s) (scan O R e k under s .play) (entered-some e k under s (x .0))
+        both (λ (l : List (Entered A)) (r : Seen A). Held O (sideOf k) l (r .play)) (R .full []) (unmet-held (sideOf k) e [])
         (scan-held e k under s [] (begin-held e k (e .bottom) (e .top) []))
+
+    -- where the root is not met unread
+    pub root-named : (f : Forest A) → R .full [] ≡ false → Filled f → Chosen O (rootOf f) (enteredRoot O R f) (searchRoot O R f .play)
+    root-named end z x = root-held end
+    root-named (leaf n w v rest) z x = root-held (leaf n w v rest)
+    root-named (inner n w k under rest) z x =
+        let f : Forest A = inner n w k under rest in
+        held-chosen O (sideOf k) (enteredRoot O R f) (searchRoot O R f .play) (root-entered f z (x .0)) (root-held f)
+
+    -- where it is
+    pub root-unread : (f : Forest A) → R .full [] ≡ true → nodeOf (searchRoot O R f .play) ≡ none
+    unfolding searchRoot search unmet
+    root-unread end z = refl
+    root-unread (leaf n w v rest) z = rw z refl
+    root-unread (inner n w k under rest) z = rw z refl
 
 -- ---- the order of the integers
 
@@ -208,18 +234,6 @@ pub strict-whole : Strict ltZ
 strict-whole = record { asym = asymZ; past = pastZ }
 
 -- ---- the same nodes in grains
-
-grains-end : (G : ℕ) (f : Forest ℤ) → isEnd (inGrains G f) ≡ isEnd f
-unfolding inGrains
-grains-end G end = refl
-grains-end G (leaf n w v rest) = refl
-grains-end G (inner n w k under rest) = refl
-
-pub grains-filled : (G : ℕ) (f : Forest ℤ) → Filled f → Filled (inGrains G f)
-unfolding inGrains
-grains-filled G end x = tt
-grains-filled G (leaf n w v rest) x = grains-filled G rest x
-grains-filled G (inner n w k under rest) x = (grains-end G under ∙ x .0, grains-filled G under (x .1), grains-filled G rest (x .2))
 
 pub grains-root : (G : ℕ) (f : Forest ℤ) → rootOf (inGrains G f) ≡ rootOf f
 unfolding inGrains

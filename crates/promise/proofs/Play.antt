@@ -9,11 +9,11 @@ use lib.Dec.{T as Holds, ltb→lt, nltb→le}
 use Rattle.field.proofs.Small.{choose}
 use Rattle.table.specs.Tree.{Kind, MAX, MIN, CHANCE, Forest, end, leaf, inner}
 use Rattle.table.specs.Inside.{sealed}
-use Rattle.search.specs.Search.{Frame, Play, noPlay, child, Seen, State, Rules, begin, lower, upper, beats, prefer, update, finish, cut, stop, point, scan, search}
+use Rattle.search.specs.Search.{Frame, Play, noPlay, child, Seen, State, Rules, begin, lower, upper, beats, prefer, update, finish, cut, stop, point, unmet, met, scan, search}
 use Rattle.search.specs.Inside.{natural}
 use Rattle.search.proofs.Steps.{seenUnder, seenAfter}
 use Rattle.search.proofs.Heights.{Within, start, total, worth}
-use Rattle.search.proofs.Contain.{Holding, hold-point, hold-under, contained}
+use Rattle.search.proofs.Contain.{Holding, hold-point, hold-under, hold-met, contained}
 
 module _ (frame : ℕ → Forest ℕ → Frame ℕ) where
   -- the child of number m is worth v
@@ -115,14 +115,15 @@ module _ (R : Rules ℕ) (g : Forest ℕ) where
   mark e k end s i up j = j
   mark e k (leaf n w h rest) s i up j =
       let r : Seen ℕ = point n h (s .read) in
-      let j2 = mark-update e k n w s r h (up n h here-leaf) (hold-point e n h _ (i .0, i .1)) j in
+      let j2 = mark-update e k n w s (met R e (s .read) r) h (up n h here-leaf) (hold-met R e (s .read) h r (hold-point e n h _ (i .0, i .1))) j in
       mark-after e k rest _ j2 (mark e k rest _ (i .2) (λ m v c. up m v (next-leaf c)) j2)
   mark e k (inner n w c under rest) s i up j =
       let d : Frame ℕ = R .frame n under in
       let r : Seen ℕ = seenUnder natural R e k n w c under s in
       let u = hold-under e d _ r (i .0) (i .1) (contained R d c under (lower natural e k w s) (upper natural e k w s) (s .read) (i .2) (i .3)) in
-      let j2 = mark-update e k n w s r _ (up n _ (here-inner refl)) u j in
-      mark-after e k rest _ j2 (mark e k rest _ (i .4) (λ m v c. up m v (next-inner c)) j2)
+      let t : State ℕ = update natural e k n w s (met R e (s .read) r) in
+      let j2 = mark-update e k n w s (met R e (s .read) r) _ (up n _ (here-inner refl)) (hold-met R e (s .read) _ r u) j in
+      mark-after e k rest t j2 (mark e k rest t (i .4) (λ m v c. up m v (next-inner c)) j2)
 
 module _ (frame : ℕ → Forest ℕ → Frame ℕ) where
   grow : (f : Forest ℕ) (a : ℕ) → a ≤ total frame MAX f a
@@ -163,6 +164,12 @@ module _ (frame : ℕ → Forest ℕ → Frame ℕ) where
   Promise e CHANCE f low high noPlay = Unit {0}
   Promise e CHANCE f low high (child m l h) = ⊥
 
+  -- nothing where none is named
+  no-promise : (e : Frame ℕ) (k : Kind) (f : Forest ℕ) (low high : ℕ) → Promise e k f low high noPlay
+  no-promise e MAX f low high = tt
+  no-promise e MIN f low high = tt
+  no-promise e CHANCE f low high = tt
+
   promise : (e : Frame ℕ) (k : Kind) (f : Forest ℕ) (lo hi : ℕ) (p : Play ℕ) → Marked frame f e k lo hi p → Promise e k f lo hi p
   unfolding worth
   promise e MAX f lo hi noPlay j = tt
@@ -175,6 +182,7 @@ module _ (frame : ℕ → Forest ℕ → Frame ℕ) where
 -- the play of a search
 pub named : (R : Rules ℕ) (e : Frame ℕ) (k : Kind) (f : Forest ℕ) → Within (R .frame) e f
     → Promise (R .frame) e k f (search natural R e k f .low) (search natural R e k f .high) (search natural R e k f .play)
-unfolding search
+unfolding search unmet
 named R e k f i =
-    promise (R .frame) e k f _ _ _ (mark R f e k f (begin e k (e .bottom) (e .top) []) i (λ m v c. c) (mark-begin R f e k (e .bottom) (e .top) []))
+    choose (λ (r : Seen ℕ). Promise (R .frame) e k f (r .low) (r .high) (r .play)) (R .full []) (λ _. no-promise (R .frame) e k f (e .bottom) (e .top))
+    (λ _. promise (R .frame) e k f _ _ _ (mark R f e k f (begin e k (e .bottom) (e .top) []) i (λ m v c. c) (mark-begin R f e k (e .bottom) (e .top) [])))

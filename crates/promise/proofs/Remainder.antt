@@ -1,6 +1,6 @@
 -- The divisions of lines 20 and 21 leave no remainder: over heights, and so over the integers. Assumes nothing.
 use Prim.Native.Nat.{ℕ, _+_, _*_, _-_, _/_, _≤_, _<_}
-use mathlib.Core.Path.{_≡_, refl, sym, _∙_}
+use mathlib.Core.Path.{_≡_, refl, sym, ap, _∙_}
 use mathlib.Core.Bool.{false}
 use mathlib.Core.List.{[]}
 use native.Mathlib.Nat.{dvd-sub, mul-div-le, lt-mul-div-succ, mul-sub, mul-le-mul-left, le-trans}
@@ -9,17 +9,17 @@ use lib.IntN.{ℤ, pos, _+ℤ_, _-ℤ_, _*ℤ_}
 use Rattle.numbers.specs.Integers.{floorZ}
 use Rattle.numbers.proofs.Signs.{Is, is-unique, is-eq, is-minus, is-mul, is-floor}
 use Rattle.table.specs.Tree.{Kind, MAX, MIN, CHANCE, Forest, end, leaf, inner, isEnd, weigh}
-use Rattle.search.specs.Search.{Frame, Seen, State, Rules, begin, point, lower, upper, update, stop}
+use Rattle.search.specs.Search.{Frame, Seen, State, Rules, begin, point, met, lower, upper, update, stop}
 use Rattle.search.specs.Whole.{whole}
 use Rattle.search.specs.Inside.{natural}
 use Rattle.search.proofs.Steps.{seenUnder}
 use Rattle.search.proofs.Heights.{Paid, Within, Positive, shift}
-use Rattle.search.proofs.Contain.{Holding, hold-point, hold-under, contained}
+use Rattle.search.proofs.Contain.{Holding, hold-point, hold-under, hold-met, contained}
 use Rattle.search.proofs.Safe.{Safe, safe-begin, safe-lower, safe-upper, safe-update}
-use Rattle.search.proofs.Shift.{Rel, RelFrame, RelState, RelSeen, Open, rel-begin, rel-lower, rel-upper, rel-update, rel-point, rel-stop, open-begin, open-update, shifted}
+use Rattle.search.proofs.Shift.{Rel, RelFrame, RelState, RelSeen, Open, rel-begin, rel-lower, rel-upper, rel-update, rel-point, rel-met, rel-stop, open-begin, open-update, shifted}
 use Rattle.promise.specs.Exact.{AtChance, EachTaken, EachTakenRoot, WholeQuotients}
 use Rattle.promise.proofs.Fit.{grade, Even, Fit}
-use Rattle.promise.proofs.Exact.{share, even, EvenR, even-begin, below}
+use Rattle.promise.proofs.Exact.{share, even, EvenR, even-begin, even-met, below}
 
 -- ---- over heights
 
@@ -40,7 +40,7 @@ module _ (R : Rules ℕ) where
   unfolding point
   whole-heights e k end s g q y h i = tt
   whole-heights e k (leaf n w v rest) s g q y h i =
-      (whole-at e k g w (point n v (s .read)) h (i .0, i .0), λ _. whole-heights e k rest _ g q (y .2) h (i .1))
+      (whole-at e k g w _ h (even-met R e (s .read) (point n v (s .read)) (grade e k g) h (i .0, i .0)), λ _. whole-heights e k rest _ g q (y .2) h (i .1))
   whole-heights e k (inner n w c under rest) s g q y h i =
       let d : Frame ℕ = R .frame n under in
       let j : ℕ = grade e k g in
@@ -49,8 +49,8 @@ module _ (R : Rules ℕ) where
       let u : EvenR j (seenUnder natural R e k n w c under s) =
       even R d c under (begin d c la ub (s .read)) j (y .2 .paid) (y .3) (i .0) (i .1)
       (even-begin d c j la ub (s .read) (below d c j (i .0 .0), below d c j (i .0 .1))) in (
-        whole-at e k g w (seenUnder natural R e k n w c under s) h u,
-        whole-heights d c under (begin d c la ub (s .read)) j (y .2 .paid) (y .3) (i .0) (i .1),
+        whole-at e k g w _ h (even-met R e (s .read) (seenUnder natural R e k n w c under s) j h u),
+        λ _. whole-heights d c under (begin d c la ub (s .read)) j (y .2 .paid) (y .3) (i .0) (i .1),
         λ _. whole-heights e k rest _ g q (y .4) h (i .2),
       )
 
@@ -75,7 +75,7 @@ module _ (p q : ℕ) where
       (frames : (n : ℕ) (f : Forest ℕ) → RelFrame p q (R .frame n f) (frameZ n (shift Lo f)))
       (flat : (n : ℕ) (f : Forest ℕ) → (R .frame n f .bottom ≡ 0) × (R .frame n f .top ≡ S)) where
     abbrev Z : Rules ℤ
-    Z = record { frame = frameZ; margin = R .margin }
+    Z = record { frame = frameZ; margin = R .margin; full = R .full }
 
     at-shift : (e : Frame ℕ) (ez : Frame ℤ) (k : Kind) (w W v : ℕ) (s : State ℕ) (r : Seen ℕ) (x : Seen ℤ) → RelFrame p q e ez → Holding e v r
         → Safe S e k W s
@@ -110,10 +110,13 @@ module _ (p q : ℕ) where
     unfolding shift weigh
     taken-shift e ez k end s z f b t i o j r g a = tt
     taken-shift e ez k (leaf n w h rest) s z f b t i o j r g a =
-        let v = hold-point e n h (s .read) (i .0, i .1) in
-        let u = rel-point p q Lo isLo S R frameZ frames flat n h (s .read) (z .read) (g .read) in (
-          at-shift e ez k w _ h s (point n h (s .read)) (point n (Lo +ℤ pos h) (z .read)) f v j u (a .0),
-          rest-shift e ez k n w rest s z (point n h (s .read)) (point n (Lo +ℤ pos h) (z .read)) h f t v j g u (a .1)
+        let y : Seen ℕ = met R e (s .read) (point n h (s .read)) in
+        let yz : Seen ℤ = met Z ez (z .read) (point n (Lo +ℤ pos h) (z .read)) in
+        let v = hold-met R e (s .read) h (point n h (s .read)) (hold-point e n h (s .read) (i .0, i .1)) in
+        let u : RelSeen p q y yz = rel-met p q Lo isLo S R frameZ frames flat e ez (s .read) (z .read) _ _ f (g .read)
+        (rel-point p q Lo isLo S R frameZ frames flat n h (s .read) (z .read) (g .read)) in (
+          at-shift e ez k w _ h s y yz f v j u (a .0),
+          rest-shift e ez k n w rest s z y yz h f t v j g u (a .1)
               (λ x y j2 r2 g2 a2. taken-shift e ez k rest x y f b t (i .2) (o .1) j2 r2 g2 a2),
         )
     taken-shift e ez k (inner n w c under rest) s z f b t i o j r g a =
@@ -121,8 +124,10 @@ module _ (p q : ℕ) where
         let dz : Frame ℤ = frameZ n (shift Lo under) in
         let la : ℕ = lower natural e k w s in
         let ub : ℕ = upper natural e k w s in
-        let y : Seen ℕ = seenUnder natural R e k n w c under s in
-        let v = hold-under e d _ y (i .0) (i .1) (contained R d c under la ub (s .read) (i .2) (i .3)) in
+        let x : Seen ℕ = seenUnder natural R e k n w c under s in
+        let y : Seen ℕ = met R e (s .read) x in
+        let yz : Seen ℤ = met Z ez (z .read) (seenUnder whole Z ez k n w c (shift Lo under) z) in
+        let v = hold-met R e (s .read) _ x (hold-under e d _ x (i .0) (i .1) (contained R d c under la ub (s .read) (i .2) (i .3))) in
         let la-fits : la ≤ S = safe-lower S e k w _ s (le-trans b t) t j in
         let ub-fits : ub ≤ S = safe-upper S e k w _ s t j in
         let s2 : State ℕ = begin d c la ub (s .read) in
@@ -131,11 +136,12 @@ module _ (p q : ℕ) where
         let r2 = open-begin d c (isEnd under) la ub (s .read) (let q = flat n under in (rw (q .0) (omega arith), rw (q .1) la-fits)) in
         let g2 = rel-begin p q d dz c la ub (lower whole ez k w z) (upper whole ez k w z) (s .read) (z .read) (frames n under)
         (rel-lower p q e ez k w s z (o .0) b f r g) (rel-upper p q e ez k w s z (o .0) b f r g) (g .read) in
-        let u = shifted p q Lo isLo S R frameZ frames flat d dz c under s2 z2 (frames n under) (i .2 .ends) (le-trans (i .1) t) (i .3)
-        (o .1) j2 r2 g2 in (
-          at-shift e ez k w _ _ s y (seenUnder whole Z ez k n w c (shift Lo under) z) f v j u (a .0),
-          taken-shift d dz c under s2 z2 (frames n under) (i .2 .ends) (le-trans (i .1) t) (i .3) (o .1) j2 r2 g2 (a .1),
-          rest-shift e ez k n w rest s z y (seenUnder whole Z ez k n w c (shift Lo under) z) _ f t v j g u (a .2)
+        let u : RelSeen p q y yz = rel-met p q Lo isLo S R frameZ frames flat e ez (s .read) (z .read) _ _ f (g .read)
+        (shifted p q Lo isLo S R frameZ frames flat d dz c under s2 z2 (frames n under) (i .2 .ends) (le-trans (i .1) t) (i .3) (o .1) j2 r2 g2) in (
+          at-shift e ez k w _ _ s y yz f v j u (a .0),
+          λ m. taken-shift d dz c under s2 z2 (frames n under) (i .2 .ends) (le-trans (i .1) t) (i .3) (o .1) j2 r2 g2
+              (a .1 (ap (R .full) (sym (g .read)) ∙ m)),
+          rest-shift e ez k n w rest s z y yz _ f t v j g u (a .2)
               (λ x y j2 r2 g2 a2. taken-shift e ez k rest x y f b t (i .4) (o .2) j2 r2 g2 a2),
         )
 
@@ -150,7 +156,7 @@ module _ (p q : ℕ) where
         let dz : Frame ℤ = frameZ n (shift Lo under) in
         let y : RelFrame p q d dz = frames n under in
         let u : d .top ≤ S = le-trans (i .1) t in
-        taken-shift d dz k under (begin d k (d .bottom) (d .top) []) (begin dz k (dz .bottom) (dz .top) []) y (i .2 .ends) u (i .3) (o .1)
+        λ _. taken-shift d dz k under (begin d k (d .bottom) (d .top) []) (begin dz k (dz .bottom) (dz .top) []) y (i .2 .ends) u (i .3) (o .1)
         (safe-begin S d k under (d .bottom) (d .top) [] (i .2) u (le-trans (i .2 .ends) u) u)
         (open-begin d k (isEnd under) (d .bottom) (d .top) [] (i .2 .ends, i .2 .ends))
         (rel-begin p q d dz k (d .bottom) (d .top) (dz .bottom) (dz .top) [] [] y (y .bottom) (y .top) refl)

@@ -1,20 +1,21 @@
--- The search of a root over heights: its bounds hold the worth, are within the margin, and so is the play. Assumes nothing.
+-- The search of a root over heights: its bounds hold the worth, with the play's worth between them and it; where the budget is never spent they are
+-- within the margin, and so is the play. Assumes nothing.
 use Prim.Native.Nat.{ℕ, _+_, _*_, _^_, _≤_, _<_}
 use mathlib.Core.Path.{_≡_, subst}
-use mathlib.Core.Bool.{false}
-use mathlib.Core.List.{[]}
-use mathlib.Core.Option.{some}
-use native.Mathlib.Nat.{le-refl}
+use mathlib.Core.Bool.{Bool, false}
+use mathlib.Core.List.{List, []}
+use mathlib.Core.Option.{none, some}
 use native.Mathlib.Omega.{arith}
+use Rattle.field.proofs.Small.{choose}
 use Rattle.table.specs.Tree.{Kind, MAX, MIN, CHANCE, Forest, end, leaf, inner}
 use Rattle.table.specs.Accepted.{Filled, Balanced, Proper, Rooted}
 use Rattle.table.specs.Root.{Root, nobody, toPlay, AtM, AtN, rootOf, children}
 use Rattle.worth.specs.Inside.Heights.{heightValue, heightShares, firstHeight, SmallWorths}
 use Rattle.worth.proofs.Bounds.{small}
-use Rattle.search.specs.Search.{Play, noPlay, child, Seen, Rules, framed, point, search, searchRoot, nodeOf}
+use Rattle.search.specs.Search.{Frame, Play, noPlay, child, Seen, Rules, framed, begin, point, unmet, scan, search, searchRoot, nodeOf}
 use Rattle.search.specs.Inside.{natural, grained, heightRules}
 use Rattle.search.proofs.Heights.{worth, Within}
-use Rattle.search.proofs.Contain.{Holding, contained}
+use Rattle.search.proofs.Contain.{Holding, hold-point, hold-met, contained}
 use Rattle.search.proofs.Grains.{plain, within}
 use Rattle.search.proofs.Few.{none-some}
 use Rattle.promise.proofs.Fit.{Fit, fit}
@@ -22,35 +23,38 @@ use Rattle.promise.proofs.Width.{width}
 use Rattle.promise.proofs.Play.{Child, Promise, named}
 use Rattle.promise.proofs.Worths.{worth-value}
 
--- on which side of a bound the play is: at M it is worth at least low, at N at most high
-abbrev pub OnSide : Root → (low high v : ℕ) → Type 0
-OnSide nobody low high v = Unit {0}
-OnSide (toPlay AtM) low high v = low ≤ v
-OnSide (toPlay AtN) low high v = v ≤ high
+-- between which two the play's worth v is: at M low and the exact worth, at N the exact worth and high; at no other root is a play named
+abbrev pub OnSide : Root → (low high exact v : ℕ) → Type 0
+OnSide nobody low high exact v = ⊥
+OnSide (toPlay AtM) low high exact v = (low ≤ v) × (v ≤ exact)
+OnSide (toPlay AtN) low high exact v = (v ≤ high) × (exact ≤ v)
 
--- the root child m of F, in grains, is worth v: within ε of `exact`
-pub record Played (S ε : ℕ) (F : Forest ℕ) (low high exact m : ℕ) : Type 0 where
+-- so it is within ε of the exact worth where the bounds are within ε
+pub near : (q : Root) (low high exact v ε : ℕ) → low ≤ exact → exact ≤ high → high ≤ low + ε → OnSide q low high exact v
+    → (v ≤ exact + ε) × (exact ≤ v + ε)
+near nobody low high exact v ε a b c h = absurd h
+near (toPlay AtM) low high exact v ε a b c h = omega arith
+near (toPlay AtN) low high exact v ε a b c h = omega arith
+
+-- the root child m of F, in grains, is worth `value`
+pub record Played (S : ℕ) (F : Forest ℕ) (low high exact m : ℕ) : Type 0 where
   pub value : ℕ
   pub named : Child (plain S) m value (children F)
-  pub at-most : value ≤ exact + ε
-  pub at-least : exact ≤ value + ε
-  pub side : OnSide (rootOf F) low high value
+  pub side : OnSide (rootOf F) low high exact value
 
-module _ (S ε n w : ℕ) (rest : Forest ℕ) where
-  played : (k : Kind) (f : Forest ℕ) (low high m : ℕ) (p : Play ℕ) → nodeOf p ≡ some m
-      → low ≤ worth (plain S) (framed 0 S f) k f → worth (plain S) (framed 0 S f) k f ≤ high → high ≤ low + ε
-      → Promise (plain S) (framed 0 S f) k f low high p → Played S ε (inner n w k f rest) low high (worth (plain S) (framed 0 S f) k f) m
-  played k f low high m noPlay e a b c q = none-some e
-  played MAX f low high m (child j l h) e a b c q =
-      let i : j ≡ m = cc in
-      record { value = q .0; named = subst (λ (x : ℕ). Child (plain S) x (q .0) f) i (q .1); at-most = omega (arith, q .3); at-least = omega (arith, q .2); side = q .2 }
-  played MIN f low high m (child j l h) e a b c q =
-      let i : j ≡ m = cc in
-      record { value = q .0; named = subst (λ (x : ℕ). Child (plain S) x (q .0) f) i (q .1); at-most = omega (arith, q .2); at-least = omega (arith, q .3); side = q .2 }
-  played CHANCE f low high m (child j l h) e a b c q = absurd q
+played : (S n w : ℕ) (k : Kind) (f rest : Forest ℕ) (low high m : ℕ) (p : Play ℕ) → nodeOf p ≡ some m
+    → Promise (plain S) (framed 0 S f) k f low high p → Played S (inner n w k f rest) low high (worth (plain S) (framed 0 S f) k f) m
+played S n w k f rest low high m noPlay e q = none-some e
+played S n w MAX f rest low high m (child j l h) e q =
+    let i : j ≡ m = cc in
+    record { value = q .0; named = subst (λ (x : ℕ). Child (plain S) x (q .0) f) i (q .1); side = (q .2, q .3) }
+played S n w MIN f rest low high m (child j l h) e q =
+    let i : j ≡ m = cc in
+    record { value = q .0; named = subst (λ (x : ℕ). Child (plain S) x (q .0) f) i (q .1); side = (q .2, q .3) }
+played S n w CHANCE f rest low high m (child j l h) e q = absurd q
 
 -- T to the power K grains in a point, and the ends S points apart
-module _ (T K S ε : ℕ) (some-total : 0 < T) where
+module _ (T K S ε : ℕ) (full : List ℕ → Bool) (some-total : 0 < T) where
   abbrev G : ℕ
   G = T ^ K
 
@@ -58,7 +62,7 @@ module _ (T K S ε : ℕ) (some-total : 0 < T) where
   top = S * G
 
   abbrev R : Rules ℕ
-  R = heightRules 0 top ε
+  R = heightRules 0 top ε full
 
   abbrev found : Forest ℕ → Seen ℕ
   found F = searchRoot natural R (grained G F)
@@ -85,41 +89,51 @@ module _ (T K S ε : ℕ) (some-total : 0 < T) where
     node-holds : Holding (framed 0 top (grained G under)) (worth (plain top) (framed 0 top (grained G under)) k (grained G under))
         (search natural R (framed 0 top (grained G under)) k (grained G under))
     unfolding search grained
-    node-holds = contained R (framed 0 top (grained G under)) k (grained G under) 0 top [] (all-within .2) (all-within .3)
+    node-holds =
+        let e : Frame ℕ = framed 0 top (grained G under) in
+        hold-met R e [] _ (scan natural R e k (grained G under) (begin e k 0 top []))
+        (contained R e k (grained G under) 0 top [] (all-within .2) (all-within .3))
 
-    node-width : search natural R (framed 0 top (grained G under)) k (grained G under) .high ≤ search natural R (framed 0 top (grained G under)) k (grained G under) .low + ε
+    node-width : ((l : List ℕ) → full l ≡ false)
+        → search natural R (framed 0 top (grained G under)) k (grained G under) .high ≤ search natural R (framed 0 top (grained G under)) k (grained G under) .low + ε
     unfolding grained
-    node-width = width R (framed 0 top (grained G under)) k (grained G under) (T ^ 0) (all-within .2) (all-within .3) (all-fit .0) (all-fit .1)
+    node-width never =
+        width R never (framed 0 top (grained G under)) k (grained G under) (T ^ 0) (all-within .2) (all-within .3) (all-fit .0) (all-fit .1)
 
     node-play : (m : ℕ) → nodeOf (search natural R (framed 0 top (grained G under)) k (grained G under) .play) ≡ some m
-        → Played top ε (inner n w k (grained G under) (grained G rest)) (search natural R (framed 0 top (grained G under)) k (grained G under) .low)
+        → Played top (inner n w k (grained G under) (grained G rest)) (search natural R (framed 0 top (grained G under)) k (grained G under) .low)
         (search natural R (framed 0 top (grained G under)) k (grained G under) .high) (worth (plain top) (framed 0 top (grained G under)) k (grained G under)) m
     unfolding grained
     node-play m e =
         let r : Seen ℕ = search natural R (framed 0 top (grained G under)) k (grained G under) in
-        played top ε n w (grained G rest) k (grained G under) (r .low) (r .high) m (r .play) e (node-holds .1) (node-holds .2) node-width
+        played top n w k (grained G under) (grained G rest) (r .low) (r .high) m (r .play) e
         (named R (framed 0 top (grained G under)) k (grained G under) (all-within .3))
 
   -- the bounds hold the worth and lie between the ends
   pub holds : (F : Forest ℕ) → Tree F → (found F .low ≤ exact F) × (exact F ≤ found F .high) × (found F .high ≤ top)
   unfolding searchRoot grained heightShares point
   holds end t = absurd (t .3)
-  holds (leaf n w h rest) t = (le-refl (h * G), le-refl (h * G), within T S G some-total K 0 0 0 false (leaf n w h rest) (t .0) (t .2) .1)
+  holds (leaf n w h rest) t =
+      let e : Frame ℕ = framed 0 top end in
+      let i = within T S G some-total K 0 0 0 false (leaf n w h rest) (t .0) (t .2) in
+      let c = hold-met R e [] (h * G) (point n (h * G) []) (hold-point e n (h * G) [] (i .0, i .1)) in
+      (c .1, c .2, c .3)
   holds (inner n w k under rest) t =
       let c = rw (worth-is n w k under rest t) at (node-holds n w k under rest t) in
       (c .1, c .2, c .3)
 
-  -- they are at most ε apart
-  pub narrow : (F : Forest ℕ) → Tree F → found F .high ≤ found F .low + ε
+  -- they are at most ε apart where the budget is never spent
+  pub narrow : ((l : List ℕ) → full l ≡ false) → (F : Forest ℕ) → Tree F → found F .high ≤ found F .low + ε
   unfolding searchRoot grained point
-  narrow end t = absurd (t .3)
-  narrow (leaf n w h rest) t = omega arith
-  narrow (inner n w k under rest) t = node-width n w k under rest t
+  narrow never end t = absurd (t .3)
+  narrow never (leaf n w h rest) t = rw (never []) (omega arith)
+  narrow never (inner n w k under rest) t = node-width n w k under rest t never
 
-  -- the play's worth is within ε of the worth
+  -- the play's worth is on its side of the worth
   pub plays : (F : Forest ℕ) → Tree F → (m : ℕ) → nodeOf (found F .play) ≡ some m
-      → Played top ε (grained G F) (found F .low) (found F .high) (exact F) m
-  unfolding searchRoot grained heightShares point
+      → Played top (grained G F) (found F .low) (found F .high) (exact F) m
+  unfolding searchRoot grained heightShares point unmet
   plays end t m e = none-some e
-  plays (leaf n w h rest) t m e = none-some e
+  plays (leaf n w h rest) t m e =
+      none-some (choose (λ (r : Seen ℕ). nodeOf (r .play) ≡ some m → none ≡ some m) (full []) (λ _ x. x) (λ _ x. x) e)
   plays (inner n w k under rest) t m e = rw (worth-is n w k under rest t) at (node-play n w k under rest t m e)

@@ -1,7 +1,7 @@
 -- The search of a tree turned about is the search turned about. Assumes nothing.
 use Prim.Native.Nat.{ℕ, _+_, _*_, _-_, _/_, min, max, _≤_}
 use mathlib.Core.Path.{_≡_, refl, ap, ap₂, _∙_}
-use mathlib.Core.Bool.{Bool, not, _&&_}
+use mathlib.Core.Bool.{Bool, false, not, _&&_}
 use mathlib.Core.List.{List, []}
 use native.Mathlib.Nat.{mul-div-le, le-trans}
 use native.Mathlib.Omega.{arith}
@@ -9,11 +9,11 @@ use lib.Dec.{leb, ltb, leb→le, le→leb, ltb→lt, lt→ltb}
 use Rattle.numbers.proofs.Signs.{same-test}
 use Rattle.table.specs.Tree.{Kind, MAX, MIN, CHANCE, Forest, end, leaf, inner, isEnd, weigh}
 use Rattle.turn.specs.Turn.{turnKind}
-use Rattle.search.specs.Search.{Frame, Play, noPlay, child, Seen, State, Rules, begin, lower, upper, beats, better, update, finish, cut, stop, point, scan, search, searchRoot}
+use Rattle.search.specs.Search.{Frame, Play, noPlay, child, Seen, State, Rules, begin, lower, upper, beats, better, update, finish, cut, stop, point, unmet, met, scan, search, searchRoot}
 use Rattle.search.specs.Inside.{natural}
 use Rattle.search.proofs.Steps.{cond-map, seenUnder, seenAfter}
 use Rattle.search.proofs.Heights.{Sound, Within, total}
-use Rattle.search.proofs.Contain.{contained, Holding, hold-point, hold-under}
+use Rattle.search.proofs.Contain.{contained, Holding, hold-point, hold-under, hold-met}
 use Rattle.search.proofs.Safe.{drop-top, share-fits, Low, Safe, safe-window, safe-begin, safe-lower, safe-upper, safe-update}
 
 -- the same tree from the other side, its ends S apart
@@ -30,14 +30,14 @@ turnPlay S noPlay = noPlay
 turnPlay S (child m l h) = child m (S - h) (S - l)
 
 abbrev pub turnSeen : ℕ → Seen ℕ → Seen ℕ
-turnSeen S r = record { low = S - r .high; high = S - r .low; play = turnPlay S (r .play); read = r .read }
+turnSeen S r = record { low = S - r .high; high = S - r .low; play = turnPlay S (r .play); read = r .read; spent = r .spent }
 
 abbrev pub reframe : Rules ℕ → (ℕ → Forest ℕ → Frame ℕ) → Rules ℕ
-reframe R frame = record { frame = frame; margin = R .margin }
+reframe R frame = record { frame = frame; margin = R .margin; full = R .full }
 
 pub same-state : {s t : State ℕ} → s .alpha ≡ t .alpha → s .beta ≡ t .beta → s .lo ≡ t .lo → s .hi ≡ t .hi → s .play ≡ t .play → s .read ≡ t .read
-    → s ≡ t
-same-state p q u v w r = λ i. record { alpha = p i; beta = q i; lo = u i; hi = v i; play = w i; read = r i }
+    → s .spent ≡ t .spent → s ≡ t
+same-state p q u v w r x = λ i. record { alpha = p i; beta = q i; lo = u i; hi = v i; play = w i; read = r i; spent = x i }
 
 -- a function of either answer of a test
 sub-max : (S a b : ℕ) → min (S - a) (S - b) ≡ S - max a b
@@ -96,7 +96,8 @@ turn-weigh S (inner n w k under rest) = ap (λ (x : ℕ). w + x) (turn-weigh S r
 
 module _ (S : ℕ) where
   unfoldable pub turnState : State ℕ → State ℕ
-  turnState s = record { alpha = S - s .beta; beta = S - s .alpha; lo = S - s .hi; hi = S - s .lo; play = turnPlay S (s .play); read = s .read }
+  turnState s =
+      record { alpha = S - s .beta; beta = S - s .alpha; lo = S - s .hi; hi = S - s .lo; play = turnPlay S (s .play); read = s .read; spent = s .spent }
 
   module _ (R : Rules ℕ) where
     better-turn : (k : Kind) (n : ℕ) (p : Play ℕ) (r : Seen ℕ) → r .low ≤ S → r .high ≤ S → Low S p
@@ -112,10 +113,10 @@ module _ (S : ℕ) where
     unfolding update turnState
     update-turn e MAX n w W s r t bl lh rS i =
         same-state (sub-min S _ _) (simp sub-max) (sub-max S _ _) (sub-max S _ _)
-        (better-turn MAX n (s .play) r (le-trans lh (le-trans rS t)) (le-trans rS t) (i .4)) refl
+        (better-turn MAX n (s .play) r (le-trans lh (le-trans rS t)) (le-trans rS t) (i .4)) refl refl
     update-turn e MIN n w W s r t bl lh rS i =
         same-state (simp sub-min) (sub-max S _ _) (sub-min S _ _) (sub-min S _ _)
-        (better-turn MIN n (s .play) r (le-trans lh (le-trans rS t)) (le-trans rS t) (i .4)) refl
+        (better-turn MIN n (s .play) r (le-trans lh (le-trans rS t)) (le-trans rS t) (i .4)) refl refl
     update-turn e CHANCE n w W s r t bl lh rS i =
         let B : ℕ = e .bottom in
         let T : ℕ = e .total in
@@ -125,7 +126,7 @@ module _ (S : ℕ) where
         = rw (sub-swap S (e .top) (r .high) t) (sub-back S _ _ (share-fits (e .top - B) T w W _ _ (r .high - B) _ (i .4) ey (i .2)) (i .3)) in
         let eh : S - s .lo - w * (S - B - (S - r .low)) / T ≡ S - (s .lo + w * (r .low - B) / T) = rw
         (sub-swap S (r .low) B (le-trans lh (le-trans rS t))) (sub-both S _ _) in
-        same-state (rw el (sub-min S _ _)) (rw eh (sub-max S _ _)) el eh refl refl
+        same-state (rw el (sub-min S _ _)) (rw eh (sub-max S _ _)) el eh refl refl refl
 
     stop-turn : (rest : Forest ℕ) (t : State ℕ) → t .alpha ≤ S → t .beta ≤ S
         → stop natural (R .margin) (turn S rest) (turnState t) ≡ stop natural (R .margin) rest t
@@ -162,6 +163,10 @@ module _ (S : ℕ) where
     abbrev R2 : Rules ℕ
     R2 = reframe R frame
 
+    met-turn : (e : Frame ℕ) (l : List ℕ) (r : Seen ℕ) → met R2 (turnFrame S e) l (turnSeen S r) ≡ turnSeen S (met R e l r)
+    unfolding unmet
+    met-turn e l r = cond-map (turnSeen S) (unmet e l) r (R .full l)
+
     after-turn : (e : Frame ℕ) (k : Kind) (rest : Forest ℕ) (t : State ℕ) → t .alpha ≤ S → t .beta ≤ S
         → scan natural R2 (turnFrame S e) (turnKind k) (turn S rest) (turnState t) ≡ turnSeen S (scan natural R e k rest t)
         → seenAfter natural R2 (turnFrame S e) (turnKind k) (turn S rest) (turnState t) ≡ turnSeen S (seenAfter natural R e k rest t)
@@ -187,7 +192,8 @@ module _ (S : ℕ) where
     turned e k end s o t i j = refl
     turned e k (leaf n w h rest) s o t i j =
         let r : Seen ℕ = point n h (s .read) in
-        step-turn e k n w rest s r _ h t (hold-point e n h (s .read) (i .0, i .1)) j refl (λ z y. turned e k rest z o t (i .2) y)
+        step-turn e k n w rest s (met R e (s .read) r) _ h t (hold-met R e (s .read) h r (hold-point e n h (s .read) (i .0, i .1))) j
+        (met-turn e (s .read) r) (λ z y. turned e k rest z o t (i .2) y)
     turned e k (inner n w c under rest) s o t i j =
         let d : Frame ℕ = R .frame n under in
         let la : ℕ = lower natural e k w s in
@@ -203,21 +209,26 @@ module _ (S : ℕ) where
         (ap (scan natural R2 (turnFrame S d) (turnKind c) (turn S under)) (ap₂ (λ x y. begin (turnFrame S d) (turnKind c) x y (s .read)) (lower-turn e k w _ s j) (upper-turn e k w _ s t j) ∙ begin-turn d c la ub (s .read))
         ∙ turned d c under (begin d c la ub (s .read)) (i .2 .ends) (le-trans (i .1) t) (i .3)
         (safe-begin S d c under la ub (s .read) (i .2) (le-trans (i .1) t) (safe-lower S e k w _ s b t j) (safe-upper S e k w _ s t j))) in
-        step-turn e k n w rest s r _ _ t u j x (λ z y. turned e k rest z o t (i .4) y)
+        step-turn e k n w rest s (met R e (s .read) r) _ _ t (hold-met R e (s .read) _ r u) j
+        (ap (met R2 (turnFrame S e) (s .read)) x ∙ met-turn e (s .read) r) (λ z y. turned e k rest z o t (i .4) y)
 
     pub turned-search : (e : Frame ℕ) (k : Kind) (f : Forest ℕ) → e .top ≤ S → Sound e k f → Within (R .frame) e f
         → search natural R2 (turnFrame S e) (turnKind k) (turn S f) ≡ turnSeen S (search natural R e k f)
     unfolding search
     turned-search e k f t q i =
-        ap (scan natural R2 (turnFrame S e) (turnKind k) (turn S f)) (begin-turn e k (e .bottom) (e .top) []) ∙ turned e k f _ (q .ends) t i
-        (safe-begin S e k f (e .bottom) (e .top) [] q t (le-trans (q .ends) t) t)
+        let s : State ℕ = begin e k (e .bottom) (e .top) [] in
+        ap (met R2 (turnFrame S e) [])
+        (ap (scan natural R2 (turnFrame S e) (turnKind k) (turn S f)) (begin-turn e k (e .bottom) (e .top) []) ∙ turned e k f s (q .ends) t i
+        (safe-begin S e k f (e .bottom) (e .top) [] q t (le-trans (q .ends) t) t))
+        ∙ met-turn e [] (scan natural R e k f s)
 
     -- the search of a root
     pub turned-root : (e : Frame ℕ) (f : Forest ℕ) → e .top ≤ S → Within (R .frame) e f
         → searchRoot natural R2 (turn S f) ≡ turnSeen S (searchRoot natural R f)
     unfolding searchRoot turn point
-    turned-root e end t i = ap (λ (d : Frame ℕ). record { low = d .bottom; high = d .top; play = noPlay; read = [] }) (frames 0 end)
-    turned-root e (leaf n w h rest) t i = refl
+    turned-root e end t i = ap (λ (d : Frame ℕ). record { low = d .bottom; high = d .top; play = noPlay; read = []; spent = false }) (frames 0 end)
+    turned-root e (leaf n w h rest) t i =
+        ap (λ (d : Frame ℕ). met R2 d [] (point n (S - h) [])) (frames n end) ∙ met-turn (R .frame n end) [] (point n h [])
     turned-root e (inner n w k under rest) t i =
         ap (λ (d : Frame ℕ). search natural R2 d (turnKind k) (turn S under)) (frames n under) ∙ turned-search (R .frame n under) k under
         (le-trans (i .1) t) (i .2) (i .3)

@@ -1,4 +1,5 @@
--- The search of the turned table: bounds negated and exchanged, the same play and the same reading sequence. Document 01, 'The search'. Assumes nothing.
+-- The search of the turned table: bounds negated and exchanged, the same play, the same reading sequence, and the budget spent or not as before.
+-- Document 01, 'The search', and document 02, Item 3. Assumes nothing.
 use Prim.Native.Nat.{ℕ, suc, _+_, _*_, _-_, _^_, max, _≤_}
 use mathlib.Core.Path.{_≡_, refl, sym, ap, ap₂, subst, _∙_}
 use mathlib.Core.Bool.{Bool, false}
@@ -22,8 +23,8 @@ use Rattle.worth.specs.Worth.{worthOf}
 use Rattle.worth.specs.Inside.Heights.{heightWorth}
 use Rattle.worth.proofs.Worth.{shift as worth-shift}
 use Rattle.turn.specs.Turn.{turnKind, turnHead, turnTree}
-use Rattle.search.specs.Search.{Play, noPlay, child, Seen, framed, searchRoot, nodeOf}
-use Rattle.search.specs.Whole.{searched}
+use Rattle.search.specs.Search.{Play, noPlay, child, Seen, unlimited, framed, searchRoot, nodeOf}
+use Rattle.search.specs.Whole.{searched, searchedUntil}
 use Rattle.search.specs.Inside.{natural, grained, heightRules, heightSearched}
 use Rattle.search.proofs.Grains.{plain}
 use Rattle.search.proofs.Table.{tree-within, heights-order, shifted}
@@ -57,7 +58,7 @@ natural-is (pos n) a b i = omega arith
 natural-is (negsuc n) a b i = omega arith
 
 -- minus a minus minus b is b minus a
-turn-minus : (a b : ℤ) → negℤ a -ℤ negℤ b ≡ b -ℤ a
+pub turn-minus : (a b : ℤ) → negℤ a -ℤ negℤ b ≡ b -ℤ a
 turn-minus a b =
     is-unique (negℤ a -ℤ negℤ b) (b -ℤ a) (minus a + plus b) (plus a + minus b)
     (is-minus (negℤ a) (negℤ b) (minus a) (plus a) (minus b) (plus b) (is-neg a (plus a) (minus a) (parts a)) (is-neg b (plus b) (minus b) (parts b)))
@@ -118,7 +119,7 @@ turn-node S (child m l h) = refl
 
 -- ---- the table u is t turned
 
-module _ (a b : List ℕ) (t u : Table) (p : readText a ≡ fine t) (q : readText b ≡ fine u) (ε : ℕ) (turns : Turns t u) where
+module _ (a b : List ℕ) (t u : Table) (p : readText a ≡ fine t) (q : readText b ≡ fine u) (ε : ℕ) (full : List ℕ → Bool) (turns : Turns t u) where
   abbrev G : ℕ
   G = grain t
 
@@ -145,12 +146,12 @@ module _ (a b : List ℕ) (t u : Table) (p : readText a ≡ fine t) (q : readTex
   frame-turn : (f : Forest ℕ) → framed 0 S (turn S f) ≡ turnFrame S (framed 0 S f)
   frame-turn f = let x : 0 ≡ S - S = omega arith in let y : S ≡ S - 0 = omega arith in λ i. record { bottom = x i; top = y i; total = turn-weigh S f i }
 
-  seen-turn : heightSearched u ε ≡ turnSeen S (heightSearched t ε)
+  seen-turn : heightSearched u ε full ≡ turnSeen S (heightSearched t ε full)
   seen-turn =
-      ap (λ (M : ℕ). searchRoot natural (heightRules 0 M ε) (grained (grain u) (heightTree u))) same-top
-      ∙ ap (searchRoot natural (heightRules 0 S ε)) heights-turn
-      ∙ turned-root S (heightRules 0 S ε) (plain S) (λ n f. frame-turn f) (record { bottom = 0; top = S; total = 0 }) (grained G (heightTree t)) (le-refl S)
-      (tree-within a t p)
+      ap (λ (M : ℕ). searchRoot natural (heightRules 0 M ε full) (grained (grain u) (heightTree u))) same-top
+      ∙ ap (searchRoot natural (heightRules 0 S ε full)) heights-turn
+      ∙ turned-root S (heightRules 0 S ε full) (plain S) (λ n f. frame-turn f) (record { bottom = 0; top = S; total = 0 }) (grained G (heightTree t))
+      (le-refl S) (tree-within a t p)
 
   -- the turned table's lowest end in grains
   base-turn : u .head .lowest *ℤ pos (grain u) ≡ negℤ (t .head .lowest *ℤ pos G +ℤ pos S)
@@ -161,28 +162,32 @@ module _ (a b : List ℕ) (t u : Table) (p : readText a ≡ fine t) (q : readTex
   bound-turn x y e h = ap₂ (λ (z : ℤ) (k : ℕ). z +ℤ pos k) base-turn e ∙ turn-back (t .head .lowest *ℤ pos G) S y h
 
   -- "its low is minus the old high"
-  pub turned-low : searched u ε .low ≡ negℤ (searched t ε .high)
+  pub turned-low : searchedUntil u ε full .low ≡ negℤ (searchedUntil t ε full .high)
   turned-low =
-      shifted b u q ε .0
-      ∙ bound-turn (heightSearched u ε .low) (heightSearched t ε .high) (ap (λ (r : Seen ℕ). r .low) seen-turn) (heights-order a t p ε .1)
-      ∙ ap negℤ (sym (shifted a t p ε .1))
+      shifted b u q ε full .0
+      ∙ bound-turn (heightSearched u ε full .low) (heightSearched t ε full .high) (ap (λ (r : Seen ℕ). r .low) seen-turn) (heights-order a t p ε full .1)
+      ∙ ap negℤ (sym (shifted a t p ε full .1))
 
   -- "its high is minus the old low"
-  pub turned-high : searched u ε .high ≡ negℤ (searched t ε .low)
+  pub turned-high : searchedUntil u ε full .high ≡ negℤ (searchedUntil t ε full .low)
   turned-high =
-      shifted b u q ε .1
-      ∙ bound-turn (heightSearched u ε .high) (heightSearched t ε .low) (ap (λ (r : Seen ℕ). r .high) seen-turn)
-      (le-trans (heights-order a t p ε .0) (heights-order a t p ε .1))
-      ∙ ap negℤ (sym (shifted a t p ε .0))
+      shifted b u q ε full .1
+      ∙ bound-turn (heightSearched u ε full .high) (heightSearched t ε full .low) (ap (λ (r : Seen ℕ). r .high) seen-turn)
+      (le-trans (heights-order a t p ε full .0) (heights-order a t p ε full .1))
+      ∙ ap negℤ (sym (shifted a t p ε full .0))
 
   -- "its play is the same child or again none"
-  pub turned-play : nodeOf (searched u ε .play) ≡ nodeOf (searched t ε .play)
+  pub turned-play : nodeOf (searchedUntil u ε full .play) ≡ nodeOf (searchedUntil t ε full .play)
   turned-play =
-      shifted b u q ε .2 ∙ ap (λ (r : Seen ℕ). nodeOf (r .play)) seen-turn ∙ turn-node S (heightSearched t ε .play) ∙ sym (shifted a t p ε .2)
+      shifted b u q ε full .2 ∙ ap (λ (r : Seen ℕ). nodeOf (r .play)) seen-turn ∙ turn-node S (heightSearched t ε full .play) ∙ sym (shifted a t p ε full .2)
 
   -- "and its reading sequence is equal entry by entry"
-  pub turned-read : searched u ε .read ≡ searched t ε .read
-  turned-read = shifted b u q ε .3 ∙ ap (λ (r : Seen ℕ). r .read) seen-turn ∙ sym (shifted a t p ε .3)
+  pub turned-read : searchedUntil u ε full .read ≡ searchedUntil t ε full .read
+  turned-read = shifted b u q ε full .3 ∙ ap (λ (r : Seen ℕ). r .read) seen-turn ∙ sym (shifted a t p ε full .3)
+
+  -- "whether the budget was spent"
+  pub turned-spent : searchedUntil u ε full .spent ≡ searchedUntil t ε full .spent
+  turned-spent = shifted b u q ε full .4 ∙ ap (λ (r : Seen ℕ). r .spent) seen-turn ∙ sym (shifted a t p ε full .4)
 
 -- ---- the exact worth
 
@@ -192,11 +197,15 @@ module _ (s : List ℕ) (t : Table) (r : readText s ≡ fine t) where
   closed x e = worth-shift s t r ∙ ap (λ (y : ℕ). t .head .lowest *ℤ pos (grain t) +ℤ pos y) e
 
   closed-low : worthOf t ≡ searched t 0 .low
-  closed-low = closed (heightSearched t 0 .low) (omega (arith, heights-hold s t r 0, heights-width s t r 0)) ∙ sym (shifted s t r 0 .0)
+  closed-low =
+      closed (heightSearched t 0 unlimited .low) (omega (arith, heights-hold s t r 0 unlimited, heights-width s t r 0))
+      ∙ sym (shifted s t r 0 unlimited .0)
 
   closed-high : worthOf t ≡ searched t 0 .high
-  closed-high = closed (heightSearched t 0 .high) (omega (arith, heights-hold s t r 0, heights-width s t r 0)) ∙ sym (shifted s t r 0 .1)
+  closed-high =
+      closed (heightSearched t 0 unlimited .high) (omega (arith, heights-hold s t r 0 unlimited, heights-width s t r 0))
+      ∙ sym (shifted s t r 0 unlimited .1)
 
 -- the turned table is worth minus what the table is worth
 pub turned-worth : (a b : List ℕ) (t u : Table) → readText a ≡ fine t → readText b ≡ fine u → Turns t u → worthOf u ≡ negℤ (worthOf t)
-turned-worth a b t u p q turns = closed-low b u q ∙ turned-low a b t u p q 0 turns ∙ ap negℤ (sym (closed-high a t p))
+turned-worth a b t u p q turns = closed-low b u q ∙ turned-low a b t u p q 0 unlimited turns ∙ ap negℤ (sym (closed-high a t p))

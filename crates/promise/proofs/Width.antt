@@ -1,6 +1,7 @@
--- The bounds that the search returns are within the margin, inside the window. Assumes nothing.
+-- The bounds that the search returns are within the margin, inside the window, where its budget is never spent. Assumes nothing.
 use Prim.Native.Nat.{ℕ, _+_, _*_, _-_, _/_, min, max, _≤_, _<_}
 use mathlib.Core.Path.{_≡_, refl}
+use mathlib.Core.Bool.{false}
 use mathlib.Core.List.{List, []}
 use native.Mathlib.Nat.{mul-le-mul-left, mul-le-mul-right, mul-sub, le-of-mul-le-mul-left, dvd-sub, le-trans, le-add-left, le-add-right, le-refl}
 use native.Mathlib.Decide.{decLe}
@@ -232,30 +233,32 @@ module _ (R : Rules ℕ) where
     narrow-after e k rest t i x =
         choose (Tight a b) (stop natural (R .margin) rest t) (λ h. narrow-cut e k (weigh rest) t (stop-shut rest t h) i) (λ _. x)
 
-  pub narrow : (e : Frame ℕ) (k : Kind) (f : Forest ℕ) (s : State ℕ) (a b g : ℕ) → Paid e k → Within (R .frame) e f → Even (grade e k g) e
-      → Fit (R .frame) (grade e k g) f → Narrow a b e k (weigh f) s → Tight a b (scan natural R e k f s)
-  unfolding scan weigh point
-  narrow e k end s a b g q i d x j = narrow-finish a b e k s q j
-  narrow e k (leaf n w v rest) s a b g q i d x j = (
-      let j2 = narrow-update a b e k g n w (weigh rest) s (point n v (s .read)) q d (x .0, x .0) (i .0) (omega arith) (i .1) (omega arith) j in
-      narrow-after a b e k rest _ j2 (narrow e k rest _ a b g q (i .2) d (x .1) j2))
-  narrow e k (inner n w c under rest) s a b g q i d x j = (
-      let la : ℕ = lower natural e k w s in
-      let ub : ℕ = upper natural e k w s in
-      let m : Frame ℕ = R .frame n under in
-      let r : Seen ℕ = seenUnder natural R e k n w c under s in
-      let u : Tight la ub r = narrow m c under _ la ub (grade e k g) (i .2 .paid) (i .3) (x .0) (x .1)
-      (narrow-begin la ub m c under (s .read) (i .2)) in
-      let v = contained R m c under la ub (s .read) (i .2) (i .3) in
-      let y = even R m c under _ (grade e k g) (i .2 .paid) (i .3) (x .0) (x .1)
-      (even-begin m c (grade e k g) la ub (s .read) (below m c (grade e k g) (x .0 .0), below m c (grade e k g) (x .0 .1))) in
-      let j2 = narrow-update a b e k g n w (weigh rest) s r q d y (le-trans (i .0) (v .0)) (le-trans (v .1) (v .2)) (le-trans (v .3) (i .1)) u j in
-      narrow-after a b e k rest _ j2 (narrow e k rest _ a b g q (i .4) d (x .2) j2))
+  -- with a budget that is never spent
+  module _ (never : (l : List ℕ) → R .full l ≡ false) where
+    pub narrow : (e : Frame ℕ) (k : Kind) (f : Forest ℕ) (s : State ℕ) (a b g : ℕ) → Paid e k → Within (R .frame) e f → Even (grade e k g) e
+        → Fit (R .frame) (grade e k g) f → Narrow a b e k (weigh f) s → Tight a b (scan natural R e k f s)
+    unfolding scan weigh point
+    narrow e k end s a b g q i d x j = narrow-finish a b e k s q j
+    narrow e k (leaf n w v rest) s a b g q i d x j = rw (never (s .read)) (
+        let j2 = narrow-update a b e k g n w (weigh rest) s (point n v (s .read)) q d (x .0, x .0) (i .0) (omega arith) (i .1) (omega arith) j in
+        narrow-after a b e k rest _ j2 (narrow e k rest _ a b g q (i .2) d (x .1) j2))
+    narrow e k (inner n w c under rest) s a b g q i d x j = rw (never (s .read)) (
+        let la : ℕ = lower natural e k w s in
+        let ub : ℕ = upper natural e k w s in
+        let m : Frame ℕ = R .frame n under in
+        let r : Seen ℕ = seenUnder natural R e k n w c under s in
+        let u : Tight la ub r = narrow m c under _ la ub (grade e k g) (i .2 .paid) (i .3) (x .0) (x .1)
+        (narrow-begin la ub m c under (s .read) (i .2)) in
+        let v = contained R m c under la ub (s .read) (i .2) (i .3) in
+        let y = even R m c under _ (grade e k g) (i .2 .paid) (i .3) (x .0) (x .1)
+        (even-begin m c (grade e k g) la ub (s .read) (below m c (grade e k g) (x .0 .0), below m c (grade e k g) (x .0 .1))) in
+        let j2 = narrow-update a b e k g n w (weigh rest) s r q d y (le-trans (i .0) (v .0)) (le-trans (v .1) (v .2)) (le-trans (v .3) (i .1)) u j in
+        narrow-after a b e k rest _ j2 (narrow e k rest _ a b g q (i .4) d (x .2) j2))
 
-  -- at the root
-  pub width : (e : Frame ℕ) (k : Kind) (f : Forest ℕ) (g : ℕ) → Sound e k f → Within (R .frame) e f → Even (grade e k g) e
-      → Fit (R .frame) (grade e k g) f → search natural R e k f .high ≤ search natural R e k f .low + ε
-  unfolding search
-  width e k f g q i d x = (
-      let v = contained R e k f (e .bottom) (e .top) [] q i in
-      omega (arith, v, narrow e k f _ (e .bottom) (e .top) g (q .paid) i d x (narrow-begin (e .bottom) (e .top) e k f [] q)))
+    -- at the root
+    pub width : (e : Frame ℕ) (k : Kind) (f : Forest ℕ) (g : ℕ) → Sound e k f → Within (R .frame) e f → Even (grade e k g) e
+        → Fit (R .frame) (grade e k g) f → search natural R e k f .high ≤ search natural R e k f .low + ε
+    unfolding search
+    width e k f g q i d x = rw (never []) (
+        let v = contained R e k f (e .bottom) (e .top) [] q i in
+        omega (arith, v, narrow e k f _ (e .bottom) (e .top) g (q .paid) i d x (narrow-begin (e .bottom) (e .top) e k f [] q)))

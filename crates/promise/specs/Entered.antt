@@ -1,4 +1,4 @@
--- The children that a search enters, and the best of them. Document 01, 'The search'.
+-- The children that a search enters, and the best of them. Document 01, 'The search', and document 02, Item 3.
 use Prim.Native.Nat.{ℕ}
 use mathlib.Core.Path.{_≡_}
 use mathlib.Core.Bool.{Bool, true, false, cond}
@@ -7,7 +7,7 @@ use lib.IntN.{ℤ}
 use Rattle.table.specs.Tree.{Kind, Forest, end, leaf, inner}
 use Rattle.table.specs.Table.{Table, tree, grain}
 use Rattle.table.specs.Root.{Side, AtM, AtN}
-use Rattle.search.specs.Search.{Frame, Seen, State, Arith, Rules, begin, point, update, stop, enter, scan}
+use Rattle.search.specs.Search.{Frame, Seen, State, Arith, Rules, begin, point, met, update, stop, enter, scan}
 use Rattle.search.specs.Whole.{whole, inGrains, rules}
 
 -- a child entered, with the bounds that its search gave
@@ -22,26 +22,27 @@ module _ {A : Type 0} where
 
   module _ (O : Arith A) where
     module _ (R : Rules A) where
-      -- the children entered from the state s on, first to last: the walk of `scan`, up to the child after which it stops
+      -- the children entered from the state s on, first to last: the walk of `scan`, up to the child after which it stops. A child met unread is
+      -- entered too, and gives the two ends.
       unfoldable pub entered : (e : Frame A) (k : Kind) (f : Forest A) (s : State A) → List (Entered A)
       entered e k end s = []
       entered e k (leaf n w v rest) s =
-          let r : Seen A = point n v (s .read) in
+          let r : Seen A = met R e (s .read) (point n v (s .read)) in
           let t : State A = update O e k n w s r in
           asEntered n r ∷ cond (stop O (R .margin) rest t) [] (entered e k rest t)
       entered e k (inner n w c under rest) s =
           let d : Frame A = R .frame n under in
-          let r : Seen A = scan O R d c under (enter O e k w d c s) in
+          let r : Seen A = met R e (s .read) (scan O R d c under (enter O e k w d c s)) in
           let t : State A = update O e k n w s r in
           asEntered n r ∷ cond (stop O (R .margin) rest t) [] (entered e k rest t)
 
-      -- the children of the root that are entered: none of a lone leaf
+      -- the children of the root that are entered: none of a lone leaf, and none of a root met unread
       unfoldable pub enteredRoot : Forest A → List (Entered A)
       enteredRoot end = []
       enteredRoot (leaf n w v rest) = []
       enteredRoot (inner n w k under rest) =
           let e : Frame A = R .frame n under in
-          entered e k under (begin e k (e .bottom) (e .top) [])
+          cond (R .full []) [] (entered e k under (begin e k (e .bottom) (e .top) []))
 
     -- whether x is worse than y: at M its low is lower, at N its high is higher
     abbrev pub worse : Side → (x y : Entered A) → Bool
@@ -57,6 +58,6 @@ module _ {A : Type 0} where
       pub earlier-worse : (x : Entered A) → List·Memᴰ x before → worse side x best ≡ true
       pub later-no-better : (x : Entered A) → List·Memᴰ x later → worse side best x ≡ false
 
--- in the search of a table at the margin ε
-abbrev pub enteredOf : Table → (ε : ℕ) → List (Entered ℤ)
-enteredOf t ε = enteredRoot whole (rules t ε) (inGrains (grain t) (tree t))
+-- in the search of a table at the margin ε, until the budget is spent
+abbrev pub enteredOf : Table → (ε : ℕ) (full : List ℕ → Bool) → List (Entered ℤ)
+enteredOf t ε full = enteredRoot whole (rules t ε full) (inGrains (grain t) (tree t))
