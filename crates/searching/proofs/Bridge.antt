@@ -1,36 +1,38 @@
 -- The code's states stand for those of Algorithm 1 over heights. Assumes nothing.
 -- The code keeps the number of the best child alone: that child's low is the low of an M so far, and its high the high of an N.
-use Prim.Native.Nat.{ℕ, _*_, _≤_, _<_}
+use Prim.Native.Nat.{ℕ, _+_, _*_, _≤_, _<_}
 use mathlib.Core.Path.{_≡_, refl, sym, ap, ap₂, _∙_}
 use mathlib.Core.Bool.{Bool, true, false, cond}
 use mathlib.Core.List.{List, [], _∷_, _++_, append-nil, append-assoc}
 use native.Mathlib.Omega.{arith}
 use borrow.Author.Tests.{ltb-true, ltb-false, ne-eqb}
-use lib.Dec.{ltb}
+use lib.Dec.{ltb, leb, leb→le, le→leb}
+use lib.ListN.{length, length-append}
+use Rattle.numbers.proofs.Signs.{same-test}
 use Rattle.line.proofs.Signs.{true-ne-false}
 use Rattle.table.specs.Tree.{Kind, MAX, MIN, CHANCE, Forest, end, leaf, inner, isEnd}
 use Rattle.table.proofs.Nodes.{restOf, numberOf, weightOf}
 use Rattle.search.specs.Search as alg
-use Rattle.search.specs.Search.{Frame, Play, noPlay, child, Seen, Arith, Rules, begin, finish, cut, point, lower, upper, beats, prefer, update, stop, scan, framed, nodeOf}
+use Rattle.search.specs.Search.{Frame, Play, noPlay, child, Seen, Arith, Rules, limited, begin, finish, cut, point, unmet, met, lower, upper, beats, prefer, update, stop, scan, framed, nodeOf}
 use Rattle.search.specs.Inside.{natural, grained}
 use Rattle.search.proofs.Steps.{cond-map, seenUnder, seenAfter}
 use Rattle.steps.specs.declared.Rule.{Rule}
 use Rattle.steps.specs.declared.Ends.{Ends}
 use Rattle.steps.specs.declared.State.{State}
 use Rattle.steps.specs.declared.Window.{Window}
-use Rattle.steps.specs.Inside.{lift, windowFor, preferred, after}
-use Rattle.searching.specs.Inside.{rulesOf, seenIn, playAt}
+use Rattle.steps.specs.Inside.{frameAt, lift, windowFor, preferred, after, rulesOf, playAt, leafSeen}
+use Rattle.searching.specs.Inside.{seenIn}
 
 -- ---- the leaves read before change nothing else
 
 module _ {A : Type 0} where
   abbrev pub ahead : List ℕ → Seen A → Seen A
-  ahead l r = record { low = r .low; high = r .high; play = r .play; read = l ++ r .read }
+  ahead l r = record { low = r .low; high = r .high; play = r .play; read = l ++ r .read; spent = r .spent }
 
   abbrev aheadS : List ℕ → alg.State A → alg.State A
-  aheadS l s = record { alpha = s .alpha; beta = s .beta; lo = s .lo; hi = s .hi; play = s .play; read = l ++ s .read }
+  aheadS l s = record { alpha = s .alpha; beta = s .beta; lo = s .lo; hi = s .hi; play = s .play; read = l ++ s .read; spent = s .spent }
 
-  module _ (O : Arith A) (R : Rules A) where
+  module _ (O : Arith A) where
     prefer-ahead : (k : Kind) (n : ℕ) (p : Play A) (l : List ℕ) (r : Seen A) → prefer O k n p (ahead l r) ≡ prefer O k n p r
     unfolding prefer
     prefer-ahead MAX n noPlay l r = refl
@@ -44,7 +46,7 @@ module _ {A : Type 0} where
     unfolding update
     update-ahead e k n w s l r =
         let t : alg.State A = update O e k n w s r in
-        λ i. record { alpha = t .alpha; beta = t .beta; lo = t .lo; hi = t .hi; play = prefer-ahead k n (s .play) l r i; read = l ++ r .read }
+        λ i. record { alpha = t .alpha; beta = t .beta; lo = t .lo; hi = t .hi; play = prefer-ahead k n (s .play) l r i; read = l ++ r .read; spent = r .spent }
 
     lower-ahead : (e : Frame A) (k : Kind) (w : ℕ) (s : alg.State A) (l : List ℕ) → lower O e k w (aheadS l s) ≡ lower O e k w s
     unfolding lower
@@ -58,85 +60,122 @@ module _ {A : Type 0} where
     upper-ahead e MIN w s l = refl
     upper-ahead e CHANCE w s l = refl
 
-    after-ahead : (e : Frame A) (k : Kind) (rest : Forest A) (t : alg.State A) (l : List ℕ)
-        → scan O R e k rest (aheadS l t) ≡ ahead l (scan O R e k rest t) → seenAfter O R e k rest (aheadS l t) ≡ ahead l (seenAfter O R e k rest t)
-    unfolding cut stop
-    after-ahead e k rest t l x =
-        ap (λ (y : Seen A). cond (stop O (R .margin) rest t) (ahead l (cut e k t)) y) x
-        ∙ cond-map (ahead l) (cut e k t) (scan O R e k rest t) (stop O (R .margin) rest t)
-
-    step-ahead : (e : Frame A) (k : Kind) (n w : ℕ) (rest : Forest A) (s : alg.State A) (l : List ℕ) (r r2 : Seen A) → r2 ≡ ahead l r
-        → ((t : alg.State A) → scan O R e k rest (aheadS l t) ≡ ahead l (scan O R e k rest t))
-        → seenAfter O R e k rest (update O e k n w (aheadS l s) r2) ≡ ahead l (seenAfter O R e k rest (update O e k n w s r))
-    step-ahead e k n w rest s l r r2 q ih =
-        ap (λ (x : Seen A). seenAfter O R e k rest (update O e k n w (aheadS l s) x)) q
-        ∙ ap (seenAfter O R e k rest) (update-ahead e k n w s l r)
-        ∙ after-ahead e k rest (update O e k n w s r) l (ih (update O e k n w s r))
-
     begin-ahead : (e : Frame A) (k : Kind) (a b : A) (l m : List ℕ) → begin e k a b (l ++ m) ≡ aheadS l (begin e k a b m)
     unfolding begin
     begin-ahead e k a b l m = refl
 
-    scan-ahead : (e : Frame A) (k : Kind) (f : Forest A) (s : alg.State A) (l : List ℕ) → scan O R e k f (aheadS l s) ≡ ahead l (scan O R e k f s)
-    unfolding scan finish point
-    scan-ahead e k end s l = refl
-    scan-ahead e k (leaf n w v rest) s l =
-        step-ahead e k n w rest s l (point n v (s .read)) (point n v (l ++ s .read))
-        (ap (λ (x : List ℕ). record { low = v; high = v; play = noPlay; read = x }) (append-assoc l (s .read) (n ∷ []))) (λ t. scan-ahead e k rest t l)
-    scan-ahead e k (inner n w c under rest) s l =
-        let d : Frame A = R .frame n under in
-        step-ahead e k n w rest s l (seenUnder O R e k n w c under s) (seenUnder O R e k n w c under (aheadS l s))
-        (ap₂ (λ (x y : A). scan O R d c under (begin d c x y (l ++ s .read))) (lower-ahead e k w s l) (upper-ahead e k w s l)
-        ∙ ap (scan O R d c under) (begin-ahead d c (lower O e k w s) (upper O e k w s) l (s .read))
-        ∙ scan-ahead d c under (begin d c (lower O e k w s) (upper O e k w s) (s .read)) l) (λ t. scan-ahead e k rest t l)
+    -- `full′` says of the leaves behind l what `full` says of all
+    module _ (frame : ℕ → Forest A → Frame A) (ε : ℕ) (l : List ℕ) (full full′ : List ℕ → Bool) (behind : (m : List ℕ) → full (l ++ m) ≡ full′ m) where
+      abbrev R : Rules A
+      R = record { frame = frame; margin = ε; full = full }
+
+      abbrev R′ : Rules A
+      R′ = record { frame = frame; margin = ε; full = full′ }
+
+      met-ahead : (e : Frame A) (m : List ℕ) (r r2 : Seen A) → r2 ≡ ahead l r → met R e (l ++ m) r2 ≡ ahead l (met R′ e m r)
+      unfolding unmet
+      met-ahead e m r r2 q =
+          ap₂ (λ (b : Bool) (x : Seen A). cond b (ahead l (unmet e m)) x) (behind m) q ∙ cond-map (ahead l) (unmet e m) r (full′ m)
+
+      after-ahead : (e : Frame A) (k : Kind) (rest : Forest A) (t : alg.State A)
+          → scan O R e k rest (aheadS l t) ≡ ahead l (scan O R′ e k rest t) → seenAfter O R e k rest (aheadS l t) ≡ ahead l (seenAfter O R′ e k rest t)
+      unfolding cut stop
+      after-ahead e k rest t x =
+          ap (λ (y : Seen A). cond (stop O ε rest t) (ahead l (cut e k t)) y) x
+          ∙ cond-map (ahead l) (cut e k t) (scan O R′ e k rest t) (stop O ε rest t)
+
+      step-ahead : (e : Frame A) (k : Kind) (n w : ℕ) (rest : Forest A) (s : alg.State A) (r r2 : Seen A) → r2 ≡ ahead l r
+          → ((t : alg.State A) → scan O R e k rest (aheadS l t) ≡ ahead l (scan O R′ e k rest t))
+          → seenAfter O R e k rest (update O e k n w (aheadS l s) (met R e (l ++ s .read) r2)) ≡ ahead l (seenAfter O R′ e k rest (update O e k n w s (met R′ e (s .read) r)))
+      step-ahead e k n w rest s r r2 q ih =
+          let c : Seen A = met R′ e (s .read) r in
+          ap (λ (x : Seen A). seenAfter O R e k rest (update O e k n w (aheadS l s) x)) (met-ahead e (s .read) r r2 q)
+          ∙ ap (seenAfter O R e k rest) (update-ahead e k n w s l c)
+          ∙ after-ahead e k rest (update O e k n w s c) (ih (update O e k n w s c))
+
+      scan-ahead : (e : Frame A) (k : Kind) (f : Forest A) (s : alg.State A) → scan O R e k f (aheadS l s) ≡ ahead l (scan O R′ e k f s)
+      unfolding scan finish point
+      scan-ahead e k end s = refl
+      scan-ahead e k (leaf n w v rest) s =
+          step-ahead e k n w rest s (point n v (s .read)) (point n v (l ++ s .read))
+          (ap (λ (x : List ℕ). record { low = v; high = v; play = noPlay; read = x; spent = false }) (append-assoc l (s .read) (n ∷ []))) (λ t. scan-ahead e k rest t)
+      scan-ahead e k (inner n w c under rest) s =
+          let d : Frame A = frame n under in
+          step-ahead e k n w rest s (seenUnder O R′ e k n w c under s) (seenUnder O R e k n w c under (aheadS l s))
+          (ap₂ (λ (x y : A). scan O R d c under (begin d c x y (l ++ s .read))) (lower-ahead e k w s l) (upper-ahead e k w s l)
+          ∙ ap (scan O R d c under) (begin-ahead d c (lower O e k w s) (upper O e k w s) l (s .read))
+          ∙ scan-ahead d c under (begin d c (lower O e k w s) (upper O e k w s) (s .read))) (λ t. scan-ahead e k rest t)
+
+-- what is left of a budget once l is read
+limited-behind : (left budget : ℕ) (l : List ℕ) → left + length l ≡ budget → (m : List ℕ) → limited budget (l ++ m) ≡ limited left m
+limited-behind left budget l q m =
+    ap (leb budget) (length-append l m)
+    ∙ same-test (leb budget (length l + length m)) (leb left (length m))
+    (λ h. le→leb left (length m) (omega (arith, leb→le budget (length l + length m) h)))
+    (λ h. le→leb budget (length l + length m) (omega (arith, leb→le left (length m) h)))
 
 -- ---- one child
 
--- what the search of the first node gives in the window w
-abbrev pub nodeSeen : Rule → Ends → Forest ℕ → Window → Seen ℕ
-nodeSeen g v end w = record { low = 0; high = 0; play = noPlay; read = [] }
-nodeSeen g v (leaf n x h rest) w = point n (h * g .grain) []
-nodeSeen g v (inner n x j under rest) w = seenIn g v j under w
+-- what the first node gives in the window w, where it is entered with so many reads left
+abbrev pub nodeSeen : Rule → Ends → (left : ℕ) → Forest ℕ → Window → Seen ℕ
+nodeSeen g v left end w = record { low = 0; high = 0; play = noPlay; read = []; spent = false }
+nodeSeen g v left (leaf n x h rest) w = leafSeen g v left n (h * g .grain)
+nodeSeen g v left (inner n x j under rest) w = seenIn g v left j under w
 
-lower-lift : (e : Frame ℕ) (k : Kind) (w : ℕ) (s : State) (p : Play ℕ) (l : List ℕ) → lower natural e k w (lift s p l) ≡ windowFor e k w s .alpha
+lower-lift : (e : Frame ℕ) (k : Kind) (w : ℕ) (s : State) (p : Play ℕ) (l : List ℕ) (x : Bool) → lower natural e k w (lift s p l x) ≡ windowFor e k w s .alpha
 unfolding lower
-lower-lift e MAX w s p l = refl
-lower-lift e MIN w s p l = refl
-lower-lift e CHANCE w s p l = refl
+lower-lift e MAX w s p l x = refl
+lower-lift e MIN w s p l x = refl
+lower-lift e CHANCE w s p l x = refl
 
-upper-lift : (e : Frame ℕ) (k : Kind) (w : ℕ) (s : State) (p : Play ℕ) (l : List ℕ) → upper natural e k w (lift s p l) ≡ windowFor e k w s .beta
+upper-lift : (e : Frame ℕ) (k : Kind) (w : ℕ) (s : State) (p : Play ℕ) (l : List ℕ) (x : Bool) → upper natural e k w (lift s p l x) ≡ windowFor e k w s .beta
 unfolding upper
-upper-lift e MAX w s p l = refl
-upper-lift e MIN w s p l = refl
-upper-lift e CHANCE w s p l = refl
+upper-lift e MAX w s p l x = refl
+upper-lift e MIN w s p l x = refl
+upper-lift e CHANCE w s p l x = refl
 
-pub update-lift : (e : Frame ℕ) (k : Kind) (i w : ℕ) (s : State) (p : Play ℕ) (l : List ℕ) (A : Seen ℕ)
-    → update natural e k i w (lift s p l) A ≡ lift (after e k i w s (A .low) (A .high)) (prefer natural k i p A) (A .read)
+pub update-lift : (e : Frame ℕ) (k : Kind) (i w : ℕ) (s : State) (p : Play ℕ) (l : List ℕ) (x : Bool) (A : Seen ℕ)
+    → update natural e k i w (lift s p l x) A ≡ lift (after e k i w s (A .low) (A .high)) (prefer natural k i p A) (A .read) (A .spent)
 unfolding update
-update-lift e k i w s p l A = refl
+update-lift e k i w s p l x A = refl
 
--- the first child is taken
-pub scan-step : (g : Rule) (v : Ends) (e : Frame ℕ) (k : Kind) (F : Forest ℕ) (s : State) (p : Play ℕ) (l : List ℕ) → isEnd F ≡ false →
-    let C : Seen ℕ = nodeSeen g v F (windowFor e k (weightOf F) s) in
-    scan natural (rulesOf g v) e k (grained (g .grain) F) (lift s p l)
-    ≡ seenAfter natural (rulesOf g v) e k (grained (g .grain) (restOf F)) (lift (after e k (numberOf F) (weightOf F) s (C .low) (C .high)) (prefer natural k (numberOf F) p (ahead l C)) (l ++ C .read))
-unfolding scan grained point
-scan-step g v e k end s p l q = absurd (true-ne-false q)
-scan-step g v e k (leaf n w h rest) s p l q =
-    ap (seenAfter natural (rulesOf g v) e k (grained (g .grain) rest)) (update-lift e k n w s p l (point n (h * g .grain) l))
-scan-step g v e k (inner n w j under rest) s p l q =
-    let R : Rules ℕ = rulesOf g v in
-    let f : Forest ℕ = grained (g .grain) under in
-    let d : Frame ℕ = framed (v .bottom) (v .top) f in
-    let y : Window = windowFor e k w s in
-    let C : Seen ℕ = seenIn g v j under y in
-    let same : seenUnder natural R e k n w j f (lift s p l) ≡ ahead l C =
-    ap₂ (λ (a b : ℕ). scan natural R d j f (begin d j a b l)) (lower-lift e k w s p l) (upper-lift e k w s p l)
-    ∙ ap (λ (x : List ℕ). scan natural R d j f (begin d j (y .alpha) (y .beta) x)) (sym (append-nil l))
-    ∙ ap (scan natural R d j f) (begin-ahead natural R d j (y .alpha) (y .beta) l [])
-    ∙ scan-ahead natural R d j f (begin d j (y .alpha) (y .beta) []) l in
-    ap (λ (x : Seen ℕ). seenAfter natural R e k (grained (g .grain) rest) (update natural e k n w (lift s p l) x)) same
-    ∙ ap (seenAfter natural R e k (grained (g .grain) rest)) (update-lift e k n w s p l (ahead l C))
+module _ (g : Rule) (v : Ends) (left budget : ℕ) (l : List ℕ) (q : left + length l ≡ budget) where
+  -- a node met with l read, of which r2 is what it would give
+  met-behind : (e : Frame ℕ) (r r2 : Seen ℕ) → r2 ≡ ahead l r → met (rulesOf g v budget) e l r2 ≡ ahead l (met (rulesOf g v left) e [] r)
+  met-behind e r r2 same =
+      ap (λ (x : List ℕ). met (rulesOf g v budget) e x r2) (sym (append-nil l))
+      ∙ met-ahead natural (rulesOf g v left .frame) (g .margin) l (limited budget) (limited left) (limited-behind left budget l q) e [] r r2 same
+
+  -- the first child is taken
+  pub scan-step : (N : ℕ) (k : Kind) (F : Forest ℕ) (s : State) (p : Play ℕ) (x : Bool) → isEnd F ≡ false →
+      let e : Frame ℕ = frameAt v N in
+      let C : Seen ℕ = nodeSeen g v left F (windowFor e k (weightOf F) s) in
+      scan natural (rulesOf g v budget) e k (grained (g .grain) F) (lift s p l x)
+      ≡ seenAfter natural (rulesOf g v budget) e k (grained (g .grain) (restOf F)) (lift (after e k (numberOf F) (weightOf F) s (C .low) (C .high)) (prefer natural k (numberOf F) p (ahead l C)) (l ++ C .read) (C .spent))
+  unfolding scan grained point unmet
+  scan-step N k end s p x some = absurd (true-ne-false some)
+  scan-step N k (leaf n w h rest) s p x some =
+      let e : Frame ℕ = frameAt v N in
+      let C : Seen ℕ = leafSeen g v left n (h * g .grain) in
+      ap (λ (y : Seen ℕ). seenAfter natural (rulesOf g v budget) e k (grained (g .grain) rest) (update natural e k n w (lift s p l x) y))
+      (met-behind e (point n (h * g .grain) []) (point n (h * g .grain) l) refl)
+      ∙ ap (seenAfter natural (rulesOf g v budget) e k (grained (g .grain) rest)) (update-lift e k n w s p l x (ahead l C))
+  scan-step N k (inner n w j under rest) s p x some =
+      let e : Frame ℕ = frameAt v N in
+      let R : Rules ℕ = rulesOf g v budget in
+      let f : Forest ℕ = grained (g .grain) under in
+      let d : Frame ℕ = framed (v .bottom) (v .top) f in
+      let y : Window = windowFor e k w s in
+      let C : Seen ℕ = seenIn g v left j under y in
+      let start : alg.State ℕ = begin d j (y .alpha) (y .beta) [] in
+      let same : seenUnder natural R e k n w j f (lift s p l x) ≡ ahead l (scan natural (rulesOf g v left) d j f start) =
+      ap₂ (λ (a b : ℕ). scan natural R d j f (begin d j a b l)) (lower-lift e k w s p l x) (upper-lift e k w s p l x)
+      ∙ ap (λ (z : List ℕ). scan natural R d j f (begin d j (y .alpha) (y .beta) z)) (sym (append-nil l))
+      ∙ ap (scan natural R d j f) (begin-ahead natural d j (y .alpha) (y .beta) l [])
+      ∙ scan-ahead natural (R .frame) (g .margin) l (limited budget) (limited left) (limited-behind left budget l q) d j f start in
+      ap (λ (z : Seen ℕ). seenAfter natural R e k (grained (g .grain) rest) (update natural e k n w (lift s p l x) z))
+      (met-behind e (scan natural (rulesOf g v left) d j f start) (seenUnder natural R e k n w j f (lift s p l x)) same)
+      ∙ ap (seenAfter natural R e k (grained (g .grain) rest)) (update-lift e k n w s p l x (ahead l C))
 
 -- ---- the play
 

@@ -9,17 +9,17 @@ use lib.ListN.{length}
 use Rattle.line.proofs.Signs.{true-ne-false}
 use Rattle.table.specs.Tree.{Kind, MAX, MIN, CHANCE, Forest, end, leaf, inner, isEnd, weigh}
 use Rattle.table.proofs.Nodes.{restOf, weightOf, ownLeaves, weigh-split}
-use Rattle.search.specs.Search.{Frame, State, begin, point, framed}
+use Rattle.search.specs.Search.{Frame, State, Rules, begin, point, scan, framed}
 use Rattle.search.specs.Inside.{natural, grained}
 use Rattle.search.proofs.Heights.{Sound, Within}
-use Rattle.search.proofs.Contain.{Holding, hold-point, hold-under, contained}
+use Rattle.search.proofs.Contain.{Holding, hold-point, hold-met, contained}
 use Rattle.search.proofs.Grains.{grained-leaves, grained-weigh}
-use Rattle.search.proofs.Few.{few-scan}
+use Rattle.search.proofs.Few.{few-met, few-scan}
 use Rattle.steps.specs.declared.Rule.{Rule}
 use Rattle.steps.specs.declared.Ends.{Ends}
 use Rattle.steps.specs.declared.Window.{Window}
-use Rattle.steps.specs.Inside.{frameAt, OkEnds}
-use Rattle.searching.specs.Inside.{rulesOf, Pays, Fit}
+use Rattle.steps.specs.Inside.{frameAt, rulesOf, OkEnds}
+use Rattle.searching.specs.Inside.{Pays, Fit}
 use Rattle.searching.proofs.Bridge.{nodeSeen}
 
 -- the first node's weight, and those of the others
@@ -48,33 +48,38 @@ module _ (g : Rule) (v : Ends) where
         record { ends = ok .order; paid = omega (arith, grained-split (g .grain) F, fit-weight CHANCE F q f refl); weighed = refl }
 
     -- whatever the parent's total N
-    pub fit-within : (N : ℕ) (k : Kind) (F : Forest ℕ) → Fit g v k F → Within (rulesOf g v .frame) (frameAt v N) (grained (g .grain) F)
+    pub fit-within : (left N : ℕ) (k : Kind) (F : Forest ℕ) → Fit g v k F → Within (rulesOf g v left .frame) (frameAt v N) (grained (g .grain) F)
     unfolding Fit grained
-    fit-within N k end f = tt
-    fit-within N k (leaf n w h rest) f = (f .1, f .2, fit-within N k rest (f .3))
-    fit-within N k (inner n w j under rest) f =
-        (le-refl (v .bottom), le-refl (v .top), fit-sound j under (f .1) (f .3), fit-within _ j under (f .3), fit-within N k rest (f .4))
+    fit-within left N k end f = tt
+    fit-within left N k (leaf n w h rest) f = (f .1, f .2, fit-within left N k rest (f .3))
+    fit-within left N k (inner n w j under rest) f =
+        (le-refl (v .bottom), le-refl (v .top), fit-sound j under (f .1) (f .3), fit-within left _ j under (f .3), fit-within left N k rest (f .4))
 
     -- what the first node gives holds its worth, and lies between the ends
-    pub node-holds : (N : ℕ) (k : Kind) (F : Forest ℕ) (y : Window) → isEnd F ≡ false → Fit g v k F → (x : ℕ) × Holding (frameAt v N) x (nodeSeen g v F y)
+    pub node-holds : (left N : ℕ) (k : Kind) (F : Forest ℕ) (y : Window) → isEnd F ≡ false → Fit g v k F
+        → (x : ℕ) × Holding (frameAt v N) x (nodeSeen g v left F y)
     unfolding Fit
-    node-holds N k end y q f = absurd (true-ne-false q)
-    node-holds N k (leaf n w h rest) y q f = (h * g .grain, hold-point (frameAt v N) n (h * g .grain) [] (f .1, f .2))
-    node-holds N k (inner n w j under rest) y q f =
+    node-holds left N k end y q f = absurd (true-ne-false q)
+    node-holds left N k (leaf n w h rest) y q f =
+        let x : ℕ = h * g .grain in
+        (x, hold-met (rulesOf g v left) (frameAt v 0) [] x (point n x []) (hold-point (frameAt v 0) n x [] (f .1, f .2)))
+    node-holds left N k (inner n w j under rest) y q f =
+        let R : Rules ℕ = rulesOf g v left in
         let u : Forest ℕ = grained (g .grain) under in
         let d : Frame ℕ = framed (v .bottom) (v .top) u in (
           _,
-          hold-under (frameAt v N) d _ (nodeSeen g v (inner n w j under rest) y) (le-refl (v .bottom)) (le-refl (v .top))
-              (contained (rulesOf g v) d j u (y .alpha) (y .beta) [] (fit-sound j under (f .1) (f .3)) (fit-within (d .total) j under (f .3))),
+          hold-met R d [] _ (scan natural R d j u (begin d j (y .alpha) (y .beta) []))
+              (contained R d j u (y .alpha) (y .beta) [] (fit-sound j under (f .1) (f .3)) (fit-within left (d .total) j under (f .3))),
         )
 
   -- at most as many leaves are read as it has
-  pub node-few : (F : Forest ℕ) (y : Window) → length (nodeSeen g v F y .read) ≤ ownLeaves F
+  pub node-few : (left : ℕ) (F : Forest ℕ) (y : Window) → length (nodeSeen g v left F y .read) ≤ ownLeaves F
   unfolding point begin
-  node-few end y = omega arith
-  node-few (leaf n w h rest) y = omega arith
-  node-few (inner n w j under rest) y =
+  node-few left end y = omega arith
+  node-few left (leaf n w h rest) y = few-met natural (rulesOf g v left) (frameAt v 0) [] (point n (h * g .grain) []) _ (omega arith) (omega arith)
+  node-few left (inner n w j under rest) y =
+      let R : Rules ℕ = rulesOf g v left in
       let u : Forest ℕ = grained (g .grain) under in
       let d : Frame ℕ = framed (v .bottom) (v .top) u in
       let s : State ℕ = begin d j (y .alpha) (y .beta) [] in
-      omega (arith, few-scan natural (rulesOf g v) d j u s, grained-leaves (g .grain) under)
+      few-met natural R d [] (scan natural R d j u s) _ (omega arith) (omega (arith, few-scan natural R d j u s, grained-leaves (g .grain) under))

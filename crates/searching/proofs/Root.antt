@@ -1,7 +1,8 @@
 -- The search of a whole table: what the calls at the root ask, and what they give. Assumes nothing.
-use Prim.Native.Nat.{ℕ, suc, _≤_, _<_}
+use Prim.Native.Nat.{ℕ, suc, _-_, _≤_, _<_}
 use mathlib.Core.Path.{_≡_, refl, ap, _∙_}
 use mathlib.Core.List.{List, [], _∷_}
+use native.Mathlib.Nat.{le-refl}
 use native.Mathlib.Omega.{arith}
 use lib.ListN.{length, set}
 use Rattle.table.specs.Tree.{MAX, Forest, end, leaf, inner}
@@ -9,13 +10,14 @@ use Rattle.table.specs.Inside.{Slices}
 use Rattle.table.specs.Slices.{laid}
 use Rattle.table.specs.Accepted.{Rooted}
 use Rattle.table.proofs.Nodes.{leaves-split, root-stop, root-some}
-use Rattle.search.specs.Search.{Seen, search, searchRoot}
+use Rattle.search.specs.Search.{Seen, unmet, search, searchRoot}
 use Rattle.search.specs.Inside.{natural, grained}
 use Rattle.steps.specs.declared.Rule.{Rule}
 use Rattle.steps.specs.declared.Ends.{Ends}
 use Rattle.steps.specs.declared.Window.{Window}
 use Rattle.steps.specs.declared.Found.{Found}
-use Rattle.searching.specs.Inside.{rulesOf, putFrom, Gives, ReadyRoot, Shows, Searched}
+use Rattle.steps.specs.Inside.{rulesOf, putFrom, Gives}
+use Rattle.searching.specs.Inside.{ReadyRoot, Shows, Searched}
 use Rattle.searching.proofs.Bridge.{nodeSeen}
 use Rattle.searching.proofs.Fits.{node-few}
 use Rattle.searching.proofs.Rules.{NodeTold, ReadyNode}
@@ -40,7 +42,7 @@ abbrev pub rootWindow : Ends → Window
 rootWindow v = record { alpha = v .bottom; beta = v .top }
 
 module _ {t : Slices} {g : Rule} {v : Ends} {n room : ℕ} (R : ReadyRoot t g v n room) where
-  pub root-ready : ReadyNode t g v (rootWindow v) 0 n 0 room
+  pub root-ready : ReadyNode t g v (rootWindow v) 0 n (g .budget) room
   root-ready =
       record {
         nodes = R .nodes;
@@ -55,6 +57,7 @@ module _ {t : Slices} {g : Rule} {v : Ends} {n room : ℕ} (R : ReadyRoot t g v 
         alpha = omega (arith, R .ends .order, R .ends .top);
         beta = R .ends .top;
         holds = R .holds;
+        within = le-refl (g .budget);
         space = omega (arith, R .space);
       }
 
@@ -63,20 +66,30 @@ module _ {t : Slices} {g : Rule} {v : Ends} {n room : ℕ} (R : ReadyRoot t g v 
       let x = root-some t n (R .nodes) (R .spans) (R .rooted) in
       (omega (arith, x, R .holds .kinds), omega (arith, x, R .holds .heights))
 
-root-is : (g : Rule) (v : Ends) (F : Forest ℕ) → Rooted F → searchRoot natural (rulesOf g v) (grained (g .grain) F) ≡ nodeSeen g v F (rootWindow v)
-unfolding grained searchRoot search
+root-is : (g : Rule) (v : Ends) (F : Forest ℕ) → Rooted F → searchRoot natural (rulesOf g v (g .budget)) (grained (g .grain) F) ≡ nodeSeen g v (g .budget) F (rootWindow v)
+unfolding grained searchRoot search unmet
 root-is g v end r = absurd r
 root-is g v (leaf i w h rest) r = refl
 root-is g v (inner i w k under rest) r = refl
 
-shown : (r : Found) (a : Seen ℕ) (came now : List ℕ) → length (a .read) ≤ length came → Gives r a 0 came now → Shows r a came now
-shown r a came now few G = record { low = G .low; high = G .high; play = G .play; used = omega (arith, G .used); leaves = G .leaves ∙ put-laid came (a .read) few }
+shown : (g : Rule) (r : Found) (a : Seen ℕ) (came now : List ℕ) → length (a .read) ≤ length came → Gives g (g .budget) r a came now
+    → Shows (g .budget) r a came now
+shown g r a came now few G =
+    let front : g .budget - g .budget ≡ 0 = omega arith in
+    record {
+      low = G .low;
+      high = G .high;
+      play = G .play;
+      reads = G .reads;
+      spent = G .spent;
+      leaves = G .leaves ∙ ap (λ (n : ℕ). putFrom came n (a .read)) front ∙ put-laid came (a .read) few;
+    }
 
 -- what is told of the root is the search of the table
-pub root-searched : {t : Slices} {g : Rule} {v : Ends} {n : ℕ} {r : Found} {came now : List ℕ} → NodeTold t g v (rootWindow v) 0 0 r came now
+pub root-searched : {t : Slices} {g : Rule} {v : Ends} {n : ℕ} {r : Found} {came now : List ℕ} → NodeTold t g v (rootWindow v) 0 (g .budget) r came now
     → Searched t g v n r came now
 root-searched {t} {g} {v} {n} {r} {came} {now} T R =
     let F = R .nodes in
     rw (root-is g v F (R .rooted))
-    (shown r (nodeSeen g v F (rootWindow v)) came now (omega (arith, node-few g v F (rootWindow v), leaves-split F, R .space))
+    (shown g r (nodeSeen g v (g .budget) F (rootWindow v)) came now (omega (arith, node-few g v (g .budget) F (rootWindow v), leaves-split F, R .space))
     (T .tells F n (R .spans) (root-some t n F (R .spans) (R .rooted))))

@@ -1,11 +1,13 @@
 -- One child of a node, and one node, on plain values: what the proofs of the three searches cite. Assumes nothing.
 use Prim.Native.Nat.{ℕ, suc, _+_, _-_, _*_, _≤_, _<_}
 use mathlib.Core.Path.{_≡_, refl, sym, ap, ap₂, subst, subst₂, _∙_}
-use mathlib.Core.Bool.{Bool, true, false}
+use mathlib.Core.Bool.{Bool, true, false, cond}
 use mathlib.Core.List.{List, [], _∷_, _++_}
 use native.Mathlib.Nat.{suc-add, add-suc, add-zero, le-trans, le-of-mul-le-mul-left}
 use native.Mathlib.Omega.{arith}
 use lib.ListN.{length, getD, set, length-set, length-append}
+use lib.Dec.{leb}
+use borrow.Author.Tests.{lt-leb}
 use Rattle.line.proofs.Signs.{true-ne-false}
 use Rattle.table.specs.Tree.{Kind, MAX, MIN, CHANCE, Forest, end, leaf, inner, codeOf, isEnd, weigh, leaves}
 use Rattle.table.specs.Inside.{Slices, Spans, Holds}
@@ -13,7 +15,7 @@ use Rattle.table.proofs.Nodes.{code-inj, code-pos, stopOf, restOf, numberOf, we
 use Rattle.runs.specs.Inside.{weighAt}
 use Rattle.runs.proofs.Scan.{spans-weigh}
 use Rattle.search.specs.Search as alg
-use Rattle.search.specs.Search.{Frame, Play, noPlay, Seen, framed, begin, finish, cut, point, lower, upper, prefer, runLow, runHigh, update, stop, scan}
+use Rattle.search.specs.Search.{Frame, Play, noPlay, Seen, framed, begin, finish, cut, point, unmet, lower, upper, prefer, runLow, runHigh, update, stop, scan}
 use Rattle.search.specs.Inside.{natural, grained}
 use Rattle.search.proofs.Steps.{seenAfter}
 use Rattle.search.proofs.Contain.{Holding}
@@ -24,8 +26,8 @@ use Rattle.steps.specs.declared.Ends.{Ends}
 use Rattle.steps.specs.declared.State.{State}
 use Rattle.steps.specs.declared.Window.{Window}
 use Rattle.steps.specs.declared.Found.{Found}
-use Rattle.steps.specs.Inside.{frameAt, lift, windowFor, after, stops, LeafAt, limit, OkEnds, OkState}
-use Rattle.searching.specs.Inside.{rulesOf, seenIn, putFrom, Gives, OkRule, Light, Fit, ReadyChildren, Told}
+use Rattle.steps.specs.Inside.{frameAt, lift, windowFor, after, stops, rulesOf, putFrom, Gives, unmetIn, leafSeen, limit, OkEnds, OkState}
+use Rattle.searching.specs.Inside.{seenIn, OkRule, Light, Fit, ReadyChildren, Told}
 use Rattle.searching.proofs.Bridge.{ahead, nodeSeen, update-lift, scan-step, Plays, plays-number, plays-after}
 use Rattle.searching.proofs.Fits.{grained-split, fit-rest, fit-weight, fit-sound, node-holds, node-few}
 
@@ -43,14 +45,17 @@ unfolding putFrom
 put-length l k [] = refl
 put-length l k (x ∷ xs) = put-length (set l k x) (suc k) xs ∙ length-set l k x
 
+cond-later : {A : Type 0} (b : Bool) (x y : A) → b ≡ false → cond b x y ≡ y
+cond-later b x y e = rw e refl
+
 -- ---- one node
 
 -- what is told of the node at entry c, searched in the window w: its result r, and the list as it came and as it is now
-pub record NodeTold (t : Slices) (g : Rule) (v : Ends) (w : Window) (c used : ℕ) (r : Found) (came now : List ℕ) : Type 0 where
-  pub tells : (F : Forest ℕ) (e : ℕ) → Spans t c e F → c < e → Gives r (nodeSeen g v F w) used came now
+pub record NodeTold (t : Slices) (g : Rule) (v : Ends) (w : Window) (c left : ℕ) (r : Found) (came now : List ℕ) : Type 0 where
+  pub tells : (F : Forest ℕ) (e : ℕ) → Spans t c e F → c < e → Gives g left r (nodeSeen g v left F w) came now
 
 -- the node at entry c, with its later siblings, can be searched in the window w; its run goes up to x
-pub record ReadyNode (t : Slices) (g : Rule) (v : Ends) (w : Window) (c x used room : ℕ) : Type 0 where
+pub record ReadyNode (t : Slices) (g : Rule) (v : Ends) (w : Window) (c x left room : ℕ) : Type 0 where
   pub nodes : Forest ℕ
   pub parent : Kind
   pub upto : ℕ
@@ -63,7 +68,8 @@ pub record ReadyNode (t : Slices) (g : Rule) (v : Ends) (w : Window) (c x used r
   pub alpha : w .alpha ≤ limit
   pub beta : w .beta ≤ limit
   pub holds : Holds t x
-  pub space : used + leaves nodes ≤ room
+  pub within : left ≤ g .budget
+  pub space : g .budget - left + leaves nodes ≤ room
 
 code-three : (j : Kind) → (codeOf j ≡ 1 → ⊥) → (codeOf j ≡ 2 → ⊥) → codeOf j ≡ 3
 code-three MAX p q = absurd (p refl)
@@ -85,13 +91,13 @@ spans-leaf t g v k c e end h lt f z = absurd (omega arith)
 spans-leaf t g v k c e (leaf i w x rest) h lt f z = (subst (λ (n : ℕ). n * g .grain ≤ v .top) (sym (h .4)) (f .2), omega arith)
 spans-leaf t g v k c e (inner i w j under rest) h lt f z = absurd (omega (arith, code-pos j, h .1))
 
-module _ (t : Slices) (g : Rule) (v : Ends) (w : Window) (c x used room : ℕ) where
+module _ (t : Slices) (g : Rule) (v : Ends) (w : Window) (c x left room : ℕ) where
   ready-under : (k j : Kind) (e : ℕ) (F : Forest ℕ) → Spans t c e F → Fit g v k F → c < e → getD (t .kinds) c 0 ≡ codeOf j → stopOf t c ≡ x
-      → OkEnds v → OkRule g → w .alpha ≤ limit → w .beta ≤ limit → Holds t x → used + leaves F ≤ room → ReadyChildren t g v j w (c + 1) x used room
+      → OkEnds v → OkRule g → w .alpha ≤ limit → w .beta ≤ limit → Holds t x → left ≤ g .budget → g .budget - left + leaves F ≤ room → ReadyChildren t g v j w (c + 1) x left room
   unfolding Spans Fit leaves
-  ready-under k j e end h f lt z q o o2 p p′ tb sp = absurd (omega arith)
-  ready-under k j e (leaf i y u rest) h f lt z q o o2 p p′ tb sp = absurd (omega (arith, code-pos j, h .1))
-  ready-under k j e (inner i y j′ under rest) h f lt z q o o2 p p′ tb sp =
+  ready-under k j e end h f lt z q o o2 p p′ tb le sp = absurd (omega arith)
+  ready-under k j e (leaf i y u rest) h f lt z q o o2 p p′ tb le sp = absurd (omega (arith, code-pos j, h .1))
+  ready-under k j e (inner i y j′ under rest) h f lt z q o o2 p p′ tb le sp =
       let same : j′ ≡ j = code-inj j′ j (sym (h .1) ∙ z) in
       let isU : Spans t (c + 1) x under = subst (λ (n : ℕ). Spans t (c + 1) n under) q (h .3) in
       record {
@@ -106,54 +112,62 @@ module _ (t : Slices) (g : Rule) (v : Ends) (w : Window) (c x used room : ℕ) w
         alpha = p;
         beta = p′;
         holds = tb;
+        within = le;
         space = omega arith;
       }
 
-module _ {t : Slices} {g : Rule} {v : Ends} {w : Window} {c x used room : ℕ} (N : ReadyNode t g v w c x used room) where
-  pub ready-inner : (j : Kind) → getD (t .kinds) c 0 ≡ codeOf j → ReadyChildren t g v j w (c + 1) x used room
+module _ {t : Slices} {g : Rule} {v : Ends} {w : Window} {c x left room : ℕ} (N : ReadyNode t g v w c x left room) where
+  pub ready-inner : (j : Kind) → getD (t .kinds) c 0 ≡ codeOf j → ReadyChildren t g v j w (c + 1) x left room
   ready-inner j z =
-      ready-under t g v w c x used room (N .parent) j (N .upto) (N .nodes) (N .spans) (N .fit) (N .some) z (N .stop) (N .ends) (N .rule) (N .alpha) (N .beta) (N .holds) (N .space)
+      ready-under t g v w c x left room (N .parent) j (N .upto) (N .nodes) (N .spans) (N .fit) (N .some) z (N .stop) (N .ends) (N .rule) (N .alpha) (N .beta) (N .holds) (N .within) (N .space)
 
   -- y is the kind that was read
   pub ready-three : (y : ℕ) → y ≡ getD (t .kinds) c 0 → (y ≡ 0 → ⊥) → (y ≡ 1 → ⊥) → (y ≡ 2 → ⊥) → getD (t .kinds) c 0 ≡ 3
   ready-three y q n0 n1 n2 = spans-three t c (N .upto) (N .nodes) (N .spans) (N .some) (λ z. n0 (q ∙ z)) (λ z. n1 (q ∙ z)) (λ z. n2 (q ∙ z))
 
-  pub ready-leaf : getD (t .kinds) c 0 ≡ 0 → (used < room) × (getD (t .heights) c 0 * g .grain < 9223372036854775808)
+  pub ready-leaf : getD (t .kinds) c 0 ≡ 0 → (g .budget - left < room) × (getD (t .heights) c 0 * g .grain < 9223372036854775808)
   ready-leaf z =
       let L = spans-leaf t g v (N .parent) c (N .upto) (N .nodes) (N .spans) (N .some) (N .fit) z in
       (omega (arith, L .1, N .space), omega (arith, L .0, N .ends .top))
 
 -- what is told of a leaf, and of an inner node from what is told of its children
-module _ (t : Slices) (g : Rule) (v : Ends) (w : Window) (c used : ℕ) (came : List ℕ) where
-  leaf-gives : (r : Found) (now : List ℕ) → getD (t .kinds) c 0 ≡ 0 → LeafAt r (getD (t .heights) c 0 * g .grain) used c came now
-      → (F : Forest ℕ) (e : ℕ) → Spans t c e F → c < e → Gives r (nodeSeen g v F w) used came now
+module _ (t : Slices) (g : Rule) (v : Ends) (w : Window) (c left : ℕ) (came : List ℕ) where
+  leaf-gives : (r : Found) (now : List ℕ) → getD (t .kinds) c 0 ≡ 0 → Gives g left r (leafSeen g v left c (getD (t .heights) c 0 * g .grain)) came now
+      → (F : Forest ℕ) (e : ℕ) → Spans t c e F → c < e → Gives g left r (nodeSeen g v left F w) came now
   unfolding Spans point putFrom
   leaf-gives r now z L end e is lt = absurd (omega arith)
   leaf-gives r now z L (leaf i y h rest) e is lt =
-      let u = ap (λ (h : ℕ). h * g .grain) (is .4) in
-      record { low = L .low ∙ u; high = L .high ∙ u; play = rw (L .play) refl; used = L .used; leaves = L .leaves ∙ ap (λ (n : ℕ). set came used n) (sym (is .0)) }
+      subst₂ (λ (n x : ℕ). Gives g left r (leafSeen g v left n (x * g .grain)) came now) (sym (is .0)) (is .4) L
   leaf-gives r now z L (inner i y j under rest) e is lt = absurd (omega (arith, code-pos j, is .1))
 
-  inner-gives : (x : ℕ) (j : Kind) (r : Found) (now : List ℕ) → getD (t .kinds) c 0 ≡ codeOf j → x ≡ stopOf t c → Told t g v j w (c + 1) x used r came now
-      → (F : Forest ℕ) (e : ℕ) → Spans t c e F → c < e → Gives r (nodeSeen g v F w) used came now
+  inner-gives : (x : ℕ) (j : Kind) (r : Found) (now : List ℕ) → getD (t .kinds) c 0 ≡ codeOf j → x ≡ stopOf t c → Told t g v j w (c + 1) x left r came now
+      → (F : Forest ℕ) (e : ℕ) → Spans t c e F → c < e → Gives g left r (nodeSeen g v left F w) came now
   unfolding Spans
   inner-gives x j r now z q more end e is lt = absurd (omega arith)
   inner-gives x j r now z q more (leaf i y h rest) e is lt = absurd (omega (arith, code-pos j, is .1))
   inner-gives x j r now z q more (inner i y j′ under rest) e is lt =
-      subst (λ (y : Kind). Gives r (seenIn g v y under w) used came now) (code-inj j j′ (sym z ∙ is .1))
+      subst (λ (y : Kind). Gives g left r (seenIn g v left y under w) came now) (code-inj j j′ (sym z ∙ is .1))
       (more under (subst (λ (n : ℕ). Spans t (c + 1) n under) (sym q) (is .3)))
 
-module _ {t : Slices} {g : Rule} {v : Ends} {w : Window} {c used : ℕ} {came : List ℕ} where
-  pub told-same : {r r′ : Found} {now now′ : List ℕ} → r ≡ r′ → now ≡ now′ → NodeTold t g v w c used r′ came now′ → NodeTold t g v w c used r came now
-  told-same p q h = subst₂ (λ (r : Found) (now : List ℕ). NodeTold t g v w c used r came now) (sym p) (sym q) h
+module _ {t : Slices} {g : Rule} {v : Ends} {w : Window} {c left : ℕ} {came : List ℕ} where
+  pub told-same : {r r′ : Found} {now now′ : List ℕ} → r ≡ r′ → now ≡ now′ → NodeTold t g v w c left r′ came now′ → NodeTold t g v w c left r came now
+  told-same p q h = subst₂ (λ (r : Found) (now : List ℕ). NodeTold t g v w c left r came now) (sym p) (sym q) h
 
-  pub told-leaf : {r : Found} {now : List ℕ} → getD (t .kinds) c 0 ≡ 0 → LeafAt r (getD (t .heights) c 0 * g .grain) used c came now
-      → NodeTold t g v w c used r came now
-  told-leaf {r} {now} z L = record { tells = leaf-gives t g v w c used came r now z L }
+  pub told-leaf : {r : Found} {now : List ℕ} → getD (t .kinds) c 0 ≡ 0 → Gives g left r (leafSeen g v left c (getD (t .heights) c 0 * g .grain)) came now
+      → NodeTold t g v w c left r came now
+  told-leaf {r} {now} z L = record { tells = leaf-gives t g v w c left came r now z L }
 
   pub told-inner : {x : ℕ} (j : Kind) {r : Found} {now : List ℕ} → getD (t .kinds) c 0 ≡ codeOf j → x ≡ stopOf t c
-      → Told t g v j w (c + 1) x used r came now → NodeTold t g v w c used r came now
-  told-inner {x} j {r} {now} z q more = record { tells = inner-gives t g v w c used came x j r now z q more }
+      → Told t g v j w (c + 1) x left r came now → NodeTold t g v w c left r came now
+  told-inner {x} j {r} {now} z q more = record { tells = inner-gives t g v w c left came x j r now z q more }
+
+-- of children met when no read is left
+pub told-unmet : (t : Slices) (g : Rule) {v : Ends} (k : Kind) (w : Window) (c e : ℕ) {left : ℕ} {came : List ℕ} {r : Found} → left ≡ 0 → r ≡ unmetIn v
+    → Told t g v k w c e left r came came
+unfolding unmet putFrom
+told-unmet t g {v} k w c e {left} {came} {r} z q F is =
+    subst₂ (λ (n : ℕ) (x : Found). Gives g n x (seenIn g v n k F w) came came) (sym z) (sym q)
+    (record { low = refl; high = refl; play = refl; reads = refl; spent = refl; leaves = refl })
 
 -- ---- the loop over the children
 
@@ -163,7 +177,7 @@ startAt MAX v w = record { alpha = w .alpha; beta = w .beta; low = v .bottom; hi
 startAt MIN v w = record { alpha = w .alpha; beta = w .beta; low = v .top; high = v .top; play = 0 }
 startAt CHANCE v w = record { alpha = w .alpha; beta = w .beta; low = v .bottom; high = v .top; play = 0 }
 
-begin-lift : (v : Ends) (N : ℕ) (k : Kind) (w : Window) → begin (frameAt v N) k (w .alpha) (w .beta) [] ≡ lift (startAt k v w) noPlay []
+begin-lift : (v : Ends) (N : ℕ) (k : Kind) (w : Window) → begin (frameAt v N) k (w .alpha) (w .beta) [] ≡ lift (startAt k v w) noPlay [] false
 unfolding begin
 begin-lift v N MAX w = refl
 begin-lift v N MIN w = refl
@@ -180,7 +194,7 @@ frameOf g v F = framed (v .bottom) (v .top) (grained (g .grain) F)
 
 -- The children of a node of kind k in the window w stand in the entries from c₀ up to e. Their search has come to the child at entry c with the
 -- state s, and what it gives is what the search of the children that are left gives.
-pub record Going (t : Slices) (g : Rule) (v : Ends) (k : Kind) (w : Window) (c₀ e used₀ : ℕ) (came : List ℕ) (s : State) (c used : ℕ) (now : List ℕ) : Type 0 where
+pub record Going (t : Slices) (g : Rule) (v : Ends) (k : Kind) (w : Window) (c₀ e left₀ : ℕ) (came : List ℕ) (s : State) (c left : ℕ) (now : List ℕ) : Type 0 where
   pub all : Forest ℕ
   pub begun : Spans t c₀ e all
   pub nodes : Forest ℕ
@@ -197,16 +211,18 @@ pub record Going (t : Slices) (g : Rule) (v : Ends) (k : Kind) (w : Window) (c�
   pub play : Play ℕ
   pub read : List ℕ
   pub plays : Plays (frameOf g v all) k s play
-  pub safe : Safe limit (frameOf g v all) k (weigh (grained (g .grain) nodes)) (lift s play read)
-  pub used-is : used ≡ used₀ + length read
-  pub leaves-are : now ≡ putFrom came used₀ read
-  pub space : used + leaves nodes ≤ length now
-  pub so-far : seenIn g v k all w ≡ scan natural (rulesOf g v) (frameOf g v all) k (grained (g .grain) nodes) (lift s play read)
+  pub spent : Bool
+  pub safe : Safe limit (frameOf g v all) k (weigh (grained (g .grain) nodes)) (lift s play read spent)
+  pub budget : left₀ ≤ g .budget
+  pub left-is : left + length read ≡ left₀
+  pub leaves-are : now ≡ putFrom came (g .budget - left₀) read
+  pub space : g .budget - left + leaves nodes ≤ length now
+  pub so-far : seenIn g v left₀ k all w ≡ scan natural (rulesOf g v left₀) (frameOf g v all) k (grained (g .grain) nodes) (lift s play read spent)
 
-pub going-start : {t : Slices} {g : Rule} {v : Ends} (k : Kind) (w : Window) {c e used : ℕ} {came : List ℕ} → ReadyChildren t g v k w c e used (length came)
-    → Going t g v k w c e used came (startAt k v w) c used came
+pub going-start : {t : Slices} {g : Rule} {v : Ends} (k : Kind) (w : Window) {c e left : ℕ} {came : List ℕ} → ReadyChildren t g v k w c e left (length came)
+    → (left ≡ 0 → ⊥) → Going t g v k w c e left came (startAt k v w) c left came
 unfolding putFrom
-going-start {t} {g} {v} k w {c} {e} {used} {came} R =
+going-start {t} {g} {v} k w {c} {e} {left} {came} R more =
     let F = R .nodes in
     let f : Forest ℕ = grained (g .grain) F in
     let st = step t c e F (R .spans) (R .some) in
@@ -228,40 +244,42 @@ going-start {t} {g} {v} k w {c} {e} {used} {came} R =
       play = noPlay;
       read = [];
       plays = plays-start v (weigh f) k w;
+      spent = false;
       safe = subst (λ (z : alg.State ℕ). Safe limit (frameOf g v F) k (weigh f) z) (begin-lift v (weigh f) k w)
           (safe-begin limit (frameOf g v F) k f (w .alpha) (w .beta) [] (fit-sound g v (R .ends) k F (st .some) (R .fit)) o (R .alpha) (R .beta));
-      used-is = omega arith;
+      budget = R .within;
+      left-is = omega arith;
       leaves-are = refl;
       space = R .space;
-      so-far = ap (scan natural (rulesOf g v) (frameOf g v F) k f) (begin-lift v (weigh f) k w);
+      so-far = cond-later (leb left 0) _ _ (lt-leb left 0 (omega (arith, more))) ∙ ap (scan natural (rulesOf g v left) (frameOf g v F) k f) (begin-lift v (weigh f) k w);
     }
 
-safe-small : (e : Frame ℕ) (k : Kind) (W : ℕ) (s : State) (p : Play ℕ) (l : List ℕ) → Safe limit e k W (lift s p l) → OkState s
-safe-small e MAX W s p l h = record { alpha = h .0; beta = h .1; low = h .2; high = h .3 }
-safe-small e MIN W s p l h = record { alpha = h .0; beta = h .1; low = h .2; high = h .3 }
-safe-small e CHANCE W s p l h =
+safe-small : (e : Frame ℕ) (k : Kind) (W : ℕ) (s : State) (p : Play ℕ) (l : List ℕ) (x : Bool) → Safe limit e k W (lift s p l x) → OkState s
+safe-small e MAX W s p l x h = record { alpha = h .0; beta = h .1; low = h .2; high = h .3 }
+safe-small e MIN W s p l x h = record { alpha = h .0; beta = h .1; low = h .2; high = h .3 }
+safe-small e CHANCE W s p l x h =
     let below : s .low ≤ s .high = le-of-mul-le-mul-left (omega (arith, h .2)) (h .4) in
     record { alpha = h .0; beta = h .1; low = omega (arith, below, h .3); high = h .3 }
 
-module _ {t : Slices} {g : Rule} {v : Ends} {k : Kind} {w : Window} {c₀ e used₀ : ℕ} {came₀ : List ℕ} {s : State} {c used : ℕ} {came : List ℕ}
-    (I : Going t g v k w c₀ e used₀ came₀ s c used came) where
+module _ {t : Slices} {g : Rule} {v : Ends} {k : Kind} {w : Window} {c₀ e left₀ : ℕ} {came₀ : List ℕ} {s : State} {c left : ℕ} {came : List ℕ}
+    (I : Going t g v k w c₀ e left₀ came₀ s c left came) where
   pub going-step : Step t c e (I .nodes)
   going-step = step t c e (I .nodes) (I .spans) (I .some)
 
   pub going-small : OkState s
-  going-small = safe-small (frameOf g v (I .all)) k (weigh (grained (g .grain) (I .nodes))) s (I .play) (I .read) (I .safe)
+  going-small = safe-small (frameOf g v (I .all)) k (weigh (grained (g .grain) (I .nodes))) s (I .play) (I .read) (I .spent) (I .safe)
 
 -- a C's child has a weight of at least 1, within the total
-pub chance-weight : {t : Slices} {g : Rule} {v : Ends} {w : Window} {c₀ e used₀ : ℕ} {came₀ : List ℕ} {s : State} {c used : ℕ} {came : List ℕ}
-    (I : Going t g v CHANCE w c₀ e used₀ came₀ s c used came) → (0 < getD (t .weights) c 0) × (getD (t .weights) c 0 ≤ weigh (I .all)) × (weigh (I .all) ≤ 64)
+pub chance-weight : {t : Slices} {g : Rule} {v : Ends} {w : Window} {c₀ e left₀ : ℕ} {came₀ : List ℕ} {s : State} {c left : ℕ} {came : List ℕ}
+    (I : Going t g v CHANCE w c₀ e left₀ came₀ s c left came) → (0 < getD (t .weights) c 0) × (getD (t .weights) c 0 ≤ weigh (I .all)) × (weigh (I .all) ≤ 64)
 chance-weight {t} {g} {v} I =
     let st = going-step I in
     let u = fit-weight g v CHANCE (I .nodes) (st .some) (I .fit) refl in
     (omega (arith, st .weight, u), omega (arith, st .weight, weigh-split (I .nodes), I .part), I .light refl)
 
 -- the total N that was added up
-pub chance-total : {t : Slices} {g : Rule} {v : Ends} {w : Window} {c₀ e used₀ : ℕ} {came₀ : List ℕ} {s : State} {c used : ℕ} {came : List ℕ}
-    (I : Going t g v CHANCE w c₀ e used₀ came₀ s c used came) {N : ℕ} → N ≡ weighAt (t .stops) (t .weights) 1024 c₀ e → N ≡ weigh (I .all)
+pub chance-total : {t : Slices} {g : Rule} {v : Ends} {w : Window} {c₀ e left₀ : ℕ} {came₀ : List ℕ} {s : State} {c left : ℕ} {came : List ℕ}
+    (I : Going t g v CHANCE w c₀ e left₀ came₀ s c left came) {N : ℕ} → N ≡ weighAt (t .stops) (t .weights) 1024 c₀ e → N ≡ weigh (I .all)
 chance-total {t} {c₀ = c₀} {e = e} I q = q ∙ spans-weigh t 1024 c₀ e (I .all) (I .begun) (omega (arith, I .holds .few))
 
 pub window-small : (v : Ends) (N w : ℕ) (s : State) → OkEnds v → (windowFor (frameAt v N) CHANCE w s .alpha ≤ limit) × (windowFor (frameAt v N) CHANCE w s .beta ≤ limit)
@@ -269,16 +287,16 @@ unfolding lower upper
 window-small v N w s o = (omega (arith, o .order, o .top), omega (arith, o .top))
 
 -- before a child is searched: entry c, its run up to x, in the window y; the children began at c₀ and go on to e
-pub record Child (t : Slices) (g : Rule) (v : Ends) (c₀ e c x used room : ℕ) (y : Window) : Type 0 where
-  pub node : ReadyNode t g v y c x used room
+pub record Child (t : Slices) (g : Rule) (v : Ends) (c₀ e c x left room : ℕ) (y : Window) : Type 0 where
+  pub node : ReadyNode t g v y c x left room
   pub less : x - (c + 1) < e - c₀
   pub inside : c < x
   pub small : c < 1024
 
-pub child-of : {t : Slices} {g : Rule} {v : Ends} {k : Kind} {w : Window} {c₀ e used₀ : ℕ} {came₀ : List ℕ} {s : State} {c used : ℕ} {came : List ℕ}
-    → Going t g v k w c₀ e used₀ came₀ s c used came → (x : ℕ) (y : Window) → x ≡ stopOf t c → y .alpha ≤ limit → y .beta ≤ limit
-    → Child t g v c₀ e c x used (length came) y
-child-of {t} {g} {v} {k} {w} {c₀} {e} {used₀} {came₀} {s} {c} {used} {came} I x y q p p′ =
+pub child-of : {t : Slices} {g : Rule} {v : Ends} {k : Kind} {w : Window} {c₀ e left₀ : ℕ} {came₀ : List ℕ} {s : State} {c left : ℕ} {came : List ℕ}
+    → Going t g v k w c₀ e left₀ came₀ s c left came → (x : ℕ) (y : Window) → x ≡ stopOf t c → y .alpha ≤ limit → y .beta ≤ limit
+    → Child t g v c₀ e c x left (length came) y
+child-of {t} {g} {v} {k} {w} {c₀} {e} {left₀} {came₀} {s} {c} {left} {came} I x y q p p′ =
     let st = going-step I in
     let H = I .holds in
     record {
@@ -301,6 +319,7 @@ child-of {t} {g} {v} {k} {w} {c₀} {e} {used₀} {came₀} {s} {c} {used} {came
           heights = omega (arith, q, st .within, H .heights);
           few = omega (arith, q, st .within, H .few);
         };
+        within = omega (arith, I .left-is, I .budget);
         space = I .space;
       };
       less = omega (arith, q, st .within, st .below, I .past);
@@ -308,9 +327,9 @@ child-of {t} {g} {v} {k} {w} {c₀} {e} {used₀} {came₀} {s} {c} {used} {came
       small = omega (arith, I .some, H .few);
     }
 
-module _ {t : Slices} {g : Rule} {v : Ends} {c₀ e c x used room : ℕ} {y : Window} (C : Child t g v c₀ e c x used room y) where
+module _ {t : Slices} {g : Rule} {v : Ends} {c₀ e c x left room : ℕ} {y : Window} (C : Child t g v c₀ e c x left room y) where
   -- what a call of the search of kind j asks
-  pub child-asks : (m : ℕ) → e - c₀ ≡ m → (j : Kind) → getD (t .kinds) c 0 ≡ codeOf j → (x - (c + 1) < m) × ReadyChildren t g v j y (c + 1) x used room
+  pub child-asks : (m : ℕ) → e - c₀ ≡ m → (j : Kind) → getD (t .kinds) c 0 ≡ codeOf j → (x - (c + 1) < m) × ReadyChildren t g v j y (c + 1) x left room
   child-asks m q j is = (omega (arith, C .less), ready-inner (C .node) j is)
 
   pub child-three : (z : ℕ) → z ≡ getD (t .kinds) c 0 → (z ≡ 0 → ⊥) → (z ≡ 1 → ⊥) → (z ≡ 2 → ⊥) → getD (t .kinds) c 0 ≡ 3
@@ -318,90 +337,90 @@ module _ {t : Slices} {g : Rule} {v : Ends} {c₀ e c x used room : ℕ} {y : Wi
 
   -- what a call of `leaf_at` asks
   pub child-leaf : (z : ℕ) → z ≡ getD (t .kinds) c 0 → z ≡ 0
-      → (c < length (t .heights)) × (used < room) × (c < 1024) × (getD (t .heights) c 0 * g .grain < 9223372036854775808)
+      → (c < length (t .heights)) × (g .budget - left < room) × (left ≤ g .budget) × (c < 1024) × (getD (t .heights) c 0 * g .grain < 9223372036854775808)
   child-leaf z q p =
       let L = ready-leaf (C .node) (sym q ∙ p) in
-      (omega (arith, C .inside, C .node .holds .heights), L .0, C .small, L .1)
+      (omega (arith, C .inside, C .node .holds .heights), L .0, C .node .within, C .small, L .1)
 
 -- ---- after a child
 
 -- what is told of the child at entry c: an M and an N hand their own window on, a C a narrower one
-abbrev pub ChildTold : {t : Slices} {g : Rule} {v : Ends} {k : Kind} {w : Window} {c₀ e used₀ : ℕ} {came₀ : List ℕ} {s : State} {c used : ℕ} {came : List ℕ}
-    → Going t g v k w c₀ e used₀ came₀ s c used came → Found → List ℕ → Type 0
-ChildTold {t} {g} {v} {k} {s = s} {c = c} {used = used} {came = came} I r now =
-    NodeTold t g v (windowFor (frameOf g v (I .all)) k (getD (t .weights) c 0) s) c used r came now
+abbrev pub ChildTold : {t : Slices} {g : Rule} {v : Ends} {k : Kind} {w : Window} {c₀ e left₀ : ℕ} {came₀ : List ℕ} {s : State} {c left : ℕ} {came : List ℕ}
+    → Going t g v k w c₀ e left₀ came₀ s c left came → Found → List ℕ → Type 0
+ChildTold {t} {g} {v} {k} {s = s} {c = c} {left = left} {came = came} I r now =
+    NodeTold t g v (windowFor (frameOf g v (I .all)) k (getD (t .weights) c 0) s) c left r came now
 
-module _ {t : Slices} {g : Rule} {v : Ends} {w : Window} {c₀ e used₀ : ℕ} {came₀ : List ℕ} {s : State} {c used : ℕ} {came : List ℕ} where
+module _ {t : Slices} {g : Rule} {v : Ends} {w : Window} {c₀ e left₀ : ℕ} {came₀ : List ℕ} {s : State} {c left : ℕ} {came : List ℕ} where
   module _ {r : Found} {now : List ℕ} where
-    pub max-told : (I : Going t g v MAX w c₀ e used₀ came₀ s c used came) → NodeTold t g v (record { alpha = s .alpha; beta = s .beta }) c used r came now
+    pub max-told : (I : Going t g v MAX w c₀ e left₀ came₀ s c left came) → NodeTold t g v (record { alpha = s .alpha; beta = s .beta }) c left r came now
         → ChildTold I r now
     unfolding lower upper
     max-told I h = h
 
-    pub min-told : (I : Going t g v MIN w c₀ e used₀ came₀ s c used came) → NodeTold t g v (record { alpha = s .alpha; beta = s .beta }) c used r came now
+    pub min-told : (I : Going t g v MIN w c₀ e left₀ came₀ s c left came) → NodeTold t g v (record { alpha = s .alpha; beta = s .beta }) c left r came now
         → ChildTold I r now
     unfolding lower upper
     min-told I h = h
 
     -- of the weight x and the total N that were read
-    pub chance-told : (I : Going t g v CHANCE w c₀ e used₀ came₀ s c used came) {N x : ℕ} {y : Window} → N ≡ weigh (I .all) → x ≡ getD (t .weights) c 0
-        → y ≡ windowFor (frameAt v N) CHANCE x s → NodeTold t g v y c used r came now → ChildTold I r now
+    pub chance-told : (I : Going t g v CHANCE w c₀ e left₀ came₀ s c left came) {N x : ℕ} {y : Window} → N ≡ weigh (I .all) → x ≡ getD (t .weights) c 0
+        → y ≡ windowFor (frameAt v N) CHANCE x s → NodeTold t g v y c left r came now → ChildTold I r now
     chance-told I p q z h =
-        subst (λ (y : Window). NodeTold t g v y c used r came now)
+        subst (λ (y : Window). NodeTold t g v y c left r came now)
         (z ∙ ap₂ (λ (N x : ℕ). windowFor (frameAt v N) CHANCE x s) (p ∙ sym (grained-weigh (g .grain) (I .all))) q) h
 
-  pub chance-state : (I : Going t g v CHANCE w c₀ e used₀ came₀ s c used came) (r : Found) {N x : ℕ} {s′ : State} → N ≡ weigh (I .all) → x ≡ getD (t .weights) c 0
+  pub chance-state : (I : Going t g v CHANCE w c₀ e left₀ came₀ s c left came) (r : Found) {N x : ℕ} {s′ : State} → N ≡ weigh (I .all) → x ≡ getD (t .weights) c 0
       → s′ ≡ after (frameAt v N) CHANCE 0 x s (r .low) (r .high) → s′ ≡ after (frameOf g v (I .all)) CHANCE c (getD (t .weights) c 0) s (r .low) (r .high)
   unfolding update
   chance-state I r p q z =
       z ∙ ap₂ (λ (N x : ℕ). after (frameAt v N) CHANCE c x s (r .low) (r .high)) (p ∙ sym (grained-weigh (g .grain) (I .all))) q
 
-  pub max-state : (I : Going t g v MAX w c₀ e used₀ came₀ s c used came) (r : Found) {s′ : State} → s′ ≡ after (frameAt v 0) MAX c 0 s (r .low) (r .high)
+  pub max-state : (I : Going t g v MAX w c₀ e left₀ came₀ s c left came) (r : Found) {s′ : State} → s′ ≡ after (frameAt v 0) MAX c 0 s (r .low) (r .high)
       → s′ ≡ after (frameOf g v (I .all)) MAX c (getD (t .weights) c 0) s (r .low) (r .high)
   unfolding update
   max-state I r z = z
 
-  pub min-state : (I : Going t g v MIN w c₀ e used₀ came₀ s c used came) (r : Found) {s′ : State} → s′ ≡ after (frameAt v 0) MIN c 0 s (r .low) (r .high)
+  pub min-state : (I : Going t g v MIN w c₀ e left₀ came₀ s c left came) (r : Found) {s′ : State} → s′ ≡ after (frameAt v 0) MIN c 0 s (r .low) (r .high)
       → s′ ≡ after (frameOf g v (I .all)) MIN c (getD (t .weights) c 0) s (r .low) (r .high)
   unfolding update
   min-state I r z = z
 
 -- the search of the children that are left, F, after the child before them
-module _ (g : Rule) (v : Ends) (f : Frame ℕ) (k : Kind) (s : State) (p : Play ℕ) (l : List ℕ) where
+module _ (g : Rule) (v : Ends) (left : ℕ) (f : Frame ℕ) (k : Kind) (s : State) (p : Play ℕ) (l : List ℕ) (x : Bool) where
   abbrev seenLeft : Forest ℕ → Seen ℕ
-  seenLeft F = seenAfter natural (rulesOf g v) f k (grained (g .grain) F) (lift s p l)
+  seenLeft F = seenAfter natural (rulesOf g v left) f k (grained (g .grain) F) (lift s p l x)
 
-  left-none : (F : Forest ℕ) → isEnd F ≡ true → seenLeft F ≡ record { low = s .low; high = s .high; play = p; read = l }
+  left-none : (F : Forest ℕ) → isEnd F ≡ true → seenLeft F ≡ record { low = s .low; high = s .high; play = p; read = l; spent = x }
   unfolding grained stop scan finish
   left-none end q = refl
   left-none (leaf n w h rest) q = absurd (true-ne-false (sym q))
   left-none (inner n w j under rest) q = absurd (true-ne-false (sym q))
 
   left-cut : (F : Forest ℕ) → isEnd F ≡ false → stops g s ≡ true
-      → seenLeft F ≡ record { low = runLow f k (s .low); high = runHigh f k (s .high); play = p; read = l }
+      → seenLeft F ≡ record { low = runLow f k (s .low); high = runHigh f k (s .high); play = p; read = l; spent = x }
   unfolding grained stop cut
   left-cut end q h = absurd (true-ne-false q)
   left-cut (leaf n w x rest) q h = rw h refl
   left-cut (inner n w j under rest) q h = rw h refl
 
-  left-more : (F : Forest ℕ) → isEnd F ≡ false → stops g s ≡ false → seenLeft F ≡ scan natural (rulesOf g v) f k (grained (g .grain) F) (lift s p l)
+  left-more : (F : Forest ℕ) → isEnd F ≡ false → stops g s ≡ false → seenLeft F ≡ scan natural (rulesOf g v left) f k (grained (g .grain) F) (lift s p l x)
   unfolding grained stop
   left-more end q h = absurd (true-ne-false q)
   left-more (leaf n w x rest) q h = rw h refl
   left-more (inner n w j under rest) q h = rw h refl
 
 -- The loop stood at c with the state s; the child's run ends at x, r is what its search gave and s′ the state after it, `now` the list.
-pub record Turn (t : Slices) (g : Rule) (v : Ends) (k : Kind) (w : Window) (c₀ e used₀ : ℕ) (came₀ : List ℕ) (c x : ℕ) (r : Found) (s′ : State) (now : List ℕ) : Type 0 where
+pub record Turn (t : Slices) (g : Rule) (v : Ends) (k : Kind) (w : Window) (c₀ e left₀ : ℕ) (came₀ : List ℕ) (c x : ℕ) (r : Found) (s′ : State) (now : List ℕ) : Type 0 where
   pub s : State
-  pub used : ℕ
+  pub left : ℕ
   pub came : List ℕ
-  pub going : Going t g v k w c₀ e used₀ came₀ s c used came
+  pub going : Going t g v k w c₀ e left₀ came₀ s c left came
   pub stop : x ≡ stopOf t c
   pub told : ChildTold going r now
   pub state : s′ ≡ after (frameOf g v (going .all)) k c (getD (t .weights) c 0) s (r .low) (r .high)
 
-module _ {t : Slices} {g : Rule} {v : Ends} {k : Kind} {w : Window} {c₀ e used₀ : ℕ} {came₀ : List ℕ} {s : State} {c used : ℕ} {came : List ℕ}
-    (I : Going t g v k w c₀ e used₀ came₀ s c used came) {r : Found} {now : List ℕ} (told : ChildTold I r now) where
+module _ {t : Slices} {g : Rule} {v : Ends} {k : Kind} {w : Window} {c₀ e left₀ : ℕ} {came₀ : List ℕ} {s : State} {c left : ℕ} {came : List ℕ}
+    (I : Going t g v k w c₀ e left₀ came₀ s c left came) {r : Found} {now : List ℕ} (told : ChildTold I r now) where
   abbrev frame : Frame ℕ
   frame = frameOf g v (I .all)
 
@@ -410,13 +429,13 @@ module _ {t : Slices} {g : Rule} {v : Ends} {k : Kind} {w : Window} {c₀ e used
 
   -- what the child's search gave, in Algorithm 1's words
   abbrev own : Seen ℕ
-  own = nodeSeen g v F (windowFor frame k (weightOf F) s)
+  own = nodeSeen g v left F (windowFor frame k (weightOf F) s)
 
-  own-gives : Gives r own used came now
-  own-gives = subst (λ (x : ℕ). Gives r (nodeSeen g v F (windowFor frame k x s)) used came now) (going-step I .weight) (told .tells F e (I .spans) (I .some))
+  own-gives : Gives g left r own came now
+  own-gives = subst (λ (x : ℕ). Gives g left r (nodeSeen g v left F (windowFor frame k x s)) came now) (going-step I .weight) (told .tells F e (I .spans) (I .some))
 
   own-holds : (x : ℕ) × Holding frame x own
-  own-holds = node-holds g v (I .ends) (frame .total) k F (windowFor frame k (weightOf F) s) (going-step I .some) (I .fit)
+  own-holds = node-holds g v (I .ends) left (frame .total) k F (windowFor frame k (weightOf F) s) (going-step I .some) (I .fit)
 
   pub told-within : (v .bottom ≤ r .low) × (r .low ≤ limit) × (r .high ≤ v .top)
   told-within =
@@ -428,18 +447,23 @@ module _ {t : Slices} {g : Rule} {v : Ends} {k : Kind} {w : Window} {c₀ e used
   abbrev listed : List ℕ
   listed = I .read ++ own .read
 
-  used-next : r .used ≡ used₀ + length listed
-  used-next = omega (arith, own-gives .used, I .used-is, length-append (I .read) (own .read))
+  left-next : r .left + length listed ≡ left₀
+  left-next = omega (arith, own-gives .reads, I .left-is, length-append (I .read) (own .read))
 
-  leaves-next : now ≡ putFrom came₀ used₀ listed
+  -- where the child's leaves are listed
+  place : g .budget - left ≡ g .budget - left₀ + length (I .read)
+  place = omega (arith, I .left-is, I .budget)
+
+  leaves-next : now ≡ putFrom came₀ (g .budget - left₀) listed
   leaves-next =
-      own-gives .leaves ∙ ap₂ (λ (l : List ℕ) (n : ℕ). putFrom l n (own .read)) (I .leaves-are) (I .used-is) ∙ put-put came₀ used₀ (I .read) (own .read)
+      own-gives .leaves ∙ ap₂ (λ (l : List ℕ) (n : ℕ). putFrom l n (own .read)) (I .leaves-are) place
+      ∙ put-put came₀ (g .budget - left₀) (I .read) (own .read)
 
   kept-next : length now ≡ length came₀
-  kept-next = ap length leaves-next ∙ put-length came₀ used₀ listed
+  kept-next = ap length leaves-next ∙ put-length came₀ (g .budget - left₀) listed
 
   kept-now : length now ≡ length came
-  kept-now = ap length (own-gives .leaves) ∙ put-length came used (own .read)
+  kept-now = ap length (own-gives .leaves) ∙ put-length came (g .budget - left) (own .read)
 
   -- the state
   abbrev played : Play ℕ
@@ -452,19 +476,19 @@ module _ {t : Slices} {g : Rule} {v : Ends} {k : Kind} {w : Window} {c₀ e used
         let G = own-gives in
         sym (state ∙ λ i. after frame k (st .number i) (st .weight i) s (G .low i) (G .high i))
 
-    seen-next : seenIn g v k (I .all) w ≡ seenLeft g v frame k s′ played listed (restOf F)
+    seen-next : seenIn g v left₀ k (I .all) w ≡ seenLeft g v left₀ frame k s′ played listed (own .spent) (restOf F)
     seen-next =
-        I .so-far ∙ scan-step g v frame k F s (I .play) (I .read) (going-step I .some)
-        ∙ ap (λ (z : State). seenLeft g v frame k z played listed (restOf F)) state-next
+        I .so-far ∙ scan-step g v left left₀ (I .read) (I .left-is) (frame .total) k F s (I .play) (I .spent) (going-step I .some)
+        ∙ ap (λ (z : State). seenLeft g v left₀ frame k z played listed (own .spent) (restOf F)) state-next
 
-    safe-next : Safe limit frame k (weigh (grained (g .grain) (restOf F))) (lift s′ played listed)
+    safe-next : Safe limit frame k (weigh (grained (g .grain) (restOf F))) (lift s′ played listed (own .spent))
     safe-next =
         let W : ℕ = weigh (grained (g .grain) (restOf F)) in
         let H = own-holds .1 in
         subst (λ (z : alg.State ℕ). Safe limit frame k W z)
-        (update-lift frame k (numberOf F) (weightOf F) s (I .play) (I .read) (ahead (I .read) own) ∙ ap (λ (z : State). lift z played listed) state-next)
-        (safe-update limit frame k (numberOf F) (weightOf F) W (lift s (I .play) (I .read)) (ahead (I .read) own) (I .ends .top) (H .0) (le-trans (H .1) (H .2)) (H .3)
-        (subst (λ (n : ℕ). Safe limit frame k n (lift s (I .play) (I .read))) (grained-split (g .grain) F) (I .safe)))
+        (update-lift frame k (numberOf F) (weightOf F) s (I .play) (I .read) (I .spent) (ahead (I .read) own) ∙ ap (λ (z : State). lift z played listed (own .spent)) state-next)
+        (safe-update limit frame k (numberOf F) (weightOf F) W (lift s (I .play) (I .read) (I .spent)) (ahead (I .read) own) (I .ends .top) (H .0) (le-trans (H .1) (H .2)) (H .3)
+        (subst (λ (n : ℕ). Safe limit frame k n (lift s (I .play) (I .read) (I .spent))) (grained-split (g .grain) F) (I .safe)))
 
     plays-next : Plays frame k s′ played
     plays-next =
@@ -472,8 +496,8 @@ module _ {t : Slices} {g : Rule} {v : Ends} {k : Kind} {w : Window} {c₀ e used
         subst (λ (z : State). Plays frame k z played) state-next
         (plays-after frame k (numberOf F) (weightOf F) s (I .play) (ahead (I .read) own) (omega (arith, going-step I .number, I .later, I .past)) (H .0) (H .3) (I .plays))
 
-module _ {t : Slices} {g : Rule} {v : Ends} {k : Kind} {w : Window} {c₀ e used₀ : ℕ} {came₀ : List ℕ} {c x : ℕ} {r : Found} {s′ : State} {now : List ℕ}
-    (U : Turn t g v k w c₀ e used₀ came₀ c x r s′ now) where
+module _ {t : Slices} {g : Rule} {v : Ends} {k : Kind} {w : Window} {c₀ e left₀ : ℕ} {came₀ : List ℕ} {c x : ℕ} {r : Found} {s′ : State} {now : List ℕ}
+    (U : Turn t g v k w c₀ e left₀ came₀ c x r s′ now) where
   pub turn-same : length now ≡ length came₀
   turn-same = kept-next (U .going) (U .told)
 
@@ -487,30 +511,31 @@ module _ {t : Slices} {g : Rule} {v : Ends} {k : Kind} {w : Window} {c₀ e used
       omega (arith, q .0, I .rule .margin)
 
   -- whatever the nodes are said to be, they are those
-  told-all : (out : Found) → Gives out (seenIn g v k (U .going .all) w) used₀ came₀ now → Told t g v k w c₀ e used₀ out came₀ now
+  told-all : (out : Found) → Gives g left₀ out (seenIn g v left₀ k (U .going .all) w) came₀ now → Told t g v k w c₀ e left₀ out came₀ now
   told-all out h H is =
-      subst (λ (f : Forest ℕ). Gives out (seenIn g v k f w) used₀ came₀ now) (spans-same t c₀ e (U .going .all) H (U .going .begun) is) h
+      subst (λ (f : Forest ℕ). Gives g left₀ out (seenIn g v left₀ k f w) came₀ now) (spans-same t c₀ e (U .going .all) H (U .going .begun) is) h
 
-  turn-gives : (low high : ℕ) → seenLeft g v (frameOf g v (U .going .all)) k s′ (played (U .going) (U .told)) (listed (U .going) (U .told)) (restOf (U .going .nodes)) ≡ record { low = low; high = high; play = played (U .going) (U .told); read = listed (U .going) (U .told) }
-      → Told t g v k w c₀ e used₀ (record { low = low; high = high; play = s′ .play; used = r .used }) came₀ now
+  turn-gives : (low high : ℕ) → seenLeft g v left₀ (frameOf g v (U .going .all)) k s′ (played (U .going) (U .told)) (listed (U .going) (U .told)) (own (U .going) (U .told) .spent) (restOf (U .going .nodes)) ≡ record { low = low; high = high; play = played (U .going) (U .told); read = listed (U .going) (U .told); spent = own (U .going) (U .told) .spent }
+      → Told t g v k w c₀ e left₀ (record { low = low; high = high; play = s′ .play; left = r .left; spent = r .spent }) came₀ now
   turn-gives low high q =
       let I = U .going in
       told-all _
-      (subst (λ (a : Seen ℕ). Gives (record { low = low; high = high; play = s′ .play; used = r .used }) a used₀ came₀ now)
+      (subst (λ (a : Seen ℕ). Gives g left₀ (record { low = low; high = high; play = s′ .play; left = r .left; spent = r .spent }) a came₀ now)
       (sym (seen-next I (U .told) s′ (U .state) ∙ q))
       (record {
         low = refl;
         high = refl;
         play = plays-number (frameOf g v (I .all)) k s′ (played I (U .told)) (plays-next I (U .told) s′ (U .state));
-        used = used-next I (U .told);
+        reads = left-next I (U .told);
+        spent = own-gives I (U .told) .spent;
         leaves = leaves-next I (U .told);
       }))
 
-  pub turn-last : x ≡ e → Told t g v k w c₀ e used₀ (record { low = s′ .low; high = s′ .high; play = s′ .play; used = r .used }) came₀ now
+  pub turn-last : x ≡ e → Told t g v k w c₀ e left₀ (record { low = s′ .low; high = s′ .high; play = s′ .play; left = r .left; spent = r .spent }) came₀ now
   turn-last at-end =
       let I = U .going in
       turn-gives (s′ .low) (s′ .high)
-      (left-none g v (frameOf g v (I .all)) k s′ (played I (U .told)) (listed I (U .told)) (restOf (I .nodes))
+      (left-none g v left₀ (frameOf g v (I .all)) k s′ (played I (U .told)) (listed I (U .told)) (own I (U .told) .spent) (restOf (I .nodes))
       (spans-last t (stopOf t c) e (restOf (I .nodes)) (going-step I .rest) (sym (U .stop) ∙ at-end)))
 
   some-left : (x ≡ e → ⊥) → isEnd (restOf (U .going .nodes)) ≡ false
@@ -518,23 +543,23 @@ module _ {t : Slices} {g : Rule} {v : Ends} {k : Kind} {w : Window} {c₀ e used
 
   -- y is what `stopped` answered
   pub turn-cut : (x ≡ e → ⊥) → {y : Bool} → y ≡ stops g s′ → y ≡ true
-      → Told t g v k w c₀ e used₀ (record { low = runLow (frameAt v 0) k (s′ .low); high = runHigh (frameAt v 0) k (s′ .high); play = s′ .play; used = r .used }) came₀ now
+      → Told t g v k w c₀ e left₀ (record { low = runLow (frameAt v 0) k (s′ .low); high = runHigh (frameAt v 0) k (s′ .high); play = s′ .play; left = r .left; spent = r .spent }) came₀ now
   unfolding runLow runHigh
   turn-cut ne p q =
       let I = U .going in
       turn-gives (runLow (frameAt v 0) k (s′ .low)) (runHigh (frameAt v 0) k (s′ .high))
-      (left-cut g v (frameOf g v (I .all)) k s′ (played I (U .told)) (listed I (U .told)) (restOf (I .nodes)) (some-left ne) (sym p ∙ q)
+      (left-cut g v left₀ (frameOf g v (I .all)) k s′ (played I (U .told)) (listed I (U .told)) (own I (U .told) .spent) (restOf (I .nodes)) (some-left ne) (sym p ∙ q)
       ∙ same-cut (frameOf g v (I .all) .total) k)
     where
       cutAt : ℕ → Kind → Seen ℕ
-      cutAt N j = record { low = runLow (frameAt v N) j (s′ .low); high = runHigh (frameAt v N) j (s′ .high); play = played (U .going) (U .told); read = listed (U .going) (U .told) }
+      cutAt N j = record { low = runLow (frameAt v N) j (s′ .low); high = runHigh (frameAt v N) j (s′ .high); play = played (U .going) (U .told); read = listed (U .going) (U .told); spent = own (U .going) (U .told) .spent }
 
       same-cut : (N : ℕ) (j : Kind) → cutAt N j ≡ cutAt 0 j
       same-cut N MAX = refl
       same-cut N MIN = refl
       same-cut N CHANCE = refl
 
-  pub turn-on : (x ≡ e → ⊥) → {y : Bool} → y ≡ stops g s′ → y ≡ false → Going t g v k w c₀ e used₀ came₀ s′ x (r .used) now
+  pub turn-on : (x ≡ e → ⊥) → {y : Bool} → y ≡ stops g s′ → y ≡ false → Going t g v k w c₀ e left₀ came₀ s′ x (r .left) now
   turn-on ne p q =
       let I = U .going in
       let h = U .told in
@@ -557,10 +582,12 @@ module _ {t : Slices} {g : Rule} {v : Ends} {k : Kind} {w : Window} {c₀ e used
         holds = I .holds;
         play = played I h;
         read = listed I h;
+        spent = own I h .spent;
         plays = plays-next I h s′ (U .state);
         safe = safe-next I h s′ (U .state);
-        used-is = used-next I h;
+        budget = I .budget;
+        left-is = left-next I h;
         leaves-are = leaves-next I h;
-        space = omega (arith, leaves-split F, node-few g v F y, own-gives I h .used, kept-now I h, I .space);
-        so-far = seen-next I h s′ (U .state) ∙ left-more g v (frameOf g v (I .all)) k s′ (played I h) (listed I h) (restOf F) (some-left ne) (sym p ∙ q);
+        space = omega (arith, leaves-split F, node-few g v (U .left) F y, own-gives I h .reads, kept-now I h, I .space);
+        so-far = seen-next I h s′ (U .state) ∙ left-more g v left₀ (frameOf g v (I .all)) k s′ (played I h) (listed I h) (own I h .spent) (restOf F) (some-left ne) (sym p ∙ q);
       }

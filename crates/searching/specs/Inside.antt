@@ -1,52 +1,28 @@
 -- What the functions of the search over slices ask and tell, in the words of Algorithm 1 over heights. No promise names these.
-use Prim.Native.Nat.{ℕ, suc, _+_, _*_, _≤_, _<_}
+use Prim.Native.Nat.{ℕ, _+_, _-_, _*_, _≤_, _<_}
 use mathlib.Core.Path.{_≡_}
-use mathlib.Core.Bool.{true, false, cond}
-use mathlib.Core.List.{List, [], _∷_}
-use mathlib.Core.Option.{Option, none, some}
-use lib.Dec.{eqb}
-use lib.ListN.{length, set}
+use mathlib.Core.Bool.{true, false}
+use mathlib.Core.List.{List, []}
+use lib.ListN.{length}
 use Rattle.table.specs.Tree.{Kind, MAX, Forest, end, leaf, inner, isChance, isEnd, weigh, leaves}
 use Rattle.table.specs.Inside.{Slices, Spans, Holds}
 use Rattle.table.specs.Slices.{laid}
 use Rattle.table.specs.Accepted.{Rooted}
-use Rattle.search.specs.Search as alg
-use Rattle.search.specs.Search.{Frame, Seen, Rules, framed, begin, scan, searchRoot, nodeOf}
-use Rattle.search.specs.Inside.{natural, grained, heightRules}
+use Rattle.search.specs.Search.{Frame, Seen, Rules, framed, begin, met, scan, searchRoot, nodeOf}
+use Rattle.search.specs.Inside.{natural, grained}
 use Rattle.steps.specs.declared.Rule.{Rule}
 use Rattle.steps.specs.declared.Ends.{Ends}
 use Rattle.steps.specs.declared.Window.{Window}
 use Rattle.steps.specs.declared.Found.{Found}
-use Rattle.steps.specs.Inside.{limit, OkEnds}
+use Rattle.steps.specs.Inside.{rulesOf, playAt, Gives, limit, OkEnds}
 
-abbrev pub rulesOf : Rule → Ends → Rules ℕ
-rulesOf g v = heightRules (v .bottom) (v .top) (g .margin)
-
--- what the search of the children F, their heights in points, gives in the window w
-abbrev pub seenIn : Rule → Ends → Kind → Forest ℕ → Window → Seen ℕ
-seenIn g v k F w =
+-- What a node of these children, their heights in points, gives in the window w, where it is entered with so many reads left.
+abbrev pub seenIn : Rule → Ends → (left : ℕ) → Kind → Forest ℕ → Window → Seen ℕ
+seenIn g v left k F w =
     let f : Forest ℕ = grained (g .grain) F in
     let e : Frame ℕ = framed (v .bottom) (v .top) f in
-    scan natural (rulesOf g v) e k f (begin e k (w .alpha) (w .beta) [])
-
--- ---- results
-
--- l with the numbers xs written from index k on
-unfoldable pub putFrom : List ℕ → ℕ → List ℕ → List ℕ
-putFrom l k [] = l
-putFrom l k (x ∷ xs) = putFrom (set l k x) (suc k) xs
-
--- a node number as a play: 0 stands for none, as node 0 is no child
-abbrev pub playAt : ℕ → Option ℕ
-playAt n = cond (eqb n 0) none (some n)
-
--- the result r, with the list as it came and as it is now, is what was seen; the leaves are listed from index `from` on
-pub record Gives (r : Found) (a : Seen ℕ) (from : ℕ) (came now : List ℕ) : Type 0 where
-  pub low : r .low ≡ a .low
-  pub high : r .high ≡ a .high
-  pub play : playAt (r .play) ≡ nodeOf (a .play)
-  pub used : r .used ≡ from + length (a .read)
-  pub leaves : now ≡ putFrom came from (a .read)
+    let R : Rules ℕ = rulesOf g v left in
+    met R e [] (scan natural R e k f (begin e k (w .alpha) (w .beta) []))
 
 -- ---- what can be searched
 
@@ -68,7 +44,7 @@ Fit g v k (leaf i w h rest) = Pays k w × (v .bottom ≤ h * g .grain) × (h * g
 Fit g v k (inner i w j under rest) = Pays k w × (isEnd under ≡ false) × Light j under × Fit g v j under × Fit g v k rest
 
 -- the children in the entries from c up to e can be searched in the window w
-pub record ReadyChildren (t : Slices) (g : Rule) (v : Ends) (k : Kind) (w : Window) (c e used room : ℕ) : Type 0 where
+pub record ReadyChildren (t : Slices) (g : Rule) (v : Ends) (k : Kind) (w : Window) (c e left room : ℕ) : Type 0 where
   pub nodes : Forest ℕ
   pub spans : Spans t c e nodes
   pub later : 0 < c
@@ -80,11 +56,12 @@ pub record ReadyChildren (t : Slices) (g : Rule) (v : Ends) (k : Kind) (w : Wind
   pub alpha : w .alpha ≤ limit
   pub beta : w .beta ≤ limit
   pub holds : Holds t e
-  pub space : used + leaves nodes ≤ room
+  pub within : left ≤ g .budget
+  pub space : g .budget - left + leaves nodes ≤ room
 
 -- what is told of them
-abbrev pub Told : Slices → Rule → Ends → Kind → Window → (c e used : ℕ) → Found → List ℕ → List ℕ → Type 0
-Told t g v k w c e used r came now = (F : Forest ℕ) → Spans t c e F → Gives r (seenIn g v k F w) used came now
+abbrev pub Told : Slices → Rule → Ends → Kind → Window → (c e left : ℕ) → Found → List ℕ → List ℕ → Type 0
+Told t g v k w c e left r came now = (F : Forest ℕ) → Spans t c e F → Gives g left r (seenIn g v left k F w) came now
 
 -- ---- the whole table
 
@@ -100,14 +77,15 @@ pub record ReadyRoot (t : Slices) (g : Rule) (v : Ends) (n room : ℕ) : Type 0 
   pub space : leaves nodes ≤ room
 
 -- the result r, with the list as it came and as it is now, is what was seen
-pub record Shows (r : Found) (a : Seen ℕ) (came now : List ℕ) : Type 0 where
+pub record Shows (budget : ℕ) (r : Found) (a : Seen ℕ) (came now : List ℕ) : Type 0 where
   pub low : r .low ≡ a .low
   pub high : r .high ≡ a .high
   pub play : playAt (r .play) ≡ nodeOf (a .play)
-  pub used : r .used ≡ length (a .read)
+  pub reads : r .left + length (a .read) ≡ budget
+  pub spent : r .spent ≡ a .spent
   pub leaves : now ≡ laid (a .read) came
 
 -- what the search of a tree that can be searched gives
 abbrev pub Searched : Slices → Rule → Ends → ℕ → Found → List ℕ → List ℕ → Type 0
 Searched t g v n r came now =
-    (R : ReadyRoot t g v n (length came)) → Shows r (searchRoot natural (rulesOf g v) (grained (g .grain) (R .nodes))) came now
+    (R : ReadyRoot t g v n (length came)) → Shows (g .budget) r (searchRoot natural (rulesOf g v (g .budget)) (grained (g .grain) (R .nodes))) came now

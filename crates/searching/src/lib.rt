@@ -13,23 +13,26 @@ use steps::Rule;
 use steps::State;
 use steps::Window;
 
-// The children of an M of the ends v, entries c up to end, in the window w. (As the value of the `if`, r would be copied once more.)
+// The children of an M of the ends v, entries c up to end, in the window w, with so many reads left. (As the value of the `if`, r would be copied once more.)
 fn max_over(
     kind: &[u8],
     stop: &[u16],
     weight: &[u8],
     height: &[u32],
     leaves: &mut [u16],
-    used: usize,
+    left: usize,
     g: Rule,
     c: usize,
     end: usize,
     v: Ends,
     w: Window,
 ) -> Found
-    requires { ⌜ ReadyChildren (slices (now kind) (now stop) (now weight) (now height)) g v MAX w c end used (length (now leaves)) ⌝ }
-    ensures { λ r. ⌜ Told (slices (now (kind .entry)) (now (stop .entry)) (now (weight .entry)) (now (height .entry))) g v MAX w c end used r (now (leaves .entry)) (now (leaves .exit)) ⌝ }
+    requires { ⌜ ReadyChildren (slices (now kind) (now stop) (now weight) (now height)) g v MAX w c end left (length (now leaves)) ⌝ }
+    ensures { λ r. ⌜ Told (slices (now (kind .entry)) (now (stop .entry)) (now (weight .entry)) (now (height .entry))) g v MAX w c end left r (now (leaves .entry)) (now (leaves .exit)) ⌝ }
 {
+    if left == 0 {
+        return steps::unmet(v);
+    }
     let mut t = State {
         alpha: w.alpha,
         beta: w.beta,
@@ -38,7 +41,7 @@ fn max_over(
         play: 0,
     };
     let mut i = c;
-    let mut n = used;
+    let mut n = left;
     loop {
         let e = node_at(stop, i);
         let k = at8(kind, i);
@@ -50,10 +53,11 @@ fn max_over(
             low: 0,
             high: 0,
             play: 0,
-            used: n,
+            left: n,
+            spent: false,
         };
         if k == 0 {
-            r = steps::leaf_at(height, leaves, n, i, g.grain);
+            r = steps::leaf_at(height, leaves, n, i, g, v);
         } else if k == 1 {
             r = max_over(kind, stop, weight, height, leaves, n, g, i + 1, e, v, y);
         } else if k == 2 {
@@ -62,13 +66,14 @@ fn max_over(
             r = chance_over(kind, stop, weight, height, leaves, n, g, i + 1, e, v, y);
         }
         t = steps::max_after(v, i, t, r.low, r.high);
-        n = r.used;
+        n = r.left;
         if e == end {
             return Found {
                 low: t.low,
                 high: t.high,
                 play: t.play,
-                used: n,
+                left: n,
+                spent: r.spent,
             };
         }
         if steps::stopped(g, t) {
@@ -76,7 +81,8 @@ fn max_over(
                 low: t.low,
                 high: v.top,
                 play: t.play,
-                used: n,
+                left: n,
+                spent: r.spent,
             };
         }
         i = e;
@@ -90,16 +96,19 @@ fn min_over(
     weight: &[u8],
     height: &[u32],
     leaves: &mut [u16],
-    used: usize,
+    left: usize,
     g: Rule,
     c: usize,
     end: usize,
     v: Ends,
     w: Window,
 ) -> Found
-    requires { ⌜ ReadyChildren (slices (now kind) (now stop) (now weight) (now height)) g v MIN w c end used (length (now leaves)) ⌝ }
-    ensures { λ r. ⌜ Told (slices (now (kind .entry)) (now (stop .entry)) (now (weight .entry)) (now (height .entry))) g v MIN w c end used r (now (leaves .entry)) (now (leaves .exit)) ⌝ }
+    requires { ⌜ ReadyChildren (slices (now kind) (now stop) (now weight) (now height)) g v MIN w c end left (length (now leaves)) ⌝ }
+    ensures { λ r. ⌜ Told (slices (now (kind .entry)) (now (stop .entry)) (now (weight .entry)) (now (height .entry))) g v MIN w c end left r (now (leaves .entry)) (now (leaves .exit)) ⌝ }
 {
+    if left == 0 {
+        return steps::unmet(v);
+    }
     let mut t = State {
         alpha: w.alpha,
         beta: w.beta,
@@ -108,7 +117,7 @@ fn min_over(
         play: 0,
     };
     let mut i = c;
-    let mut n = used;
+    let mut n = left;
     loop {
         let e = node_at(stop, i);
         let k = at8(kind, i);
@@ -120,10 +129,11 @@ fn min_over(
             low: 0,
             high: 0,
             play: 0,
-            used: n,
+            left: n,
+            spent: false,
         };
         if k == 0 {
-            r = steps::leaf_at(height, leaves, n, i, g.grain);
+            r = steps::leaf_at(height, leaves, n, i, g, v);
         } else if k == 1 {
             r = max_over(kind, stop, weight, height, leaves, n, g, i + 1, e, v, y);
         } else if k == 2 {
@@ -132,13 +142,14 @@ fn min_over(
             r = chance_over(kind, stop, weight, height, leaves, n, g, i + 1, e, v, y);
         }
         t = steps::min_after(v, i, t, r.low, r.high);
-        n = r.used;
+        n = r.left;
         if e == end {
             return Found {
                 low: t.low,
                 high: t.high,
                 play: t.play,
-                used: n,
+                left: n,
+                spent: r.spent,
             };
         }
         if steps::stopped(g, t) {
@@ -146,7 +157,8 @@ fn min_over(
                 low: v.bottom,
                 high: t.high,
                 play: t.play,
-                used: n,
+                left: n,
+                spent: r.spent,
             };
         }
         i = e;
@@ -160,16 +172,19 @@ fn chance_over(
     weight: &[u8],
     height: &[u32],
     leaves: &mut [u16],
-    used: usize,
+    left: usize,
     g: Rule,
     c: usize,
     end: usize,
     v: Ends,
     w: Window,
 ) -> Found
-    requires { ⌜ ReadyChildren (slices (now kind) (now stop) (now weight) (now height)) g v CHANCE w c end used (length (now leaves)) ⌝ }
-    ensures { λ r. ⌜ Told (slices (now (kind .entry)) (now (stop .entry)) (now (weight .entry)) (now (height .entry))) g v CHANCE w c end used r (now (leaves .entry)) (now (leaves .exit)) ⌝ }
+    requires { ⌜ ReadyChildren (slices (now kind) (now stop) (now weight) (now height)) g v CHANCE w c end left (length (now leaves)) ⌝ }
+    ensures { λ r. ⌜ Told (slices (now (kind .entry)) (now (stop .entry)) (now (weight .entry)) (now (height .entry))) g v CHANCE w c end left r (now (leaves .entry)) (now (leaves .exit)) ⌝ }
 {
+    if left == 0 {
+        return steps::unmet(v);
+    }
     let total = runs::sum_weights(kind, stop, weight, c, end);
     let mut t = State {
         alpha: w.alpha,
@@ -179,7 +194,7 @@ fn chance_over(
         play: 0,
     };
     let mut i = c;
-    let mut n = used;
+    let mut n = left;
     loop {
         let e = node_at(stop, i);
         let k = at8(kind, i);
@@ -188,10 +203,11 @@ fn chance_over(
             low: 0,
             high: 0,
             play: 0,
-            used: n,
+            left: n,
+            spent: false,
         };
         if k == 0 {
-            r = steps::leaf_at(height, leaves, n, i, g.grain);
+            r = steps::leaf_at(height, leaves, n, i, g, v);
         } else {
             let y = steps::chance_window(v, total, t, x);
             if k == 1 {
@@ -203,13 +219,14 @@ fn chance_over(
             }
         }
         t = steps::chance_after(v, total, t, x, r.low, r.high);
-        n = r.used;
+        n = r.left;
         if e == end {
             return Found {
                 low: t.low,
                 high: t.high,
                 play: t.play,
-                used: n,
+                left: n,
+                spent: r.spent,
             };
         }
         if steps::stopped(g, t) {
@@ -217,14 +234,15 @@ fn chance_over(
                 low: t.low,
                 high: t.high,
                 play: t.play,
-                used: n,
+                left: n,
+                spent: r.spent,
             };
         }
         i = e;
     }
 }
 
-// The search of the table whose nodes are the entries up to n, between the ends v. The leaves read are listed in reading sequence; the rest of
+// The search of the table whose nodes are the entries up to n, between the ends v, within the budget of g. The leaves read are listed in reading sequence; the rest of
 // the list stays.
 pub fn search(
     kind: &[u8],
@@ -245,13 +263,13 @@ pub fn search(
         beta: v.top,
     };
     if k == 0 {
-        return steps::leaf_at(height, leaves, 0, 0, g.grain);
+        return steps::leaf_at(height, leaves, g.budget, 0, g, v);
     }
     if k == 1 {
-        return max_over(kind, stop, weight, height, leaves, 0, g, 1, n, v, w);
+        return max_over(kind, stop, weight, height, leaves, g.budget, g, 1, n, v, w);
     }
     if k == 2 {
-        return min_over(kind, stop, weight, height, leaves, 0, g, 1, n, v, w);
+        return min_over(kind, stop, weight, height, leaves, g.budget, g, 1, n, v, w);
     }
-    chance_over(kind, stop, weight, height, leaves, 0, g, 1, n, v, w)
+    chance_over(kind, stop, weight, height, leaves, g.budget, g, 1, n, v, w)
 }

@@ -1,14 +1,15 @@
 -- What the functions of one step of the search ask and tell, in the words of Algorithm 1 over heights. No promise names these.
-use Prim.Native.Nat.{ℕ, _+_, _≤_}
+use Prim.Native.Nat.{ℕ, suc, _+_, _-_, _≤_}
 use mathlib.Core.Path.{_≡_}
-use mathlib.Core.Bool.{Bool, _||_, cond}
-use mathlib.Core.List.{List, []}
+use mathlib.Core.Bool.{Bool, true, false, _||_, cond}
+use mathlib.Core.List.{List, [], _∷_}
+use mathlib.Core.Option.{Option, none, some}
 use lib.Dec.{eqb}
-use lib.ListN.{set}
-use Rattle.table.specs.Tree.{Kind, MAX, MIN, CHANCE, leaves}
+use lib.ListN.{length, set}
+use Rattle.table.specs.Tree.{Kind, MAX, MIN, CHANCE}
 use Rattle.search.specs.Search as alg
-use Rattle.search.specs.Search.{Frame, Play, noPlay, lower, upper, beats, update}
-use Rattle.search.specs.Inside.{natural}
+use Rattle.search.specs.Search.{Frame, Play, noPlay, Seen, Rules, limited, point, met, lower, upper, beats, update, nodeOf}
+use Rattle.search.specs.Inside.{natural, heightRules}
 use Rattle.steps.specs.declared.Rule.{Rule}
 use Rattle.steps.specs.declared.Ends.{Ends}
 use Rattle.steps.specs.declared.State.{State}
@@ -21,13 +22,13 @@ use Rattle.steps.specs.declared.Found.{Found}
 abbrev pub frameAt : Ends → (total : ℕ) → Frame ℕ
 frameAt v total = record { bottom = v .bottom; top = v .top; total = total }
 
--- the state with the play p and the leaves l read before
-abbrev pub lift : State → Play ℕ → List ℕ → alg.State ℕ
-lift s p l = record { alpha = s .alpha; beta = s .beta; lo = s .low; hi = s .high; play = p; read = l }
+-- the state with the play p, and the leaves l read before; x is whether its last child was met unread
+abbrev pub lift : State → Play ℕ → List ℕ → Bool → alg.State ℕ
+lift s p l x = record { alpha = s .alpha; beta = s .beta; lo = s .low; hi = s .high; play = p; read = l; spent = x }
 
 -- the window of a child of weight w
 abbrev pub windowFor : Frame ℕ → Kind → (w : ℕ) → State → Window
-windowFor e k w s = record { alpha = lower natural e k w (lift s noPlay []); beta = upper natural e k w (lift s noPlay []) }
+windowFor e k w s = record { alpha = lower natural e k w (lift s noPlay [] false); beta = upper natural e k w (lift s noPlay [] false) }
 
 -- the first child, and then each that beats the best so far; node 0 is no child, and stands for none
 abbrev pub preferred : (play i : ℕ) (beats : Bool) → ℕ
@@ -42,7 +43,7 @@ nextPlay CHANCE play i beats = 0
 -- high the high of an N.
 abbrev pub after : Frame ℕ → Kind → (i w : ℕ) → State → (low high : ℕ) → State
 after e k i w s low high =
-    let t : alg.State ℕ = update natural e k i w (lift s noPlay []) (record { low = low; high = high; play = noPlay; read = [] }) in
+    let t : alg.State ℕ = update natural e k i w (lift s noPlay [] false) (record { low = low; high = high; play = noPlay; read = []; spent = false }) in
     record {
       alpha = t .alpha;
       beta = t .beta;
@@ -55,13 +56,38 @@ after e k i w s low high =
 abbrev pub stops : Rule → State → Bool
 stops g s = natural .near (g .margin) (s .alpha) (s .beta)
 
--- a leaf of h grains at entry c was read
-pub record LeafAt (r : Found) (h from c : ℕ) (came now : List ℕ) : Type 0 where
-  pub low : r .low ≡ h
-  pub high : r .high ≡ h
-  pub play : r .play ≡ 0
-  pub used : r .used ≡ from + 1
-  pub leaves : now ≡ set came from c
+-- ---- results
+
+-- what a search goes by that has so many reads left
+abbrev pub rulesOf : Rule → Ends → (left : ℕ) → Rules ℕ
+rulesOf g v left = heightRules (v .bottom) (v .top) (g .margin) (limited left)
+
+-- l with the numbers xs written from index k on
+unfoldable pub putFrom : List ℕ → ℕ → List ℕ → List ℕ
+putFrom l k [] = l
+putFrom l k (x ∷ xs) = putFrom (set l k x) (suc k) xs
+
+-- a node number as a play: 0 stands for none, as node 0 is no child
+abbrev pub playAt : ℕ → Option ℕ
+playAt n = cond (eqb n 0) none (some n)
+
+-- The result r, with the list as it came and as it is now, is what was seen of a node that was entered with so many reads left. The leaves are listed
+-- behind those read before it.
+pub record Gives (g : Rule) (left : ℕ) (r : Found) (a : Seen ℕ) (came now : List ℕ) : Type 0 where
+  pub low : r .low ≡ a .low
+  pub high : r .high ≡ a .high
+  pub play : playAt (r .play) ≡ nodeOf (a .play)
+  pub reads : r .left + length (a .read) ≡ left
+  pub spent : r .spent ≡ a .spent
+  pub leaves : now ≡ putFrom came (g .budget - left) (a .read)
+
+-- a node met when no read is left
+abbrev pub unmetIn : Ends → Found
+unmetIn v = record { low = v .bottom; high = v .top; play = 0; left = 0; spent = true }
+
+-- the leaf c of h grains
+abbrev pub leafSeen : Rule → Ends → (left c h : ℕ) → Seen ℕ
+leafSeen g v left c h = met (rulesOf g v left) (frameAt v 0) [] (point c h [])
 
 -- ---- numbers that fit
 

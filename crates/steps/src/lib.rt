@@ -1,19 +1,20 @@
 // One step of the bounded search: the window of a child, the state after it, and a leaf read. Lines are those of Algorithm 1 of document 000,
 // numbers are in grains above the lowest end.
 ghost use mathlib.Core.Path.{_≡_};
-ghost use Prim.Native.Nat.{_+_, _*_, _<_, _≤_};
+ghost use Prim.Native.Nat.{_+_, _*_, _-_, _<_, _≤_};
 ghost use lib.ListN.{length, getD};
 ghost use Rattle.table.specs.Tree.{MAX, MIN, CHANCE};
-ghost use Rattle.steps.specs.Inside.{frameAt, windowFor, preferred, after, stops, LeafAt, limit, OkEnds, OkState};
+ghost use Rattle.steps.specs.Inside.{frameAt, windowFor, preferred, after, stops, unmetIn, leafSeen, Gives, limit, OkEnds, OkState};
 use numbers::max_of;
 use numbers::min_of;
 use numbers::monus;
 use numbers::wide32;
 
-// The margin, and the grains in a point.
+// The margin, the grains in a point, and how many leaves may be read.
 pub struct Rule {
     pub margin: u64,
     pub grain: u64,
+    pub budget: usize,
 }
 
 // A node's least and greatest value in grains.
@@ -37,12 +38,13 @@ pub struct Window {
     pub beta: u64,
 }
 
-// A node's bounds, its best child's node (0 for none), and how many leaves are listed.
+// A node's bounds, its best child's node (0 for none), how many reads are left, and whether a node was met when none was.
 pub struct Found {
     pub low: u64,
     pub high: u64,
     pub play: usize,
-    pub used: usize,
+    pub left: usize,
+    pub spent: bool,
 }
 
 // Line 24: whether the window is within the margin.
@@ -129,18 +131,36 @@ pub fn chance_after(v: Ends, total: u64, s: State, w: u64, low: u64, high: u64) 
     }
 }
 
-// The leaf at entry c, lines 1 and 2: it is listed, and both bounds are its height in grains.
-pub fn leaf_at(height: &[u32], leaves: &mut [u16], used: usize, c: usize, grain: u64) -> Found
-    requires { ⌜ (c < length (now height)) × (used < length (now leaves)) × (c < 1024) × (getD (now height) c 0 * grain < 9223372036854775808) ⌝ }
-    ensures { λ r. ⌜ LeafAt r (getD (now (height .entry)) c 0 * grain) used c (now (leaves .entry)) (now (leaves .exit)) ⌝ }
+// A node met when no read is left: the two ends, and nothing is read.
+pub fn unmet(v: Ends) -> Found
+    ensures { λ r. ⌜ r ≡ unmetIn v ⌝ }
 {
+    Found {
+        low: v.bottom,
+        high: v.top,
+        play: 0,
+        left: 0,
+        spent: true,
+    }
+}
+
+// The leaf at entry c, lines 1 and 2: it is listed behind those read before, and both bounds are its height in grains.
+pub fn leaf_at(height: &[u32], leaves: &mut [u16], left: usize, c: usize, g: Rule, v: Ends) -> Found
+    requires { ⌜ (c < length (now height)) × (g .budget - left < length (now leaves)) × (left ≤ g .budget) × (c < 1024) × (getD (now height) c 0 * g .grain < 9223372036854775808) ⌝ }
+    ensures { λ r. ⌜ Gives g left r (leafSeen g v left c (getD (now (height .entry)) c 0 * g .grain)) (now (leaves .entry)) (now (leaves .exit)) ⌝ }
+{
+    if left == 0 {
+        return unmet(v);
+    }
+    let used = g.budget - left;
     leaves[used] = c as u16;
-    let h = wide32(height[c]) * grain;
-    let n = used + 1;
+    let h = wide32(height[c]) * g.grain;
+    let n = left - 1;
     Found {
         low: h,
         high: h,
         play: 0,
-        used: n,
+        left: n,
+        spent: false,
     }
 }

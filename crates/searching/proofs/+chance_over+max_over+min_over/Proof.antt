@@ -23,7 +23,8 @@ use Rattle.steps.proofs.leaf_at.Reads as leaf-at-reads
 use Rattle.steps.proofs.max_after.Reads as max-after-reads
 use Rattle.steps.proofs.min_after.Reads as min-after-reads
 use Rattle.steps.proofs.stopped.Reads as stopped-reads
-use Rattle.searching.proofs.Rules.{NodeTold, told-same, told-leaf, told-inner, Going, going-start, going-small, chance-weight, chance-total, window-small, Child, child-of, child-asks, child-three, child-leaf, ChildTold, max-told, min-told, chance-told, max-state, min-state, chance-state, told-within, Turn, turn-same, turn-less, turn-margin, turn-last, turn-cut, turn-on}
+use Rattle.steps.proofs.unmet.Reads as unmet-reads
+use Rattle.searching.proofs.Rules.{NodeTold, told-same, told-leaf, told-inner, told-unmet, Going, going-start, going-small, chance-weight, chance-total, window-small, Child, child-of, child-asks, child-three, child-leaf, ChildTold, max-told, min-told, chance-told, max-state, min-state, chance-state, told-within, Turn, turn-same, turn-less, turn-margin, turn-last, turn-cut, turn-on}
 use Rattle.searching.proofs.chance_over.Reads as chance-over
 use Rattle.searching.proofs.chance_over.Kinds as chance-over-kinds
 use Rattle.searching.proofs.+chance_over+max_over+min_over.Lts-chance_over as chance-over-lts
@@ -73,6 +74,8 @@ windowOf s = record { alpha = s .alpha; beta = s .beta }
 -- what its callees ask and tell
 abbrev chance-over-claims : ℕ → chance-over-lts.Claims
 chance-over-claims t = (
+  unmet-reads.Asked,
+  unmet-reads.Learnt,
   sum-weights-reads.Asked,
   sum-weights-reads.Learnt,
   node-at-reads.Asked,
@@ -98,20 +101,27 @@ chance-over-claims t = (
 )
 
 abbrev chance-over-Inv-loop : chance-over-lts.InvT-loop
-chance-over-Inv-loop kind stop weight height leaves₀ used g c end v total t₀ i₀ n₀ leaves t i n =
-    Going (slices kind stop weight height) g v CHANCE (windowOf t₀) c end used leaves₀ t i n leaves
+chance-over-Inv-loop kind stop weight height leaves₀ left g c end v total t₀ i₀ n₀ leaves t i n =
+    Going (slices kind stop weight height) g v CHANCE (windowOf t₀) c end left leaves₀ t i n leaves
 
 abbrev chance-over-μ-loop : chance-over-lts.MeasureT-loop
-chance-over-μ-loop kind stop weight height leaves₀ used g c end v total t₀ i₀ n₀ leaves t i n = end - i
+chance-over-μ-loop kind stop weight height leaves₀ left g c end v total t₀ i₀ n₀ leaves t i n = end - i
+
+chance-over-unmet-requires : (t : ℕ) → chance-over-lts.Need-unmet-requires (chance-over-claims t) (chance-over-at t) chance-over.Post chance-over-Inv-loop chance-over-μ-loop
+chance-over-unmet-requires t c κs = search needs
+
+chance-over-returns : (t : ℕ) → chance-over-lts.Need-returns (chance-over-claims t) (chance-over-at t) chance-over.Post chance-over-Inv-loop chance-over-μ-loop
+chance-over-returns t c = let a = c .before .before .before .before .before .before .before .args in
+    told-unmet (slices (a .kind .now) (a .stop .now) (a .weight .now) (a .height .now)) (a .g) CHANCE (a .w) (a .c) (a .end) (c .before .if1 .taken) (c .unmet .ensures)
 
 chance-over-sum-weights-requires : (t : ℕ) → chance-over-lts.Need-sum-weights-requires (chance-over-claims t) (chance-over-at t) chance-over.Post chance-over-Inv-loop chance-over-μ-loop
 chance-over-sum-weights-requires t c κs =
-    let p = c .before .before .before .before .before in
+    let p = c .before .before .before .before .before .before in
     let R = p .pre .1 in
     (R .holds .kinds, R .holds .stops, R .holds .weights, R .holds .few, record { heights = p .args .height .now; forest = R .nodes; spans = R .spans })
 
 chance-over-loop-holds : (t : ℕ) → chance-over-lts.Need-loop-holds (chance-over-claims t) (chance-over-at t) chance-over.Post chance-over-Inv-loop chance-over-μ-loop
-chance-over-loop-holds t c = let p = c .before .before .before .before .before .before in going-start CHANCE (p .args .w) (p .pre .1)
+chance-over-loop-holds t c = let p = c .before .before .before .before .before .before .before in going-start CHANCE (p .args .w) (p .pre .1) (c .before .if1 .left)
 
 chance-over-node-at-requires : (t : ℕ) → chance-over-lts.Need-node-at-requires (chance-over-claims t) (chance-over-at t) chance-over.Post chance-over-Inv-loop chance-over-μ-loop
 chance-over-node-at-requires t c κs = let I = c .loop .inv in omega (arith, I .some, I .holds .stops)
@@ -127,7 +137,7 @@ chance-over-wide8-requires t c κs = search needs
 
 -- at the place where the child's weight was read: it is the one in the slice, and the total is the sum of all
 chance-over-weight : (t : ℕ) (c : chance-over-lts.After-wide8 (chance-over-claims t) (chance-over-at t) chance-over.Post chance-over-Inv-loop chance-over-μ-loop)
-    → c .wide8 .result ≡ getD (c .before .before .before .before .before .before .before .before .before .before .before .args .weight .now) (c .before .before .before .before .loop .i) 0
+    → c .wide8 .result ≡ getD (c .before .before .before .before .before .before .before .before .before .before .before .before .args .weight .now) (c .before .before .before .before .loop .i) 0
 chance-over-weight t c = c .wide8 .ensures ∙ c .before .at82 .ensures
 
 chance-over-total : (t : ℕ) (c : chance-over-lts.After-wide8 (chance-over-claims t) (chance-over-at t) chance-over.Post chance-over-Inv-loop chance-over-μ-loop)
@@ -144,7 +154,7 @@ chance-over-sizes t c =
 
 -- for a leaf the window does not matter
 chance-over-near : (t : ℕ) (c : chance-over-lts.After-wide8 (chance-over-claims t) (chance-over-at t) chance-over.Post chance-over-Inv-loop chance-over-μ-loop)
-    → let a = c .before .before .before .before .before .before .before .before .before .before .before .args in
+    → let a = c .before .before .before .before .before .before .before .before .before .before .before .before .args in
     let l = c .before .before .before .before .loop in
     Child (slices (a .kind .now) (a .stop .now) (a .weight .now) (a .height .now)) (a .g) (a .v) (a .c) (a .end) (l .i) (c .before .before .before .node-at .result) (l .n) (length (l .leaves)) (record { alpha = 0; beta = 0 })
 chance-over-near t c =
@@ -152,7 +162,7 @@ chance-over-near t c =
     child-of (c .before .before .before .before .loop .inv) (x .result) (record { alpha = 0; beta = 0 }) (x .ensures) (omega arith) (omega arith)
 
 chance-over-leaf-at-requires : (t : ℕ) → chance-over-lts.Need-leaf-at-requires (chance-over-claims t) (chance-over-at t) chance-over.Post chance-over-Inv-loop chance-over-μ-loop
-chance-over-leaf-at-requires t c κs = child-leaf (chance-over-near t (c .before .before)) _ (c .before .before .before .before .at8 .ensures) (c .before .if1 .taken)
+chance-over-leaf-at-requires t c κs = child-leaf (chance-over-near t (c .before .before)) _ (c .before .before .before .before .at8 .ensures) (c .before .if2 .taken)
 
 chance-over-chance-window-requires : (t : ℕ) → chance-over-lts.Need-chance-window-requires (chance-over-claims t) (chance-over-at t) chance-over.Post chance-over-Inv-loop chance-over-μ-loop
 chance-over-chance-window-requires t c κs =
@@ -164,12 +174,12 @@ chance-over-chance-window-requires t c κs =
 -- at the place where the child's window was made
 chance-over-child : (t : ℕ) (c : chance-over-lts.After-chance-window (chance-over-claims t) (chance-over-at t) chance-over.Post chance-over-Inv-loop chance-over-μ-loop)
     → let W = c .before .before in
-    let a = W .before .before .before .before .before .before .before .before .before .before .before .args in
+    let a = W .before .before .before .before .before .before .before .before .before .before .before .before .args in
     let l = W .before .before .before .before .loop in
     Child (slices (a .kind .now) (a .stop .now) (a .weight .now) (a .height .now)) (a .g) (a .v) (a .c) (a .end) (l .i) (W .before .before .before .node-at .result) (l .n) (length (l .leaves)) (c .chance-window .result)
 chance-over-child t c =
     let W = c .before .before in
-    let a = W .before .before .before .before .before .before .before .before .before .before .before .args in
+    let a = W .before .before .before .before .before .before .before .before .before .before .before .before .args in
     let l = W .before .before .before .before .loop in
     let x = W .before .before .before .node-at in
     let y = c .chance-window in
@@ -184,7 +194,7 @@ chance-over-max-over-requires : (t : ℕ) → chance-over-lts.Need-max-over-requ
 chance-over-max-over-requires t c κs =
     let C = c .before .before in
     let W = C .before .before in
-    child-asks (chance-over-child t C) t (W .before .before .before .before .before .before .before .before .before .before .before .pre .0) MAX (sym (W .before .before .at8 .ensures) ∙ c .before .if2 .taken)
+    child-asks (chance-over-child t C) t (W .before .before .before .before .before .before .before .before .before .before .before .before .pre .0) MAX (sym (W .before .before .at8 .ensures) ∙ c .before .if3 .taken)
 
 chance-over-add-min-over : (t : ℕ) → chance-over-lts.Need-add-min-over (chance-over-claims t) (chance-over-at t) chance-over.Post chance-over-Inv-loop chance-over-μ-loop
 chance-over-add-min-over t c = omega (arith, chance-over-child t (c .before .before .before) .small)
@@ -193,7 +203,7 @@ chance-over-min-over-requires : (t : ℕ) → chance-over-lts.Need-min-over-requ
 chance-over-min-over-requires t c κs =
     let C = c .before .before .before in
     let W = C .before .before in
-    child-asks (chance-over-child t C) t (W .before .before .before .before .before .before .before .before .before .before .before .pre .0) MIN (sym (W .before .before .at8 .ensures) ∙ c .before .if3 .taken)
+    child-asks (chance-over-child t C) t (W .before .before .before .before .before .before .before .before .before .before .before .before .pre .0) MIN (sym (W .before .before .at8 .ensures) ∙ c .before .if4 .taken)
 
 chance-over-add-chance-over : (t : ℕ) → chance-over-lts.Need-add-chance-over (chance-over-claims t) (chance-over-at t) chance-over.Post chance-over-Inv-loop chance-over-μ-loop
 chance-over-add-chance-over t c = omega (arith, chance-over-child t (c .before .before .before) .small)
@@ -203,11 +213,11 @@ chance-over-chance-over-requires t c κs =
     let C = c .before .before .before in
     let W = C .before .before in
     let D = chance-over-child t C in
-    child-asks D t (W .before .before .before .before .before .before .before .before .before .before .before .pre .0) CHANCE
-    (child-three D _ (W .before .before .at8 .ensures) (C .before .if1 .left) (c .before .before .if2 .left) (c .before .if3 .left))
+    child-asks D t (W .before .before .before .before .before .before .before .before .before .before .before .before .pre .0) CHANCE
+    (child-three D _ (W .before .before .at8 .ensures) (C .before .if2 .left) (c .before .before .if3 .left) (c .before .if4 .left))
 
 -- at the place where the four ways meet: what the search of the child told
-chance-over-joined : (t : ℕ) (c : chance-over-lts.Joined1 (chance-over-claims t) (chance-over-at t) chance-over.Post chance-over-Inv-loop chance-over-μ-loop) → ChildTold (c .before .before .before .before .before .loop .inv) (c .if1 .r) (c .if1 .leaves)
+chance-over-joined : (t : ℕ) (c : chance-over-lts.Joined2 (chance-over-claims t) (chance-over-at t) chance-over.Post chance-over-Inv-loop chance-over-μ-loop) → ChildTold (c .before .before .before .before .before .loop .inv) (c .if2 .r) (c .if2 .leaves)
 chance-over-joined t c =
     let W = c .before in
     let I = W .before .before .before .before .loop .inv in
@@ -223,7 +233,7 @@ chance-over-joined t c =
     (λ w. told-same (w .9) (w .8) (chance-told I p q (w .1 .ensures) (told-inner MIN (sym (k .ensures) ∙ w .3 .taken) (x .ensures) (w .5 .ensures))))
     (λ w. told-same (w .9) (w .8) (chance-told I p q (w .1 .ensures)
     (told-inner CHANCE (child-three (chance-over-near t W) _ (k .ensures) (w .0 .left) (w .2 .left) (w .3 .left)) (x .ensures) (w .5 .ensures))))))
-    (c .if1 .came)
+    (c .if2 .came)
 
 chance-over-chance-after-requires : (t : ℕ) → chance-over-lts.Need-chance-after-requires (chance-over-claims t) (chance-over-at t) chance-over.Post chance-over-Inv-loop chance-over-μ-loop
 chance-over-chance-after-requires t c κs =
@@ -236,27 +246,27 @@ chance-over-chance-after-requires t c κs =
 -- after the child: one turn of the loop
 chance-over-turn : (t : ℕ) (c : chance-over-lts.After-chance-after (chance-over-claims t) (chance-over-at t) chance-over.Post chance-over-Inv-loop chance-over-μ-loop)
     → let W = c .before .before in
-    let a = W .before .before .before .before .before .before .before .before .before .before .before .args in
-    Turn (slices (a .kind .now) (a .stop .now) (a .weight .now) (a .height .now)) (a .g) (a .v) CHANCE (a .w) (a .c) (a .end) (a .used) (a .leaves .now)
-    (W .before .before .before .before .loop .i) (W .before .before .before .node-at .result) (c .before .if1 .r) (c .chance-after .result) (c .before .if1 .leaves)
+    let a = W .before .before .before .before .before .before .before .before .before .before .before .before .args in
+    Turn (slices (a .kind .now) (a .stop .now) (a .weight .now) (a .height .now)) (a .g) (a .v) CHANCE (a .w) (a .c) (a .end) (a .left) (a .leaves .now)
+    (W .before .before .before .before .loop .i) (W .before .before .before .node-at .result) (c .before .if2 .r) (c .chance-after .result) (c .before .if2 .leaves)
 chance-over-turn t c =
     let W = c .before .before in
     let l = W .before .before .before .before .loop in
     record {
       s = l .t;
-      used = l .n;
+      left = l .n;
       came = l .leaves;
       going = l .inv;
       stop = W .before .before .before .node-at .ensures;
       told = chance-over-joined t (c .before);
-      state = chance-state (l .inv) (c .before .if1 .r) (chance-over-total t W) (chance-over-weight t W) (c .chance-after .ensures);
+      state = chance-state (l .inv) (c .before .if2 .r) (chance-over-total t W) (chance-over-weight t W) (c .chance-after .ensures);
     }
 
 chance-over-same-length : (t : ℕ) → chance-over-lts.Need-same-length (chance-over-claims t) (chance-over-at t) chance-over.Post chance-over-Inv-loop chance-over-μ-loop
 chance-over-same-length t c = turn-same (chance-over-turn t (c .before))
 
-chance-over-returns : (t : ℕ) → chance-over-lts.Need-returns (chance-over-claims t) (chance-over-at t) chance-over.Post chance-over-Inv-loop chance-over-μ-loop
-chance-over-returns t c = turn-last (chance-over-turn t (c .before)) (c .if4 .taken)
+chance-over-returns-2 : (t : ℕ) → chance-over-lts.Need-returns-2 (chance-over-claims t) (chance-over-at t) chance-over.Post chance-over-Inv-loop chance-over-μ-loop
+chance-over-returns-2 t c = turn-last (chance-over-turn t (c .before)) (c .if5 .taken)
 
 chance-over-stopped-requires : (t : ℕ) → chance-over-lts.Need-stopped-requires (chance-over-claims t) (chance-over-at t) chance-over.Post chance-over-Inv-loop chance-over-μ-loop
 chance-over-stopped-requires t c κs = turn-margin (chance-over-turn t (c .before))
@@ -264,21 +274,23 @@ chance-over-stopped-requires t c κs = turn-margin (chance-over-turn t (c .befor
 chance-over-same-length-2 : (t : ℕ) → chance-over-lts.Need-same-length-2 (chance-over-claims t) (chance-over-at t) chance-over.Post chance-over-Inv-loop chance-over-μ-loop
 chance-over-same-length-2 t c = turn-same (chance-over-turn t (c .before .before .before))
 
-chance-over-returns-2 : (t : ℕ) → chance-over-lts.Need-returns-2 (chance-over-claims t) (chance-over-at t) chance-over.Post chance-over-Inv-loop chance-over-μ-loop
+chance-over-returns-3 : (t : ℕ) → chance-over-lts.Need-returns-3 (chance-over-claims t) (chance-over-at t) chance-over.Post chance-over-Inv-loop chance-over-μ-loop
 unfolding runLow runHigh
-chance-over-returns-2 t c = turn-cut (chance-over-turn t (c .before .before .before)) (c .before .before .if4 .left) (c .before .stopped .ensures) (c .if5 .taken)
+chance-over-returns-3 t c = turn-cut (chance-over-turn t (c .before .before .before)) (c .before .before .if5 .left) (c .before .stopped .ensures) (c .if6 .taken)
 
 chance-over-loop-less : (t : ℕ) → chance-over-lts.Need-loop-less (chance-over-claims t) (chance-over-at t) chance-over.Post chance-over-Inv-loop chance-over-μ-loop
 chance-over-loop-less t c = turn-less (chance-over-turn t (c .before .before .before))
 
 chance-over-loop-again : (t : ℕ) → chance-over-lts.Need-loop-again (chance-over-claims t) (chance-over-at t) chance-over.Post chance-over-Inv-loop chance-over-μ-loop
-chance-over-loop-again t c = turn-on (chance-over-turn t (c .before .before .before)) (c .before .before .if4 .left) (c .before .stopped .ensures) (c .if5 .left)
+chance-over-loop-again t c = turn-on (chance-over-turn t (c .before .before .before)) (c .before .before .if5 .left) (c .before .stopped .ensures) (c .if6 .left)
 
 -- ---- max_over
 
 -- what its callees ask and tell
 abbrev max-over-claims : ℕ → max-over-lts.Claims
 max-over-claims t = (
+  unmet-reads.Asked,
+  unmet-reads.Learnt,
   node-at-reads.Asked,
   node-at-reads.Learnt,
   at8-reads.Asked,
@@ -298,14 +310,21 @@ max-over-claims t = (
 )
 
 abbrev max-over-Inv-loop : max-over-lts.InvT-loop
-max-over-Inv-loop kind stop weight height leaves₀ used g c end v t₀ i₀ n₀ leaves t i n =
-    Going (slices kind stop weight height) g v MAX (windowOf t₀) c end used leaves₀ t i n leaves
+max-over-Inv-loop kind stop weight height leaves₀ left g c end v t₀ i₀ n₀ leaves t i n =
+    Going (slices kind stop weight height) g v MAX (windowOf t₀) c end left leaves₀ t i n leaves
 
 abbrev max-over-μ-loop : max-over-lts.MeasureT-loop
-max-over-μ-loop kind stop weight height leaves₀ used g c end v t₀ i₀ n₀ leaves t i n = end - i
+max-over-μ-loop kind stop weight height leaves₀ left g c end v t₀ i₀ n₀ leaves t i n = end - i
+
+max-over-unmet-requires : (t : ℕ) → max-over-lts.Need-unmet-requires (max-over-claims t) (max-over-at t) max-over.Post max-over-Inv-loop max-over-μ-loop
+max-over-unmet-requires t c κs = search needs
+
+max-over-returns : (t : ℕ) → max-over-lts.Need-returns (max-over-claims t) (max-over-at t) max-over.Post max-over-Inv-loop max-over-μ-loop
+max-over-returns t c = let a = c .before .before .before .before .before .before .before .args in
+    told-unmet (slices (a .kind .now) (a .stop .now) (a .weight .now) (a .height .now)) (a .g) MAX (a .w) (a .c) (a .end) (c .before .if1 .taken) (c .unmet .ensures)
 
 max-over-loop-holds : (t : ℕ) → max-over-lts.Need-loop-holds (max-over-claims t) (max-over-at t) max-over.Post max-over-Inv-loop max-over-μ-loop
-max-over-loop-holds t c = let p = c .before .before .before .before .before in going-start MAX (p .args .w) (p .pre .1)
+max-over-loop-holds t c = let p = c .before .before .before .before .before .before in going-start MAX (p .args .w) (p .pre .1) (c .if1 .left)
 
 max-over-node-at-requires : (t : ℕ) → max-over-lts.Need-node-at-requires (max-over-claims t) (max-over-at t) max-over.Post max-over-Inv-loop max-over-μ-loop
 max-over-node-at-requires t c κs = let I = c .loop .inv in omega (arith, I .some, I .holds .stops)
@@ -315,7 +334,7 @@ max-over-at8-requires t c κs = let I = c .before .loop .inv in omega (arith, I 
 
 -- at the place where the child's kind was read
 max-over-child : (t : ℕ) (c : max-over-lts.After-at8 (max-over-claims t) (max-over-at t) max-over.Post max-over-Inv-loop max-over-μ-loop)
-    → let a = c .before .before .before .before .before .before .before .before .args in
+    → let a = c .before .before .before .before .before .before .before .before .before .args in
     let l = c .before .before .loop in
     Child (slices (a .kind .now) (a .stop .now) (a .weight .now) (a .height .now)) (a .g) (a .v) (a .c) (a .end) (l .i) (c .before .node-at .result) (l .n) (length (l .leaves)) (windowOf (l .t))
 max-over-child t c =
@@ -325,7 +344,7 @@ max-over-child t c =
     child-of (l .inv) (x .result) (windowOf (l .t)) (x .ensures) (s .alpha) (s .beta)
 
 max-over-leaf-at-requires : (t : ℕ) → max-over-lts.Need-leaf-at-requires (max-over-claims t) (max-over-at t) max-over.Post max-over-Inv-loop max-over-μ-loop
-max-over-leaf-at-requires t c κs = child-leaf (max-over-child t (c .before .before)) _ (c .before .before .at8 .ensures) (c .before .if1 .taken)
+max-over-leaf-at-requires t c κs = child-leaf (max-over-child t (c .before .before)) _ (c .before .before .at8 .ensures) (c .before .if2 .taken)
 
 max-over-add-max-over : (t : ℕ) → max-over-lts.Need-add-max-over (max-over-claims t) (max-over-at t) max-over.Post max-over-Inv-loop max-over-μ-loop
 max-over-add-max-over t c = omega (arith, max-over-child t (c .before .before .before) .small)
@@ -333,7 +352,7 @@ max-over-add-max-over t c = omega (arith, max-over-child t (c .before .before .b
 max-over-max-over-requires : (t : ℕ) → max-over-lts.Need-max-over-requires (max-over-claims t) (max-over-at t) max-over.Post max-over-Inv-loop max-over-μ-loop
 max-over-max-over-requires t c κs =
     let p = c .before .before .before in
-    child-asks (max-over-child t p) t (p .before .before .before .before .before .before .before .before .pre .0) MAX (sym (p .at8 .ensures) ∙ c .before .if2 .taken)
+    child-asks (max-over-child t p) t (p .before .before .before .before .before .before .before .before .before .pre .0) MAX (sym (p .at8 .ensures) ∙ c .before .if3 .taken)
 
 max-over-add-min-over : (t : ℕ) → max-over-lts.Need-add-min-over (max-over-claims t) (max-over-at t) max-over.Post max-over-Inv-loop max-over-μ-loop
 max-over-add-min-over t c = omega (arith, max-over-child t (c .before .before .before .before) .small)
@@ -341,7 +360,7 @@ max-over-add-min-over t c = omega (arith, max-over-child t (c .before .before .b
 max-over-min-over-requires : (t : ℕ) → max-over-lts.Need-min-over-requires (max-over-claims t) (max-over-at t) max-over.Post max-over-Inv-loop max-over-μ-loop
 max-over-min-over-requires t c κs =
     let p = c .before .before .before .before in
-    child-asks (max-over-child t p) t (p .before .before .before .before .before .before .before .before .pre .0) MIN (sym (p .at8 .ensures) ∙ c .before .if3 .taken)
+    child-asks (max-over-child t p) t (p .before .before .before .before .before .before .before .before .before .pre .0) MIN (sym (p .at8 .ensures) ∙ c .before .if4 .taken)
 
 max-over-add-chance-over : (t : ℕ) → max-over-lts.Need-add-chance-over (max-over-claims t) (max-over-at t) max-over.Post max-over-Inv-loop max-over-μ-loop
 max-over-add-chance-over t c = omega (arith, max-over-child t (c .before .before .before .before) .small)
@@ -350,14 +369,14 @@ max-over-chance-over-requires : (t : ℕ) → max-over-lts.Need-chance-over-requ
 max-over-chance-over-requires t c κs =
     let p = c .before .before .before .before in
     let C = max-over-child t p in
-    child-asks C t (p .before .before .before .before .before .before .before .before .pre .0) CHANCE
-    (child-three C _ (p .at8 .ensures) (c .before .before .before .if1 .left) (c .before .before .if2 .left) (c .before .if3 .left))
+    child-asks C t (p .before .before .before .before .before .before .before .before .before .pre .0) CHANCE
+    (child-three C _ (p .at8 .ensures) (c .before .before .before .if2 .left) (c .before .before .if3 .left) (c .before .if4 .left))
 
 -- at the place where the four ways meet: what the search of the child told
-max-over-joined : (t : ℕ) (c : max-over-lts.Joined1 (max-over-claims t) (max-over-at t) max-over.Post max-over-Inv-loop max-over-μ-loop)
-    → let a = c .before .before .before .before .before .before .before .before .before .args in
+max-over-joined : (t : ℕ) (c : max-over-lts.Joined2 (max-over-claims t) (max-over-at t) max-over.Post max-over-Inv-loop max-over-μ-loop)
+    → let a = c .before .before .before .before .before .before .before .before .before .before .args in
     let l = c .before .before .before .loop in
-    NodeTold (slices (a .kind .now) (a .stop .now) (a .weight .now) (a .height .now)) (a .g) (a .v) (windowOf (l .t)) (l .i) (l .n) (c .if1 .r) (l .leaves) (c .if1 .leaves)
+    NodeTold (slices (a .kind .now) (a .stop .now) (a .weight .now) (a .height .now)) (a .g) (a .v) (windowOf (l .t)) (l .i) (l .n) (c .if2 .r) (l .leaves) (c .if2 .leaves)
 max-over-joined t c =
     let k = c .before .at8 in
     let x = c .before .before .node-at in
@@ -369,22 +388,22 @@ max-over-joined t c =
     (λ w. told-same (w .8) (w .7) (told-inner MIN (sym (k .ensures) ∙ w .2 .taken) (x .ensures) (w .4 .ensures)))
     (λ w. told-same (w .8) (w .7) (told-inner CHANCE (child-three (max-over-child t (c .before)) _ (k .ensures) (w .0 .left) (w .1 .left) (w .2 .left))
     (x .ensures) (w .4 .ensures)))))
-    (c .if1 .came)
+    (c .if2 .came)
 
 max-over-max-after-requires : (t : ℕ) → max-over-lts.Need-max-after-requires (max-over-claims t) (max-over-at t) max-over.Post max-over-Inv-loop max-over-μ-loop
 max-over-max-after-requires t c κs = search needs
 
 -- after the child: one turn of the loop
 max-over-turn : (t : ℕ) (c : max-over-lts.After-max-after (max-over-claims t) (max-over-at t) max-over.Post max-over-Inv-loop max-over-μ-loop)
-    → let a = c .before .before .before .before .before .before .before .before .before .before .args in
-    Turn (slices (a .kind .now) (a .stop .now) (a .weight .now) (a .height .now)) (a .g) (a .v) MAX (a .w) (a .c) (a .end) (a .used) (a .leaves .now)
-    (c .before .before .before .before .loop .i) (c .before .before .before .node-at .result) (c .before .if1 .r) (c .max-after .result) (c .before .if1 .leaves)
+    → let a = c .before .before .before .before .before .before .before .before .before .before .before .args in
+    Turn (slices (a .kind .now) (a .stop .now) (a .weight .now) (a .height .now)) (a .g) (a .v) MAX (a .w) (a .c) (a .end) (a .left) (a .leaves .now)
+    (c .before .before .before .before .loop .i) (c .before .before .before .node-at .result) (c .before .if2 .r) (c .max-after .result) (c .before .if2 .leaves)
 max-over-turn t c =
     let l = c .before .before .before .before .loop in
-    let r = c .before .if1 .r in
+    let r = c .before .if2 .r in
     record {
       s = l .t;
-      used = l .n;
+      left = l .n;
       came = l .leaves;
       going = l .inv;
       stop = c .before .before .before .node-at .ensures;
@@ -395,8 +414,8 @@ max-over-turn t c =
 max-over-same-length : (t : ℕ) → max-over-lts.Need-same-length (max-over-claims t) (max-over-at t) max-over.Post max-over-Inv-loop max-over-μ-loop
 max-over-same-length t c = turn-same (max-over-turn t (c .before))
 
-max-over-returns : (t : ℕ) → max-over-lts.Need-returns (max-over-claims t) (max-over-at t) max-over.Post max-over-Inv-loop max-over-μ-loop
-max-over-returns t c = turn-last (max-over-turn t (c .before)) (c .if4 .taken)
+max-over-returns-2 : (t : ℕ) → max-over-lts.Need-returns-2 (max-over-claims t) (max-over-at t) max-over.Post max-over-Inv-loop max-over-μ-loop
+max-over-returns-2 t c = turn-last (max-over-turn t (c .before)) (c .if5 .taken)
 
 max-over-stopped-requires : (t : ℕ) → max-over-lts.Need-stopped-requires (max-over-claims t) (max-over-at t) max-over.Post max-over-Inv-loop max-over-μ-loop
 max-over-stopped-requires t c κs = turn-margin (max-over-turn t (c .before))
@@ -404,21 +423,23 @@ max-over-stopped-requires t c κs = turn-margin (max-over-turn t (c .before))
 max-over-same-length-2 : (t : ℕ) → max-over-lts.Need-same-length-2 (max-over-claims t) (max-over-at t) max-over.Post max-over-Inv-loop max-over-μ-loop
 max-over-same-length-2 t c = turn-same (max-over-turn t (c .before .before .before))
 
-max-over-returns-2 : (t : ℕ) → max-over-lts.Need-returns-2 (max-over-claims t) (max-over-at t) max-over.Post max-over-Inv-loop max-over-μ-loop
+max-over-returns-3 : (t : ℕ) → max-over-lts.Need-returns-3 (max-over-claims t) (max-over-at t) max-over.Post max-over-Inv-loop max-over-μ-loop
 unfolding runLow runHigh
-max-over-returns-2 t c = turn-cut (max-over-turn t (c .before .before .before)) (c .before .before .if4 .left) (c .before .stopped .ensures) (c .if5 .taken)
+max-over-returns-3 t c = turn-cut (max-over-turn t (c .before .before .before)) (c .before .before .if5 .left) (c .before .stopped .ensures) (c .if6 .taken)
 
 max-over-loop-less : (t : ℕ) → max-over-lts.Need-loop-less (max-over-claims t) (max-over-at t) max-over.Post max-over-Inv-loop max-over-μ-loop
 max-over-loop-less t c = turn-less (max-over-turn t (c .before .before .before))
 
 max-over-loop-again : (t : ℕ) → max-over-lts.Need-loop-again (max-over-claims t) (max-over-at t) max-over.Post max-over-Inv-loop max-over-μ-loop
-max-over-loop-again t c = turn-on (max-over-turn t (c .before .before .before)) (c .before .before .if4 .left) (c .before .stopped .ensures) (c .if5 .left)
+max-over-loop-again t c = turn-on (max-over-turn t (c .before .before .before)) (c .before .before .if5 .left) (c .before .stopped .ensures) (c .if6 .left)
 
 -- ---- min_over
 
 -- what its callees ask and tell
 abbrev min-over-claims : ℕ → min-over-lts.Claims
 min-over-claims t = (
+  unmet-reads.Asked,
+  unmet-reads.Learnt,
   node-at-reads.Asked,
   node-at-reads.Learnt,
   at8-reads.Asked,
@@ -438,14 +459,21 @@ min-over-claims t = (
 )
 
 abbrev min-over-Inv-loop : min-over-lts.InvT-loop
-min-over-Inv-loop kind stop weight height leaves₀ used g c end v t₀ i₀ n₀ leaves t i n =
-    Going (slices kind stop weight height) g v MIN (windowOf t₀) c end used leaves₀ t i n leaves
+min-over-Inv-loop kind stop weight height leaves₀ left g c end v t₀ i₀ n₀ leaves t i n =
+    Going (slices kind stop weight height) g v MIN (windowOf t₀) c end left leaves₀ t i n leaves
 
 abbrev min-over-μ-loop : min-over-lts.MeasureT-loop
-min-over-μ-loop kind stop weight height leaves₀ used g c end v t₀ i₀ n₀ leaves t i n = end - i
+min-over-μ-loop kind stop weight height leaves₀ left g c end v t₀ i₀ n₀ leaves t i n = end - i
+
+min-over-unmet-requires : (t : ℕ) → min-over-lts.Need-unmet-requires (min-over-claims t) (min-over-at t) min-over.Post min-over-Inv-loop min-over-μ-loop
+min-over-unmet-requires t c κs = search needs
+
+min-over-returns : (t : ℕ) → min-over-lts.Need-returns (min-over-claims t) (min-over-at t) min-over.Post min-over-Inv-loop min-over-μ-loop
+min-over-returns t c = let a = c .before .before .before .before .before .before .before .args in
+    told-unmet (slices (a .kind .now) (a .stop .now) (a .weight .now) (a .height .now)) (a .g) MIN (a .w) (a .c) (a .end) (c .before .if1 .taken) (c .unmet .ensures)
 
 min-over-loop-holds : (t : ℕ) → min-over-lts.Need-loop-holds (min-over-claims t) (min-over-at t) min-over.Post min-over-Inv-loop min-over-μ-loop
-min-over-loop-holds t c = let p = c .before .before .before .before .before in going-start MIN (p .args .w) (p .pre .1)
+min-over-loop-holds t c = let p = c .before .before .before .before .before .before in going-start MIN (p .args .w) (p .pre .1) (c .if1 .left)
 
 min-over-node-at-requires : (t : ℕ) → min-over-lts.Need-node-at-requires (min-over-claims t) (min-over-at t) min-over.Post min-over-Inv-loop min-over-μ-loop
 min-over-node-at-requires t c κs = let I = c .loop .inv in omega (arith, I .some, I .holds .stops)
@@ -455,7 +483,7 @@ min-over-at8-requires t c κs = let I = c .before .loop .inv in omega (arith, I 
 
 -- at the place where the child's kind was read
 min-over-child : (t : ℕ) (c : min-over-lts.After-at8 (min-over-claims t) (min-over-at t) min-over.Post min-over-Inv-loop min-over-μ-loop)
-    → let a = c .before .before .before .before .before .before .before .before .args in
+    → let a = c .before .before .before .before .before .before .before .before .before .args in
     let l = c .before .before .loop in
     Child (slices (a .kind .now) (a .stop .now) (a .weight .now) (a .height .now)) (a .g) (a .v) (a .c) (a .end) (l .i) (c .before .node-at .result) (l .n) (length (l .leaves)) (windowOf (l .t))
 min-over-child t c =
@@ -465,7 +493,7 @@ min-over-child t c =
     child-of (l .inv) (x .result) (windowOf (l .t)) (x .ensures) (s .alpha) (s .beta)
 
 min-over-leaf-at-requires : (t : ℕ) → min-over-lts.Need-leaf-at-requires (min-over-claims t) (min-over-at t) min-over.Post min-over-Inv-loop min-over-μ-loop
-min-over-leaf-at-requires t c κs = child-leaf (min-over-child t (c .before .before)) _ (c .before .before .at8 .ensures) (c .before .if1 .taken)
+min-over-leaf-at-requires t c κs = child-leaf (min-over-child t (c .before .before)) _ (c .before .before .at8 .ensures) (c .before .if2 .taken)
 
 min-over-add-max-over : (t : ℕ) → min-over-lts.Need-add-max-over (min-over-claims t) (min-over-at t) min-over.Post min-over-Inv-loop min-over-μ-loop
 min-over-add-max-over t c = omega (arith, min-over-child t (c .before .before .before) .small)
@@ -473,7 +501,7 @@ min-over-add-max-over t c = omega (arith, min-over-child t (c .before .before .b
 min-over-max-over-requires : (t : ℕ) → min-over-lts.Need-max-over-requires (min-over-claims t) (min-over-at t) min-over.Post min-over-Inv-loop min-over-μ-loop
 min-over-max-over-requires t c κs =
     let p = c .before .before .before in
-    child-asks (min-over-child t p) t (p .before .before .before .before .before .before .before .before .pre .0) MAX (sym (p .at8 .ensures) ∙ c .before .if2 .taken)
+    child-asks (min-over-child t p) t (p .before .before .before .before .before .before .before .before .before .pre .0) MAX (sym (p .at8 .ensures) ∙ c .before .if3 .taken)
 
 min-over-add-min-over : (t : ℕ) → min-over-lts.Need-add-min-over (min-over-claims t) (min-over-at t) min-over.Post min-over-Inv-loop min-over-μ-loop
 min-over-add-min-over t c = omega (arith, min-over-child t (c .before .before .before .before) .small)
@@ -481,7 +509,7 @@ min-over-add-min-over t c = omega (arith, min-over-child t (c .before .before .b
 min-over-min-over-requires : (t : ℕ) → min-over-lts.Need-min-over-requires (min-over-claims t) (min-over-at t) min-over.Post min-over-Inv-loop min-over-μ-loop
 min-over-min-over-requires t c κs =
     let p = c .before .before .before .before in
-    child-asks (min-over-child t p) t (p .before .before .before .before .before .before .before .before .pre .0) MIN (sym (p .at8 .ensures) ∙ c .before .if3 .taken)
+    child-asks (min-over-child t p) t (p .before .before .before .before .before .before .before .before .before .pre .0) MIN (sym (p .at8 .ensures) ∙ c .before .if4 .taken)
 
 min-over-add-chance-over : (t : ℕ) → min-over-lts.Need-add-chance-over (min-over-claims t) (min-over-at t) min-over.Post min-over-Inv-loop min-over-μ-loop
 min-over-add-chance-over t c = omega (arith, min-over-child t (c .before .before .before .before) .small)
@@ -490,14 +518,14 @@ min-over-chance-over-requires : (t : ℕ) → min-over-lts.Need-chance-over-requ
 min-over-chance-over-requires t c κs =
     let p = c .before .before .before .before in
     let C = min-over-child t p in
-    child-asks C t (p .before .before .before .before .before .before .before .before .pre .0) CHANCE
-    (child-three C _ (p .at8 .ensures) (c .before .before .before .if1 .left) (c .before .before .if2 .left) (c .before .if3 .left))
+    child-asks C t (p .before .before .before .before .before .before .before .before .before .pre .0) CHANCE
+    (child-three C _ (p .at8 .ensures) (c .before .before .before .if2 .left) (c .before .before .if3 .left) (c .before .if4 .left))
 
 -- at the place where the four ways meet: what the search of the child told
-min-over-joined : (t : ℕ) (c : min-over-lts.Joined1 (min-over-claims t) (min-over-at t) min-over.Post min-over-Inv-loop min-over-μ-loop)
-    → let a = c .before .before .before .before .before .before .before .before .before .args in
+min-over-joined : (t : ℕ) (c : min-over-lts.Joined2 (min-over-claims t) (min-over-at t) min-over.Post min-over-Inv-loop min-over-μ-loop)
+    → let a = c .before .before .before .before .before .before .before .before .before .before .args in
     let l = c .before .before .before .loop in
-    NodeTold (slices (a .kind .now) (a .stop .now) (a .weight .now) (a .height .now)) (a .g) (a .v) (windowOf (l .t)) (l .i) (l .n) (c .if1 .r) (l .leaves) (c .if1 .leaves)
+    NodeTold (slices (a .kind .now) (a .stop .now) (a .weight .now) (a .height .now)) (a .g) (a .v) (windowOf (l .t)) (l .i) (l .n) (c .if2 .r) (l .leaves) (c .if2 .leaves)
 min-over-joined t c =
     let k = c .before .at8 in
     let x = c .before .before .node-at in
@@ -509,22 +537,22 @@ min-over-joined t c =
     (λ w. told-same (w .8) (w .7) (told-inner MIN (sym (k .ensures) ∙ w .2 .taken) (x .ensures) (w .4 .ensures)))
     (λ w. told-same (w .8) (w .7) (told-inner CHANCE (child-three (min-over-child t (c .before)) _ (k .ensures) (w .0 .left) (w .1 .left) (w .2 .left))
     (x .ensures) (w .4 .ensures)))))
-    (c .if1 .came)
+    (c .if2 .came)
 
 min-over-min-after-requires : (t : ℕ) → min-over-lts.Need-min-after-requires (min-over-claims t) (min-over-at t) min-over.Post min-over-Inv-loop min-over-μ-loop
 min-over-min-after-requires t c κs = search needs
 
 -- after the child: one turn of the loop
 min-over-turn : (t : ℕ) (c : min-over-lts.After-min-after (min-over-claims t) (min-over-at t) min-over.Post min-over-Inv-loop min-over-μ-loop)
-    → let a = c .before .before .before .before .before .before .before .before .before .before .args in
-    Turn (slices (a .kind .now) (a .stop .now) (a .weight .now) (a .height .now)) (a .g) (a .v) MIN (a .w) (a .c) (a .end) (a .used) (a .leaves .now)
-    (c .before .before .before .before .loop .i) (c .before .before .before .node-at .result) (c .before .if1 .r) (c .min-after .result) (c .before .if1 .leaves)
+    → let a = c .before .before .before .before .before .before .before .before .before .before .before .args in
+    Turn (slices (a .kind .now) (a .stop .now) (a .weight .now) (a .height .now)) (a .g) (a .v) MIN (a .w) (a .c) (a .end) (a .left) (a .leaves .now)
+    (c .before .before .before .before .loop .i) (c .before .before .before .node-at .result) (c .before .if2 .r) (c .min-after .result) (c .before .if2 .leaves)
 min-over-turn t c =
     let l = c .before .before .before .before .loop in
-    let r = c .before .if1 .r in
+    let r = c .before .if2 .r in
     record {
       s = l .t;
-      used = l .n;
+      left = l .n;
       came = l .leaves;
       going = l .inv;
       stop = c .before .before .before .node-at .ensures;
@@ -535,8 +563,8 @@ min-over-turn t c =
 min-over-same-length : (t : ℕ) → min-over-lts.Need-same-length (min-over-claims t) (min-over-at t) min-over.Post min-over-Inv-loop min-over-μ-loop
 min-over-same-length t c = turn-same (min-over-turn t (c .before))
 
-min-over-returns : (t : ℕ) → min-over-lts.Need-returns (min-over-claims t) (min-over-at t) min-over.Post min-over-Inv-loop min-over-μ-loop
-min-over-returns t c = turn-last (min-over-turn t (c .before)) (c .if4 .taken)
+min-over-returns-2 : (t : ℕ) → min-over-lts.Need-returns-2 (min-over-claims t) (min-over-at t) min-over.Post min-over-Inv-loop min-over-μ-loop
+min-over-returns-2 t c = turn-last (min-over-turn t (c .before)) (c .if5 .taken)
 
 min-over-stopped-requires : (t : ℕ) → min-over-lts.Need-stopped-requires (min-over-claims t) (min-over-at t) min-over.Post min-over-Inv-loop min-over-μ-loop
 min-over-stopped-requires t c κs = turn-margin (min-over-turn t (c .before))
@@ -544,15 +572,15 @@ min-over-stopped-requires t c κs = turn-margin (min-over-turn t (c .before))
 min-over-same-length-2 : (t : ℕ) → min-over-lts.Need-same-length-2 (min-over-claims t) (min-over-at t) min-over.Post min-over-Inv-loop min-over-μ-loop
 min-over-same-length-2 t c = turn-same (min-over-turn t (c .before .before .before))
 
-min-over-returns-2 : (t : ℕ) → min-over-lts.Need-returns-2 (min-over-claims t) (min-over-at t) min-over.Post min-over-Inv-loop min-over-μ-loop
+min-over-returns-3 : (t : ℕ) → min-over-lts.Need-returns-3 (min-over-claims t) (min-over-at t) min-over.Post min-over-Inv-loop min-over-μ-loop
 unfolding runLow runHigh
-min-over-returns-2 t c = turn-cut (min-over-turn t (c .before .before .before)) (c .before .before .if4 .left) (c .before .stopped .ensures) (c .if5 .taken)
+min-over-returns-3 t c = turn-cut (min-over-turn t (c .before .before .before)) (c .before .before .if5 .left) (c .before .stopped .ensures) (c .if6 .taken)
 
 min-over-loop-less : (t : ℕ) → min-over-lts.Need-loop-less (min-over-claims t) (min-over-at t) min-over.Post min-over-Inv-loop min-over-μ-loop
 min-over-loop-less t c = turn-less (min-over-turn t (c .before .before .before))
 
 min-over-loop-again : (t : ℕ) → min-over-lts.Need-loop-again (min-over-claims t) (min-over-at t) min-over.Post min-over-Inv-loop min-over-μ-loop
-min-over-loop-again t c = turn-on (min-over-turn t (c .before .before .before)) (c .before .before .if4 .left) (c .before .stopped .ensures) (c .if5 .left)
+min-over-loop-again t c = turn-on (min-over-turn t (c .before .before .before)) (c .before .before .if5 .left) (c .before .stopped .ensures) (c .if6 .left)
 
 pub +chance-over+max-over+min-over-spec : {M : Type 1} → statement M
 +chance-over+max-over+min-over-spec =
@@ -561,6 +589,8 @@ pub +chance-over+max-over+min-over-spec : {M : Type 1} → statement M
     chance-over.Post
     chance-over-Inv-loop
     chance-over-μ-loop
+    (chance-over-unmet-requires t)
+    (chance-over-returns t)
     (chance-over-sum-weights-requires t)
     (chance-over-loop-holds t)
     (chance-over-node-at-requires t)
@@ -577,16 +607,18 @@ pub +chance-over+max-over+min-over-spec : {M : Type 1} → statement M
     (chance-over-chance-over-requires t)
     (chance-over-chance-after-requires t)
     (chance-over-same-length t)
-    (chance-over-returns t)
+    (chance-over-returns-2 t)
     (chance-over-stopped-requires t)
     (chance-over-same-length-2 t)
-    (chance-over-returns-2 t)
+    (chance-over-returns-3 t)
     (chance-over-loop-less t)
     (chance-over-loop-again t))
     (λ t. max-over-lts.spec (max-over-claims t) (max-over-at t)
     max-over.Post
     max-over-Inv-loop
     max-over-μ-loop
+    (max-over-unmet-requires t)
+    (max-over-returns t)
     (max-over-loop-holds t)
     (max-over-node-at-requires t)
     (max-over-at8-requires t)
@@ -599,16 +631,18 @@ pub +chance-over+max-over+min-over-spec : {M : Type 1} → statement M
     (max-over-chance-over-requires t)
     (max-over-max-after-requires t)
     (max-over-same-length t)
-    (max-over-returns t)
+    (max-over-returns-2 t)
     (max-over-stopped-requires t)
     (max-over-same-length-2 t)
-    (max-over-returns-2 t)
+    (max-over-returns-3 t)
     (max-over-loop-less t)
     (max-over-loop-again t))
     (λ t. min-over-lts.spec (min-over-claims t) (min-over-at t)
     min-over.Post
     min-over-Inv-loop
     min-over-μ-loop
+    (min-over-unmet-requires t)
+    (min-over-returns t)
     (min-over-loop-holds t)
     (min-over-node-at-requires t)
     (min-over-at8-requires t)
@@ -621,9 +655,9 @@ pub +chance-over+max-over+min-over-spec : {M : Type 1} → statement M
     (min-over-chance-over-requires t)
     (min-over-min-after-requires t)
     (min-over-same-length t)
-    (min-over-returns t)
+    (min-over-returns-2 t)
     (min-over-stopped-requires t)
     (min-over-same-length-2 t)
-    (min-over-returns-2 t)
+    (min-over-returns-3 t)
     (min-over-loop-less t)
     (min-over-loop-again t))

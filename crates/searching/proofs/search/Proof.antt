@@ -1,5 +1,6 @@
 -- `searching::search` meets its contract. Assumes nothing.
 use mathlib.Core.Path.{sym, _∙_}
+use native.Mathlib.Nat.{le-refl}
 use native.Mathlib.Omega.{arith}
 use borrow.Author.Needs.{needs}
 use denote.Ref.{now}
@@ -17,13 +18,13 @@ at8-requires c κs = root-long (c .before .before .before .before .before .pre) 
 -- at the place where the root's kind was read
 root : (c : tie.After-at8)
     → let a = c .before .before .before .before .before .before .args in
-    ReadyNode (slices (now (a .kind)) (now (a .stop)) (now (a .weight)) (now (a .height))) (a .g) (a .v) (rootWindow (a .v)) 0 (a .n) 0 (length (now (a .leaves)))
+    ReadyNode (slices (now (a .kind)) (now (a .stop)) (now (a .weight)) (now (a .height))) (a .g) (a .v) (rootWindow (a .v)) 0 (a .n) (a .g .budget) (length (now (a .leaves)))
 root c = root-ready (c .before .before .before .before .before .before .pre)
 
 leaf-at-requires : tie.Need-leaf-at-requires
 leaf-at-requires c κs =
     let L = ready-leaf (root (c .before .before)) (sym (c .before .before .at8 .ensures) ∙ c .before .if1 .taken) in
-    (root-long (c .before .before .before .before .before .before .before .before .pre) .1, L .0, omega arith, L .1)
+    (root-long (c .before .before .before .before .before .before .before .before .pre) .1, L .0, le-refl _, omega arith, L .1)
 
 same-length : tie.Need-same-length
 same-length c = search needs

@@ -5,8 +5,18 @@ use native.Mathlib.Omega.{arith}
 use borrow.Author.Needs.{needs}
 use denote.Ref.{now}
 use lib.ListN.{getD}
+use Rattle.steps.proofs.Leaf.{gives-unmet, gives-read}
 use Rattle.steps.proofs.leaf_at.Statement.{statement}
 use Rattle.steps.proofs.leaf_at.Tie as tie
+
+unmet-requires : tie.Need-unmet-requires
+unmet-requires c κs = search needs
+
+returns : tie.Need-returns
+returns c = gives-unmet _ _ _ _ _ _ _ (c .before .if1 .taken) (c .unmet .ensures)
+
+sub-used : tie.Need-sub-used
+sub-used c = search needs
 
 cast-leaves : tie.Need-cast-leaves
 cast-leaves c = search needs
@@ -27,25 +37,31 @@ wide32-requires : tie.Need-wide32-requires
 wide32-requires c κs = search needs
 
 -- the grains that are computed are those that are meant
-grains : (c : tie.After-wide32) → let a = c .before .before .before .before .args in c .wide32 .result * a .grain ≡ getD (now (a .height)) (a .c) 0 * a .grain
-grains c = ap (λ (h : ℕ). h * c .before .before .before .before .args .grain) (c .wide32 .ensures)
+grains : (c : tie.After-wide32)
+    → let a = c .before .before .before .before .before .before .args in
+    c .wide32 .result * a .g .grain ≡ getD (now (a .height)) (a .c) 0 * a .g .grain
+grains c = ap (λ (h : ℕ). h * c .before .before .before .before .before .before .args .g .grain) (c .wide32 .ensures)
 
 mul-h : tie.Need-mul-h
-mul-h c = record { fits = omega (arith, grains c, c .before .before .before .before .pre .3) }
+mul-h c = record { fits = omega (arith, grains (c .before), c .before .before .before .before .before .before .before .pre .4) }
 
-add-n : tie.Need-add-n
-add-n c = search needs
+sub-n : tie.Need-sub-n
+sub-n c = search needs
 
 same-length : tie.Need-same-length
 same-length c = search needs
 
-returns : tie.Need-returns
-returns c = record { low = grains c; high = grains c; play = refl; used = refl; leaves = refl }
+returns-2 : tie.Need-returns-2
+returns-2 c =
+    gives-read _ _ _ _ _ _ _ _ (omega (arith, c .before .before .before .before .if1 .left)) (grains (c .before)) (grains (c .before)) refl refl refl refl
 
 pub leaf-at-spec : {M : Type 1} → statement M
 leaf-at-spec =
     tie.close
     (tie.spec
+    unmet-requires
+    returns
+    sub-used
     cast-leaves
     mul-leaves
     slice-write-leaves
@@ -53,6 +69,6 @@ leaf-at-spec =
     shared-slice-read-wide32
     wide32-requires
     mul-h
-    add-n
+    sub-n
     same-length
-    returns)
+    returns-2)
