@@ -1,9 +1,9 @@
 -- What a call answers of any text is small enough for its code and numbers. Assumes nothing.
 use Prim.Native.Nat.{ℕ, _<_}
-use mathlib.Core.Path.{_≡_, refl, ap}
+use mathlib.Core.Path.{_≡_, refl, ap, subst}
 use mathlib.Core.List.{List}
 use native.Mathlib.Omega.{arith}
-use lib.IntN.{ℤ}
+use lib.IntN.{ℤ, pos}
 use Rattle.line.specs.Refusal.{Verdict, refused, fine, lineOf}
 use Rattle.table.specs.Table.{Table, readText, answer}
 use Rattle.table.specs.declared.Play.{Play}
@@ -20,8 +20,8 @@ use Rattle.turn_call.specs.Call.{turnCall}
 use Rattle.turn_call.proofs.Call.{turn-line}
 use Rattle.search_call.specs.declared.Bounded
 use Rattle.search_call.specs.declared.Bounded.{Bounded}
-use Rattle.search_call.specs.Call.{searchCall}
-use Rattle.search_call.proofs.Answered.{PlayBelow, search-line, search-sizes}
+use Rattle.search_call.specs.Call.{searchCall, withinCall}
+use Rattle.search_call.proofs.Answered.{PlayBelow, within-line, within-sizes, default-call}
 use Rattle.rolled.specs.declared.Rolled
 use Rattle.rolled.specs.declared.Rolled.{Rolled}
 use Rattle.rolled.specs.Call.{rollCall}
@@ -74,14 +74,17 @@ module _ (s : List ℕ) where
       go (refused r) p = refused-line s r p
       go (fine t) p = of t (judge t i) refl
 
-  pub bounded-small : (m : ℤ) (room : ℕ) → SmallBounded (searchCall (readText s) m room)
-  bounded-small m room = go (searchCall (readText s) m room) refl
+  pub within-small : (m b : ℤ) (room : ℕ) → SmallBounded (withinCall (readText s) m b room)
+  within-small m n room = go (withinCall (readText s) m n room) refl
     where
-      go : (b : Bounded) → searchCall (readText s) m room ≡ b → SmallBounded b
-      go (Bounded.the-variants.Refused r) e = search-line s m room r e
+      go : (b : Bounded) → withinCall (readText s) m n room ≡ b → SmallBounded b
+      go (Bounded.the-variants.Refused r) e = within-line s m n room r e
       go (Bounded.the-variants.Found b) e =
-          let z = search-sizes s m room b e in
+          let z = within-sizes s m n room b e in
           record { play = omega (arith, node-small (b .play) (z .play)); leaves = omega (arith, z .leaves); grain = omega (arith, z .grain) }
+
+  pub bounded-small : (m : ℤ) (room : ℕ) → SmallBounded (searchCall (readText s) m room)
+  bounded-small m room = subst SmallBounded (default-call s m room) (within-small m (pos 1024) room)
 
   pub rolled-small : (p : List ℕ) (list room : ℕ) → SmallRolled (rollCall (readText s) p list room)
   rolled-small p list room = rolled-sized (rollCall (readText s) p list room) (roll-sizes s p list room)

@@ -7,7 +7,7 @@ ghost use Rattle.table.specs.Table.{readText, answer};
 ghost use Rattle.table.specs.Slices.{laid, fitted, kindsOf, stopsOf, weightsOf, heightsOf, decoded};
 ghost use Rattle.worth.specs.Call.{exactCall};
 ghost use Rattle.judge.specs.Call.{judgeCall};
-ghost use Rattle.search_call.specs.Call.{searchCall, searchReads};
+ghost use Rattle.search_call.specs.Call.{searchCall, searchReads, withinCall, withinReads};
 ghost use Rattle.rolled.specs.Call.{rollCall, rollReads, rollStore};
 ghost use Rattle.rollout_call.specs.Records.{recorded};
 ghost use Rattle.report_call.specs.Call.{roomIn, reportCall, reportKinds, reportLosses, reportMarks};
@@ -55,8 +55,8 @@ pub extern "C" fn margin_judge(text: &[u8], number: i64, numbers: &mut [u64]) ->
     codes::put_opinion(judge::judge_play(text, number), numbers)
 }
 
-// The search at a margin in grains: low, high, the play's node number (0 for none), the number of leaves read and G go to `numbers`,
-// and the leaves read to `leaves`, in reading sequence. Where the call is refused, nothing is written.
+// The search at a margin in grains: low, high, the play's node number (0 for none), the number of leaves read, G, high minus low and 0, as the budget
+// is not spent, go to `numbers`, and the leaves read to `leaves`, in reading sequence. Where the call is refused, nothing is written.
 #[no_mangle]
 pub extern "C" fn margin_search(
     text: &[u8],
@@ -69,6 +69,25 @@ pub extern "C" fn margin_search(
     ensures lists { λ _. ⌜ now (leaves .exit) ≡ laid (searchReads (readText (now (text .entry))) margin (length (now (leaves .entry)))) (now (leaves .entry)) ⌝ }
 {
     codes::put_bounded(search_call::search_table(text, margin, leaves), numbers)
+}
+
+// The same within a budget of leaf reads, 0 to 1,024; the last number is 1 where it was spent.
+#[no_mangle]
+pub extern "C" fn margin_search_within(
+    text: &[u8],
+    margin: i64,
+    budget: i64,
+    leaves: &mut [u16],
+    numbers: &mut [i64],
+) -> u64
+    ensures code { λ r. ⌜ r ≡ searchCode (withinCall (readText (now (text .entry))) margin budget (length (now (leaves .entry)))) ⌝ }
+    ensures numbers { λ _. ⌜ now (numbers .exit) ≡ put 0 (searchNumbers (withinCall (readText (now (text .entry))) margin budget (length (now (leaves .entry))))) (now (numbers .entry)) ⌝ }
+    ensures lists { λ _. ⌜ now (leaves .exit) ≡ laid (withinReads (readText (now (text .entry))) margin budget (length (now (leaves .entry)))) (now (leaves .entry)) ⌝ }
+{
+    codes::put_bounded(
+        search_call::search_within(text, margin, budget, leaves),
+        numbers,
+    )
 }
 
 // The turned table's text, as long as the text, goes to the start of `buffer`. Where the call is refused, nothing is written.

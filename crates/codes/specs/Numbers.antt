@@ -1,5 +1,6 @@
 -- Answers as numbers, for callers in other languages.
 use Prim.Native.Nat.{ℕ, suc, _+_, _*_}
+use mathlib.Core.Bool.{cond}
 use mathlib.Core.List.{List, [], _∷_}
 use lib.ListN.{set}
 use lib.IntN.{ℤ, pos}
@@ -61,7 +62,8 @@ abbrev pub judgeNumbers : Opinion → List ℕ
 judgeNumbers (Opinion.the-variants.Given j) = judgedNumbers j
 judgeNumbers (Opinion.the-variants.Refused r) = []
 
--- the same of a search: low, high, the node number of the play, 0 for none (the root is no play), the number of leaves read, and G
+-- the same of a search: low, high, the node number of the play, 0 for none (the root is no play), the number of leaves read, G, the difference of the
+-- bounds, and 1 where the budget was spent, else 0
 abbrev pub searchCode : Bounded → ℕ
 searchCode b = 100 * searchLine b + searchNumber b
 
@@ -70,7 +72,8 @@ nodeNumber (Child n) = n
 nodeNumber NoPlay = 0
 
 abbrev pub boundsNumbers : Bounds → List ℤ
-boundsNumbers b = b .low ∷ b .high ∷ pos (nodeNumber (b .play)) ∷ pos (b .leaves) ∷ pos (b .grain) ∷ []
+boundsNumbers b =
+    b .low ∷ b .high ∷ pos (nodeNumber (b .play)) ∷ pos (b .leaves) ∷ pos (b .grain) ∷ b .difference ∷ pos (cond (b .spent) 1 0) ∷ []
 
 abbrev pub searchNumbers : Bounded → List ℤ
 searchNumbers (Bounded.the-variants.Found b) = boundsNumbers b

@@ -111,6 +111,8 @@ fn put_bounds(b: Bounds, numbers: &mut [i64])
     put_at(numbers, 2, signed(node_number(play) as u64));
     put_at(numbers, 3, signed(b.leaves as u64));
     put_at(numbers, 4, signed(b.grain));
+    put_at(numbers, 5, b.difference);
+    put_at(numbers, 6, signed(line::one_if(b.spent)));
 }
 
 fn put_totals(t: Totals, numbers: &mut [i64])

@@ -25,7 +25,7 @@ use Rattle.table.proofs.Grown.{next-fine, prefix-fine}
 use Rattle.table.proofs.Runs.{size, Numbered, flat-length}
 use Rattle.table.proofs.Known.{read-numbered}
 use Rattle.table.proofs.Accepted.{checked, accepted-size, accepted-flat, accepted-rooted}
-use Rattle.search.specs.Search.{nodeOf}
+use Rattle.search.specs.Search.{unlimited, nodeOf}
 use Rattle.search.specs.Whole.{inGrains, searched}
 use Rattle.search.proofs.Few.{EachNode}
 use Rattle.search.proofs.Table.{play-child}
@@ -208,7 +208,7 @@ rooted-place (inner n w k under rest) N R m e =
 
 module _ (s : List ℕ) (t : Table) (h : readText s ≡ fine t) (ε m : ℕ) (played : nodeOf (searched t ε .play) ≡ some m) where
   child : isIn m (nodes (children (tree t))) ≡ true
-  child = play-child s t h ε (λ (i : ℕ). isIn i (nodes (children (tree t))) ≡ true) (root-each (grain t) (tree t)) m played
+  child = play-child s t h ε unlimited (λ (i : ℕ). isIn i (nodes (children (tree t))) ≡ true) (root-each (grain t) (tree t)) m played
 
   -- the lines up to that of a root child have as many marks as its place says
   pub child-place : m < length (t .lines) → childMarks (drop 25 s) m ≡ place m (nodes (children (tree t)))

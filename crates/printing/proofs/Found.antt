@@ -24,7 +24,7 @@ use Rattle.table.proofs.Places.{refused-line}
 use Rattle.table.proofs.Accepted.{accepted-ranged, accepted-size, accepted-grain, accepted-leaves, accepted-leaf-lines}
 use Rattle.table.proofs.Ends.{span-grains}
 use Rattle.scale.proofs.Sums.{few-digits}
-use Rattle.search.specs.Search.{Seen, nodeOf}
+use Rattle.search.specs.Search.{Seen, unlimited, nodeOf}
 use Rattle.search.specs.Whole.{searched}
 use Rattle.search.proofs.Table.{heights-order, shifted, play-small, reads-few}
 use Rattle.search_call.specs.declared.Bounds.{Bounds}
@@ -81,13 +81,13 @@ module _ (text : List ℕ) (t : Table) (h : readText text ≡ fine t) (ε : ℕ)
       omega (arith, d, abs-mag (z *ℤ pos (grain t) +ℤ pos x))
 
   low-narrow : natAbs (seen .low) < 10 ^ 14
-  low-narrow = rw (shifted text t h ε .0) (grains-narrow _ (omega (arith, heights-order text t h ε, span-grains text t h)))
+  low-narrow = rw (shifted text t h ε unlimited .0) (grains-narrow _ (omega (arith, heights-order text t h ε unlimited, span-grains text t h)))
 
   high-narrow : natAbs (seen .high) < 10 ^ 14
-  high-narrow = rw (shifted text t h ε .1) (grains-narrow _ (omega (arith, heights-order text t h ε .1, span-grains text t h)))
+  high-narrow = rw (shifted text t h ε unlimited .1) (grains-narrow _ (omega (arith, heights-order text t h ε unlimited .1, span-grains text t h)))
 
   reads-low : length (seen .read) ≤ 1024
-  reads-low = omega (arith, reads-few text t h ε, accepted-leaves text t h, accepted-leaf-lines text t h, accepted-size text t h .1)
+  reads-low = omega (arith, reads-few text t h ε unlimited, accepted-leaves text t h, accepted-leaf-lines text t h, accepted-size text t h .1)
 
   -- ---- the play
 
@@ -95,7 +95,7 @@ module _ (text : List ℕ) (t : Table) (h : readText text ≡ fine t) (ε : ℕ)
   play-lined none e = tt
   play-lined (some n) e =
       let z = accepted-size text t h in
-      let l = play-small text t h ε n e in
+      let l = play-small text t h ε unlimited n e in
       (omega (arith, z .2, l), omega (arith, z .1, l))
 
   marks-low : (p : Option ℕ) → nodeOf (seen .play) ≡ p → playMarks text (playOf p) ≤ 1024
@@ -105,7 +105,7 @@ module _ (text : List ℕ) (t : Table) (h : readText text ≡ fine t) (ε : ℕ)
   play-marked : (p : Option ℕ) → nodeOf (seen .play) ≡ p → playMarks text (playOf p) ≡ playNumber p (nodes (children (tree t)))
   play-marked none e = refl
   play-marked (some n) e =
-      child-place text t h ε n e (play-small text t h ε n e)
+      child-place text t h ε n e (play-small text t h ε unlimited n e)
 
   -- the printed number, at an M or N root, is that by which the play can be judged
   pub play-numbered : (n : ℕ) → nodeOf (seen .play) ≡ some n → numbered (pos (playNumber (some n) (nodes (children (tree t))))) (nodes (children (tree t))) ≡ some n

@@ -18,7 +18,7 @@ use Rattle.table.specs.Slices.{laid}
 use Rattle.table.proofs.Accepted.{accepted-size, accepted-leaves, accepted-leaf-lines}
 use Rattle.search.specs.Whole.{searched}
 use Rattle.search_call.specs.Call.{badMargin, Sought, sought, boundsOf}
-use Rattle.search_call.proofs.Call.{sought-fine}
+use Rattle.search_call.proofs.Call.{plain-fine}
 use Rattle.printing.specs.Program.{WordLine, marginOf, tableOf, printed, leafRow, rowsOf, outputOf}
 use Rattle.printing.specs.Inside.{playMarks, boundRows}
 use Rattle.printing.proofs.Sizes.{refusal-size, found-size}
@@ -42,7 +42,7 @@ module _ (s : List ℕ) where
     pub search-printed : badMargin (marginOf s) ≡ false → outputOf s ≡ printed (rowsOf (fine (record { table = t; seen = searched t (toNat (marginOf s)) })))
     search-printed b =
         let room : leaves (tree t) ≤ 1024 = omega (arith, accepted-leaves (tableOf s) t e, accepted-leaf-lines (tableOf s) t e, accepted-size (tableOf s) t e .1) in
-        ap (λ (v : Verdict Table). shown (sought v (marginOf s) 1024)) e ∙ ap shown (sought-fine t (marginOf s) 1024 b room)
+        ap (λ (v : Verdict Table). shown (sought v (marginOf s) 1024)) e ∙ ap shown (plain-fine t (marginOf s) 1024 b room)
 
 fits : (text : List ℕ) (m : ℤ) (v : Verdict Sought) → sought (readText text) m 1024 ≡ v → length (shown v) ≤ 22638
 fits text m (refused r) e = omega (arith, refusal-size r)

@@ -1,14 +1,19 @@
 -- What the search of an accepted text gives. Assumes nothing.
-use Prim.Native.Nat.{ℕ, _≤_, _<_}
-use mathlib.Core.Path.{_≡_, refl, sym, ap, _∙_}
+use Prim.Native.Nat.{ℕ, _-_, _≤_, _<_}
+use mathlib.Core.Path.{_≡_, refl, sym, ap, ap₂, _∙_}
 use mathlib.Core.Bool.{true, false}
-use mathlib.Core.List.{List}
+use mathlib.Core.List.{List, [], _∷_}
 use native.Mathlib.Omega.{arith}
+use borrow.Author.Needs.{sfits-of}
 use borrow.Author.Tests.{lt-ltb, le-ltb, ltb-false}
+use lib.Dec.{ltb}
 use lib.ListN.{length}
-use lib.IntN.{ℤ, pos, negsuc, _+ℤ_, _*ℤ_}
+use lib.IntN.{ℤ, pos, negsuc, _+ℤ_, _-ℤ_, _*ℤ_}
 use lib.Signed.{ltZ}
-use Rattle.line.specs.declared.Refusal.the-variants.{NoRoom, BadMargin}
+use mir.Syntax.{w64}
+use mir.Val.{toZ, ofZ}
+use mir.ValLaws.{toZ-ofZ}
+use Rattle.line.specs.declared.Refusal.the-variants.{NoRoom, BadMargin, BadBudget}
 use Rattle.line.specs.Refusal.{Verdict, refused, fine, unless}
 use Rattle.line.specs.Line.{toNat}
 use Rattle.line.proofs.Checks.{or-right}
@@ -22,32 +27,58 @@ use Rattle.table.proofs.Accepted.{accepted-leaves}
 use Rattle.table.proofs.Ends.{span-grains}
 use Rattle.scale.specs.Inside.{scaleFor}
 use Rattle.scale.proofs.Taken.{zeros, zeros-enough, Taken, of-table}
+use Rattle.search.specs.Search.{Seen, limited}
 use Rattle.search.specs.Inside.{heightSearched}
-use Rattle.search.specs.Whole.{searched}
-use Rattle.search.proofs.Table.{heights-order, shifted}
+use Rattle.search.specs.Whole.{searched, searchedWithin}
+use Rattle.search.proofs.Table.{heights-order, shifted, difference-is}
+use Rattle.search.proofs.Within.{greatest-budget}
 use Rattle.steps.specs.declared.Rule.{Rule}
 use Rattle.steps.specs.declared.Ends.{Ends}
 use Rattle.steps.specs.declared.Found.{Found}
-use Rattle.searching.specs.Inside.{ReadyRoot, Shows, Searched, playAt}
+use Rattle.steps.specs.Inside.{playAt}
+use Rattle.searching.specs.Inside.{ReadyRoot, Shows, Searched}
 use Rattle.searching.proofs.Ready.{accepted-search-ready, accepted-searched}
 use Rattle.search_call.specs.Inside.{ruleFor, endsFor}
+use Rattle.search_call.specs.declared.Bounded.{Bounded}
 use Rattle.search_call.specs.declared.Bounded.the-variants.{Found as Given}
-use Rattle.search_call.specs.Call.{badMargin, sought, searchAnswer, searchList, searchCall, searchReads}
+use Rattle.search_call.specs.Call.{badMargin, badBudget, Sought, sought, soughtWithin, searchAnswer, searchList, withinCall, withinReads}
 
 -- ---- the search's own refusals
 
-module _ (t : Table) (m : ℤ) (room : ℕ) where
-  pub sought-margin : badMargin m ≡ true → sought (fine t) m room ≡ refused BadMargin
+module _ (t : Table) (m b : ℤ) (room : ℕ) where
+  pub sought-margin : badMargin m ≡ true → soughtWithin (fine t) m b room ≡ refused BadMargin
   unfolding unless
-  sought-margin b = rw b refl
+  sought-margin x = rw x refl
 
-  pub sought-room : badMargin m ≡ false → room < leaves (tree t) → sought (fine t) m room ≡ refused NoRoom
+  pub sought-budget : badMargin m ≡ false → badBudget b ≡ true → soughtWithin (fine t) m b room ≡ refused BadBudget
   unfolding unless
-  sought-room b l = rw (b, lt-ltb room (leaves (tree t)) l) refl
+  sought-budget x y = rw (x, y) refl
 
-  pub sought-fine : badMargin m ≡ false → leaves (tree t) ≤ room → sought (fine t) m room ≡ fine (record { table = t; seen = searched t (toNat m) })
+  pub sought-room : badMargin m ≡ false → badBudget b ≡ false → room < leaves (tree t) → soughtWithin (fine t) m b room ≡ refused NoRoom
   unfolding unless
-  sought-fine b l = rw (b, le-ltb room (leaves (tree t)) l) refl
+  sought-room x y l = rw (x, y, lt-ltb room (leaves (tree t)) l) refl
+
+  pub sought-fine : badMargin m ≡ false → badBudget b ≡ false → leaves (tree t) ≤ room
+      → soughtWithin (fine t) m b room ≡ fine (record { table = t; seen = searchedWithin t (toNat m) (toNat b) })
+  unfolding unless
+  sought-fine x y l = rw (x, y, le-ltb room (leaves (tree t)) l) refl
+
+-- without a budget
+pub plain-fine : (t : Table) (m : ℤ) (room : ℕ) → badMargin m ≡ false → leaves (tree t) ≤ room
+    → sought (fine t) m room ≡ fine (record { table = t; seen = searched t (toNat m) })
+unfolding unless
+plain-fine t m room x l = rw (x, le-ltb room (leaves (tree t)) l) refl
+
+-- "where none is named, .. it is 1,024"
+pub default-budget : (s : List ℕ) (m : ℤ) (room : ℕ) → soughtWithin (readText s) m (pos 1024) room ≡ sought (readText s) m room
+unfolding unless
+default-budget s m room = at (readText s) refl
+  where
+    at : (v : Verdict Table) → readText s ≡ v → soughtWithin v m (pos 1024) room ≡ sought v m room
+    at (refused r) p = refl
+    at (fine t) p =
+        ap (λ (x : Seen ℤ). unless (record { holds = badMargin m; gives = BadMargin } ∷ record { holds = ltb room (leaves (tree t)); gives = NoRoom } ∷ []) (record { table = t; seen = x }))
+        (greatest-budget s t p (toNat m))
 
 -- a margin that is accepted is small
 margin-small : (m : ℤ) → badMargin m ≡ false → toNat m ≤ 40000000000000
@@ -56,56 +87,85 @@ margin-small (negsuc n) b = omega arith
 
 -- ---- K, S, W and H are the slices as the reading left them
 
-module _ {s : List ℕ} {t : Summary} {K S W H : List ℕ} (G : Taken s t K S W H) (m : ℤ) (room : ℕ) where
-  pub bad-margin : badMargin m ≡ true → sought (readText s) m room ≡ refused BadMargin
-  bad-margin b =
-      of-table G (λ t K S W H. sought (readText s) m room ≡ refused BadMargin) (λ T p. ap (λ (v : Verdict Table). sought v m room) p ∙ sought-margin T m room b)
+module _ {s : List ℕ} {t : Summary} {K S W H : List ℕ} (G : Taken s t K S W H) (m b : ℤ) (room : ℕ) where
+  abbrev asked : Verdict Table → Verdict Sought
+  asked v = soughtWithin v m b room
 
-  pub no-room : badMargin m ≡ false → room < t .leaves → sought (readText s) m room ≡ refused NoRoom
-  no-room b l =
-      of-table G (λ t K S W H. room < t .leaves → sought (readText s) m room ≡ refused NoRoom)
-      (λ T p l. ap (λ (v : Verdict Table). sought v m room) p ∙ sought-room T m room b (rw (accepted-leaves s T p) l)) l
+  pub bad-margin : badMargin m ≡ true → soughtWithin (readText s) m b room ≡ refused BadMargin
+  bad-margin x = of-table G (λ t K S W H. asked (readText s) ≡ refused BadMargin) (λ T p. ap asked p ∙ sought-margin T m b room x)
+
+  pub bad-budget : badMargin m ≡ false → badBudget b ≡ true → soughtWithin (readText s) m b room ≡ refused BadBudget
+  bad-budget x y = of-table G (λ t K S W H. asked (readText s) ≡ refused BadBudget) (λ T p. ap asked p ∙ sought-budget T m b room x y)
+
+  pub no-room : badMargin m ≡ false → badBudget b ≡ false → room < t .leaves → soughtWithin (readText s) m b room ≡ refused NoRoom
+  no-room x y l =
+      of-table G (λ t K S W H. room < t .leaves → asked (readText s) ≡ refused NoRoom)
+      (λ T p l. ap asked p ∙ sought-room T m b room x y (rw (accepted-leaves s T p) l)) l
+
+-- the difference that was computed, as it is handed on
+pub apart-back : (low high : ℕ) → high ≤ 35184372088832 → {r : ℤ} → r ≡ pos (high - low) → toZ w64 (ofZ w64 r) ≡ pos (high - low)
+apart-back low high h e = ap (λ (z : ℤ). toZ w64 (ofZ w64 z)) e ∙ toZ-ofZ w64 (pos (high - low)) (sfits-of (omega arith))
 
 -- g is the rule, and v the ends
-module _ {s : List ℕ} {t : Summary} {K S W H : List ℕ} (G : Taken s t K S W H) (m : ℤ) (b : badMargin m ≡ false) {g : Rule} (isG : g ≡ ruleFor (scaleFor t) m)
-    {v : Ends} (isV : v ≡ endsFor (scaleFor t)) where
+module _ {s : List ℕ} {t : Summary} {K S W H : List ℕ} (G : Taken s t K S W H) (m b : ℤ) (x : badMargin m ≡ false) (y : badBudget b ≡ false)
+    {g : Rule} (isG : g ≡ ruleFor (scaleFor t) m b) {v : Ends} (isV : v ≡ endsFor (scaleFor t)) where
   pub search-ready : (room : ℕ) → t .leaves ≤ room → ReadyRoot (slices K S W H) g v (t .nodes) room
   search-ready room enough =
       rw (isG, isV)
-      (of-table G (λ t K S W H. t .leaves ≤ room → ReadyRoot (slices K S W H) (ruleFor (scaleFor t) m) (endsFor (scaleFor t)) (t .nodes) room) (λ T p enough.
-      let z = zeros-enough s T p in accepted-search-ready s T p (toNat m) (margin-small m b) zeros zeros zeros zeros z z z z room enough) enough)
+      (of-table G (λ t K S W H. t .leaves ≤ room → ReadyRoot (slices K S W H) (ruleFor (scaleFor t) m b) (endsFor (scaleFor t)) (t .nodes) room) (λ T p enough.
+      let z = zeros-enough s T p in accepted-search-ready s T p (toNat m) (toNat b) (margin-small m x) zeros zeros zeros zeros z z z z room enough) enough)
 
   -- f is what `search` gave, with the list as it came and as it is now
   module _ (f : Found) (came now : List ℕ) (enough : t .leaves ≤ length came) (told : Searched (slices K S W H) g v (t .nodes) f came now) where
-    of-shown : (C : Summary → Type 0) → ((T : Table) → readText s ≡ fine T → leaves (tree T) ≤ length came → Shows f (heightSearched T (toNat m)) came now → C (summary T)) → C t
+    of-shown : (C : Summary → Type 0)
+        → ((T : Table) → readText s ≡ fine T → leaves (tree T) ≤ length came → Shows (toNat b) f (heightSearched T (toNat m) (limited (toNat b))) came now → C (summary T)) → C t
     of-shown C show =
-        of-table G (λ t K S W H. t .leaves ≤ length came → Searched (slices K S W H) (ruleFor (scaleFor t) m) (endsFor (scaleFor t)) (t .nodes) f came now → C t) (λ T p few told.
+        of-table G (λ t K S W H. t .leaves ≤ length came → Searched (slices K S W H) (ruleFor (scaleFor t) m b) (endsFor (scaleFor t)) (t .nodes) f came now → C t) (λ T p few told.
         let z = zeros-enough s T p in
-        show T p (rw (accepted-leaves s T p) few) (accepted-searched s T p (toNat m) (margin-small m b) zeros zeros zeros zeros z z z z f came now few told)) enough
+        show T p (rw (accepted-leaves s T p) few) (accepted-searched s T p (toNat m) (toNat b) (margin-small m x) zeros zeros zeros zeros z z z z f came now few told)) enough
         (rw (isG, isV) at told)
 
-    -- its bounds are at most the top
-    pub found-small : (f .low ≤ 35184372088832) × (f .high ≤ 35184372088832)
-    found-small = of-shown (λ t. (f .low ≤ 35184372088832) × (f .high ≤ 35184372088832)) (λ T p few w.
-        let h = heights-order s T p (toNat m) in
-        (omega (arith, w .low, h .0, h .1, span-grains s T p), omega (arith, w .high, h .1, span-grains s T p)))
+    -- its bounds are at most the top, and it has read no more than the budget
+    pub found-small : (f .low ≤ f .high) × (f .high ≤ 35184372088832) × (f .left ≤ g .budget)
+    found-small = of-shown (λ t. (f .low ≤ f .high) × (f .high ≤ 35184372088832) × (f .left ≤ g .budget)) (λ T p few w.
+        let h = heights-order s T p (toNat m) (limited (toNat b)) in
+        let budget : g .budget ≡ toNat b = ap (λ (r : Rule). r .budget) isG in
+        (omega (arith, w .low, w .high, h .0), omega (arith, w .high, h .1, span-grains s T p), omega (arith, w .reads)))
 
-    pub given-at : Given (record { low = t .lowest *ℤ pos (t .grain) +ℤ pos (f .low); high = t .lowest *ℤ pos (t .grain) +ℤ pos (f .high); play = playOf (playAt (f .play)); leaves = f .used; grain = t .grain })
-        ≡ searchCall (readText s) m (length came)
+    abbrev gives : Summary → Bounded
+    gives t =
+        Given (record {
+          low = t .lowest *ℤ pos (t .grain) +ℤ pos (f .low);
+          high = t .lowest *ℤ pos (t .grain) +ℤ pos (f .high);
+          difference = pos (f .high - f .low);
+          play = playOf (playAt (f .play));
+          leaves = g .budget - f .left;
+          spent = f .spent;
+          grain = t .grain;
+        })
+
+    pub given-at : gives t ≡ withinCall (readText s) m b (length came)
     given-at =
-        of-shown (λ t. Given (record { low = t .lowest *ℤ pos (t .grain) +ℤ pos (f .low); high = t .lowest *ℤ pos (t .grain) +ℤ pos (f .high); play = playOf (playAt (f .play)); leaves = f .used; grain = t .grain }) ≡ searchCall (readText s) m (length came)) (λ T p few w.
-        let (low, high, play, read) = shifted s T p (toNat m) in
+        of-shown (λ t. gives t ≡ withinCall (readText s) m b (length came)) (λ T p few w.
+        let (low, high, play, read, spent) = shifted s T p (toNat m) (limited (toNat b)) in
+        let base : ℤ = T .head .lowest *ℤ pos (grain T) in
+        let is-low = ap (λ (n : ℕ). base +ℤ pos n) (w .low) ∙ sym low in
+        let is-high = ap (λ (n : ℕ). base +ℤ pos n) (w .high) ∙ sym high in
+        let budget : g .budget ≡ toNat b = ap (λ (r : Rule). r .budget) isG in
+        let count : g .budget - f .left ≡ length (heightSearched T (toNat m) (limited (toNat b)) .read) = omega (arith, w .reads) in
         ap Given (λ i. record {
-          low = (ap (λ (n : ℕ). T .head .lowest *ℤ pos (grain T) +ℤ pos n) (w .low) ∙ sym low) i;
-          high = (ap (λ (n : ℕ). T .head .lowest *ℤ pos (grain T) +ℤ pos n) (w .high) ∙ sym high) i;
+          low = is-low i;
+          high = is-high i;
+          difference = (difference-is base (f .low) (f .high) (found-small .0) ∙ ap₂ _-ℤ_ is-high is-low) i;
           play = (ap playOf (w .play ∙ sym play)) i;
-          leaves = (w .used ∙ sym (ap length read)) i;
+          leaves = (count ∙ sym (ap length read)) i;
+          spent = (w .spent ∙ sym spent) i;
           grain = grain T;
         })
-        ∙ sym (ap searchAnswer (ap (λ (v : Verdict Table). sought v m (length came)) p ∙ sought-fine T m (length came) b few)))
+        ∙ sym (ap searchAnswer (ap (λ (v : Verdict Table). soughtWithin v m b (length came)) p ∙ sought-fine T m b (length came) x y few)))
 
-    pub reads-at : now ≡ laid (searchReads (readText s) m (length came)) came
-    reads-at = of-shown (λ t. now ≡ laid (searchReads (readText s) m (length came)) came) (λ T p few w.
-        let (low, high, play, read) = shifted s T p (toNat m) in
+    pub reads-at : now ≡ laid (withinReads (readText s) m b (length came)) came
+    reads-at = of-shown (λ t. now ≡ laid (withinReads (readText s) m b (length came)) came) (λ T p few w.
+        let (low, high, play, read, spent) = shifted s T p (toNat m) (limited (toNat b)) in
         w .leaves
-        ∙ ap (λ (l : List ℕ). laid l came) (sym read ∙ sym (ap searchList (ap (λ (v : Verdict Table). sought v m (length came)) p ∙ sought-fine T m (length came) b few))))
+        ∙ ap (λ (l : List ℕ). laid l came) (sym read ∙ sym (ap searchList (ap (λ (v : Verdict Table). soughtWithin v m b (length came)) p ∙ sought-fine T m b (length came) x y few))))

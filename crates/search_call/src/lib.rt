@@ -1,13 +1,14 @@
-// The public call of the bounded search. It takes any input, and ends with an answer or a refusal.
+// The public calls of the bounded search, with a leaf budget and without. They take any input, and end with an answer or a refusal.
 ghost use mathlib.Core.Path.{_≡_};
-ghost use Prim.Native.Nat.{_<_};
+ghost use Prim.Native.Nat.{_-_, _≤_};
 ghost use lib.ListN.{length};
+ghost use lib.IntN.{pos};
 ghost use Rattle.table.specs.Table.{readText};
 ghost use Rattle.table.specs.Slices.{laid};
 ghost use Rattle.table.specs.Root.{playOf};
-ghost use Rattle.searching.specs.Inside.{playAt};
+ghost use Rattle.steps.specs.Inside.{playAt};
 ghost use Rattle.search_call.specs.Inside.{ruleFor, endsFor};
-ghost use Rattle.search_call.specs.Call.{badMargin, searchCall, searchReads};
+ghost use Rattle.search_call.specs.Call.{badMargin, badBudget, searchCall, searchReads, withinCall, withinReads};
 use line::Refusal;
 use scale::Scale;
 use steps::Ends;
@@ -15,12 +16,15 @@ use steps::Rule;
 use table::Play;
 use table::Reading;
 
-// What a search answers: two bounds, the best root child entered, how many leaves were read, and G.
+// What a search answers: two bounds and how far apart they are, the best root child entered, how many leaves were read, whether the budget was
+// spent, and G.
 pub struct Bounds {
     pub low: i64,
     pub high: i64,
+    pub difference: i64,
     pub play: Play,
     pub leaves: usize,
+    pub spent: bool,
     pub grain: u64,
 }
 
@@ -36,13 +40,20 @@ fn is_bad_margin(margin: i64) -> bool
     (margin < 0) | (40000000000000 < margin)
 }
 
+fn is_bad_budget(budget: i64) -> bool
+    ensures { λ r. ⌜ r ≡ badBudget budget ⌝ }
+{
+    (budget < 0) | (1024 < budget)
+}
+
 // The numbers that a search goes by.
-fn rule_of(s: Scale, margin: i64) -> Rule
-    ensures { λ r. ⌜ r ≡ ruleFor s margin ⌝ }
+fn rule_of(s: Scale, margin: i64, budget: i64) -> Rule
+    ensures { λ r. ⌜ r ≡ ruleFor s margin budget ⌝ }
 {
     Rule {
         margin: line::natural(margin),
         grain: s.grain,
+        budget: line::natural(budget) as usize,
     }
 }
 
@@ -66,11 +77,19 @@ fn play_at(node: usize) -> Play
     Play::Child(node)
 }
 
-// The bounded search: for any text, any margin and any list. The list gets the leaves read in reading sequence, and keeps its other
-// entries; a refused call writes nothing.
-pub fn search_table(text: &[u8], margin: i64, leaves: &mut [u16]) -> Bounded
-    ensures answers { λ r. ⌜ r ≡ searchCall (readText (now (text .entry))) margin (length (now (leaves .entry))) ⌝ }
-    ensures lists { λ _. ⌜ now (leaves .exit) ≡ laid (searchReads (readText (now (text .entry))) margin (length (now (leaves .entry)))) (now (leaves .entry)) ⌝ }
+// How far apart two heights are.
+fn apart(low: u64, high: u64) -> i64
+    requires { ⌜ (low ≤ high) × (high ≤ 35184372088832) ⌝ }
+    ensures { λ r. ⌜ r ≡ pos (high - low) ⌝ }
+{
+    (high - low) as i64
+}
+
+// The bounded search within a budget of leaf reads: for any text, any margin, any budget and any list. The list gets the leaves read in reading
+// sequence, and keeps its other entries; a refused call writes nothing.
+pub fn search_within(text: &[u8], margin: i64, budget: i64, leaves: &mut [u16]) -> Bounded
+    ensures answers { λ r. ⌜ r ≡ withinCall (readText (now (text .entry))) margin budget (length (now (leaves .entry))) ⌝ }
+    ensures lists { λ _. ⌜ now (leaves .exit) ≡ laid (withinReads (readText (now (text .entry))) margin budget (length (now (leaves .entry)))) (now (leaves .entry)) ⌝ }
 {
     let mut kind = [0u8; 1024];
     let mut stop = [0u16; 1024];
@@ -82,22 +101,37 @@ pub fn search_table(text: &[u8], margin: i64, leaves: &mut [u16]) -> Bounded
             if is_bad_margin(margin) {
                 return Bounded::Refused(Refusal::BadMargin);
             }
+            if is_bad_budget(budget) {
+                return Bounded::Refused(Refusal::BadBudget);
+            }
             if leaves.len() < t.leaves {
                 return Bounded::Refused(Refusal::NoRoom);
             }
             let s = scale::scale_of(t);
-            let g = rule_of(s, margin);
+            let g = rule_of(s, margin, budget);
             let v = ends_of(s);
             let f = searching::search(&kind, &stop, &weight, &height, leaves, t.nodes, g, v);
             let low = scale::in_grains(t.lowest, t.grain, f.low);
             let high = scale::in_grains(t.lowest, t.grain, f.high);
+            let difference = apart(f.low, f.high);
+            let read = g.budget - f.left;
             Bounded::Found(Bounds {
                 low: low,
                 high: high,
+                difference: difference,
                 play: play_at(f.play),
-                leaves: f.used,
+                leaves: read,
+                spent: f.spent,
                 grain: t.grain,
             })
         }
     }
+}
+
+// The bounded search of document 01: no table has more leaves than the greatest budget, so that it is never spent.
+pub fn search_table(text: &[u8], margin: i64, leaves: &mut [u16]) -> Bounded
+    ensures answers { λ r. ⌜ r ≡ searchCall (readText (now (text .entry))) margin (length (now (leaves .entry))) ⌝ }
+    ensures lists { λ _. ⌜ now (leaves .exit) ≡ laid (searchReads (readText (now (text .entry))) margin (length (now (leaves .entry)))) (now (leaves .entry)) ⌝ }
+{
+    search_within(text, margin, 1024, leaves)
 }

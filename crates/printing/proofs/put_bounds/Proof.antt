@@ -56,7 +56,11 @@ slice-aggregate-put-count-3 : tie.Need-slice-aggregate-put-count-3
 slice-aggregate-put-count-3 c = search needs
 
 put-count-requires-3 : tie.Need-put-count-requires-3
-put-count-requires-3 c κs = search needs
+put-count-requires-3 c κs =
+    let V3 = c .before .before .before .before .before .before .before .before .before in
+    let V1 = V3 .before .before .before .before .before .before .before .before .before .before .before in
+    let s = V1 .before .before .before .before .before in
+    (search needs, search needs, omega (arith, s .pre .1 .leaves))
 
 same-length : tie.Need-same-length
 same-length c = search needs

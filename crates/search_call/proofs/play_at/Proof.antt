@@ -3,7 +3,7 @@ use mathlib.Core.Path.{ap, sym, refl}
 use borrow.Author.Tests.{ne-eqb}
 use Prim.Native.Nat.{ℕ}
 use Rattle.table.specs.Root.{playOf}
-use Rattle.searching.specs.Inside.{playAt}
+use Rattle.steps.specs.Inside.{playAt}
 use Rattle.search_call.proofs.play_at.Statement.{statement}
 use Rattle.search_call.proofs.play_at.Tie as tie
 

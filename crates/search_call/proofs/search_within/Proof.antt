@@ -1,8 +1,9 @@
--- `search_call::search_table` meets its contract. Assumes nothing.
-use Prim.Native.Nat.{ℕ, _≤_}
-use mathlib.Core.Path.{_≡_, sym, ap, ap₂, _∙_}
+-- `search_call::search_within` meets its contract. Assumes nothing.
+use Prim.Native.Nat.{ℕ, _-_, _≤_}
+use mathlib.Core.Path.{_≡_, sym, ap, _∙_}
 use mathlib.Core.Bool.{false}
 use mathlib.Core.List.{List}
+use native.Mathlib.Nat.{le-trans}
 use borrow.Author.Needs.{needs}
 use denote.Ref.{now}
 use lib.ListN.{length}
@@ -10,7 +11,7 @@ use lib.IntN.{ℤ}
 use mir.Syntax.{w64}
 use mir.ValLaws.{toZ-ofZ}
 use Rattle.line.specs.declared.Refusal.{Refusal}
-use Rattle.line.specs.declared.Refusal.the-variants.{NoRoom, BadMargin}
+use Rattle.line.specs.declared.Refusal.the-variants.{NoRoom, BadMargin, BadBudget}
 use Rattle.line.specs.Refusal.{Verdict, refused}
 use Rattle.table.specs.declared.Summary.{Summary}
 use Rattle.table.specs.Slices.{laid}
@@ -20,11 +21,11 @@ use Rattle.scale.specs.Inside.{scaleFor}
 use Rattle.scale.proofs.Taken.{Taken, refused-by, taken-by, spread-at, grains-ready, grains-at}
 use Rattle.steps.specs.declared.Found.{Found}
 use Rattle.search_call.specs.declared.Bounded.the-variants.{Found as Given}
-use Rattle.search_call.specs.Call.{badMargin, Sought, sought, searchAnswer, searchList, searchCall, searchReads}
+use Rattle.search_call.specs.Call.{badMargin, badBudget, Sought, soughtWithin, searchAnswer, searchList, withinCall, withinReads}
 use Rattle.search_call.specs.Inside.{ruleFor, endsFor}
-use Rattle.search_call.proofs.Call.{bad-margin, no-room, search-ready, found-small, given-at, reads-at}
-use Rattle.search_call.proofs.search_table.Statement.{statement}
-use Rattle.search_call.proofs.search_table.Tie as tie
+use Rattle.search_call.proofs.Call.{bad-margin, bad-budget, no-room, apart-back, search-ready, found-small, given-at, reads-at}
+use Rattle.search_call.proofs.search_within.Statement.{statement}
+use Rattle.search_call.proofs.search_within.Tie as tie
 
 abbrev start-of : tie.After-decode → tie.Start
 start-of R = R .before .before .before .before .before .before .before
@@ -34,6 +35,9 @@ text-of R = now (start-of R .args .text)
 
 abbrev margin-of : tie.After-decode → ℤ
 margin-of R = start-of R .args .margin
+
+abbrev budget-of : tie.After-decode → ℤ
+budget-of R = start-of R .args .budget
 
 abbrev list-of : tie.After-decode → List ℕ
 list-of R = now (start-of R .args .leaves)
@@ -61,39 +65,63 @@ tested c =
     let S = start-of (read-of (c .before)) in
     c .is-bad-margin .ensures ∙ ap badMargin (toZ-ofZ w64 (S .args .margin) (S .fits .margin))
 
+-- and that of the budget
+counted : (c : tie.After-is-bad-budget) → c .is-bad-budget .result ≡ badBudget (budget-of (read-of (c .before .before .before)))
+counted c =
+    let S = start-of (read-of (c .before .before .before)) in
+    c .is-bad-budget .ensures ∙ ap badBudget (toZ-ofZ w64 (S .args .budget) (S .fits .budget))
+
 -- the refusals, and what is then in the list
-refusing : (R : tie.After-decode) (v : Verdict Sought) → sought (readText (text-of R)) (margin-of R) (length (list-of R)) ≡ v
-    → (searchAnswer v ≡ searchCall (readText (text-of R)) (margin-of R) (length (list-of R))) × (laid (searchList v) (list-of R) ≡ laid (searchReads (readText (text-of R)) (margin-of R) (length (list-of R))) (list-of R))
+refusing : (R : tie.After-decode) (v : Verdict Sought) → soughtWithin (readText (text-of R)) (margin-of R) (budget-of R) (length (list-of R)) ≡ v
+    → (searchAnswer v ≡ withinCall (readText (text-of R)) (margin-of R) (budget-of R) (length (list-of R)))
+    × (laid (searchList v) (list-of R) ≡ laid (withinReads (readText (text-of R)) (margin-of R) (budget-of R) (length (list-of R))) (list-of R))
 refusing R v e = (sym (ap searchAnswer e), sym (ap (λ (x : Verdict Sought). laid (searchList x) (list-of R)) e))
 
 returns : tie.Need-returns
 returns c =
     let K = c .before .before in
     let R = read-of K in
-    refusing R (refused BadMargin) (bad-margin (taken K) (margin-of R) (length (list-of R)) (sym (tested (c .before)) ∙ c .if1 .taken))
+    refusing R (refused BadMargin) (bad-margin (taken K) (margin-of R) (budget-of R) (length (list-of R)) (sym (tested (c .before)) ∙ c .if1 .taken))
+
+-- past the first refusal, and past the second
+good-margin : (E : tie.Else1) → badMargin (margin-of (read-of (E .before .before))) ≡ false
+good-margin E = sym (tested (E .before)) ∙ E .if1 .left
+
+good-budget : (E : tie.Else2) → badBudget (budget-of (read-of (E .before .before .before .before))) ≡ false
+good-budget E = sym (counted (E .before)) ∙ E .if2 .left
 
 returns-2 : tie.Need-returns-2
 returns-2 c =
     let E = c .before .before in
     let K = E .before .before in
     let R = read-of K in
-    refusing R (refused NoRoom) (no-room (taken K) (margin-of R) (length (list-of R)) (sym (tested (E .before)) ∙ E .if1 .left) (c .if2 .taken))
+    refusing R (refused BadBudget) (bad-budget (taken K) (margin-of R) (budget-of R) (length (list-of R)) (good-margin E) (sym (counted (c .before)) ∙ c .if2 .taken))
 
--- ---- where the search is called: at an accepted table, an accepted margin and a list that is long enough
+returns-3 : tie.Need-returns-3
+returns-3 c =
+    let E = c .before .before in
+    let K = E .before .before .before .before in
+    let R = read-of K in
+    refusing R (refused NoRoom)
+    (no-room (taken K) (margin-of R) (budget-of R) (length (list-of R)) (good-margin (E .before .before)) (good-budget E) (c .if3 .taken))
 
-abbrev known-of : tie.After-ends-of → tie.After-known-told2
-known-of L = L .before .before .before .before .before .before .before
+-- ---- where the search is called: at an accepted table, an accepted margin, an accepted budget and a list that is long enough
 
-abbrev room-of : tie.After-ends-of → tie.Else2
+abbrev room-of : tie.After-ends-of → tie.Else3
 room-of L = L .before .before .before
 
-good : (L : tie.After-ends-of) → badMargin (margin-of (read-of (known-of L))) ≡ false
-good L = let E = room-of L .before .before in sym (tested (E .before)) ∙ E .if1 .left
+abbrev budgeted-of : tie.After-ends-of → tie.Else2
+budgeted-of L = room-of L .before .before
 
-rule-is : (L : tie.After-ends-of) → L .before .rule-of .result ≡ ruleFor (scaleFor (summary-of (known-of L))) (margin-of (read-of (known-of L)))
+abbrev known-of : tie.After-ends-of → tie.After-known-told2
+known-of L = budgeted-of L .before .before .before .before
+
+rule-is : (L : tie.After-ends-of)
+    → L .before .rule-of .result ≡ ruleFor (scaleFor (summary-of (known-of L))) (margin-of (read-of (known-of L))) (budget-of (read-of (known-of L)))
 rule-is L =
     let S = start-of (read-of (known-of L)) in
-    L .before .rule-of .ensures ∙ ap₂ ruleFor (L .before .before .scale-of .ensures) (toZ-ofZ w64 (S .args .margin) (S .fits .margin))
+    L .before .rule-of .ensures
+    ∙ λ i. ruleFor (L .before .before .scale-of .ensures i) (toZ-ofZ w64 (S .args .margin) (S .fits .margin) i) (toZ-ofZ w64 (S .args .budget) (S .fits .budget) i)
 
 ends-are : (L : tie.After-ends-of) → L .ends-of .result ≡ endsFor (scaleFor (summary-of (known-of L)))
 ends-are L = L .ends-of .ensures ∙ ap endsFor (L .before .before .scale-of .ensures)
@@ -102,50 +130,73 @@ search-requires : tie.Need-search-requires
 search-requires c κs =
     let L = c .before .before .before .before .before in
     let K = known-of L in
-    search-ready (taken K) (margin-of (read-of K)) (good L) (rule-is L) (ends-are L) (length (list-of (read-of K))) (room-of L .if2 .left)
+    let R = read-of K in
+    search-ready (taken K) (margin-of R) (budget-of R) (good-margin (budgeted-of L .before .before)) (good-budget (budgeted-of L)) (rule-is L) (ends-are L) (length (list-of R))
+    (room-of L .if3 .left)
 
 -- ---- what it found
 
 abbrev rule-at : tie.After-search → tie.After-ends-of
 rule-at W = W .before .before .before .before .before .before
 
-small : (W : tie.After-search) → (W .search .result .low ≤ 35184372088832) × (W .search .result .high ≤ 35184372088832)
+small : (W : tie.After-search)
+    → (W .search .result .low ≤ W .search .result .high) × (W .search .result .high ≤ 35184372088832) × (W .search .result .left ≤ rule-at W .before .rule-of .result .budget)
 small W =
     let L = rule-at W in
     let K = known-of L in
     let R = read-of K in
-    found-small (taken K) (margin-of R) (good L) (rule-is L) (ends-are L) (W .search .result) (list-of R) (W .search .last .1 .1 .1 .1 .0) (room-of L .if2 .left) (W .search .ensures)
+    found-small (taken K) (margin-of R) (budget-of R) (good-margin (budgeted-of L .before .before)) (good-budget (budgeted-of L)) (rule-is L) (ends-are L) (W .search .result) (list-of R)
+    (W .search .last .1 .1 .1 .1 .0) (room-of L .if3 .left) (W .search .ensures)
 
 in-grains-requires : tie.Need-in-grains-requires
-in-grains-requires c κs = let W = c .before .before .before in grains-ready (taken (known-of (rule-at W))) (small W .0)
+in-grains-requires c κs =
+    let W = c .before .before .before in
+    grains-ready (taken (known-of (rule-at W))) (le-trans (small W .0) (small W .1))
 
 in-grains-requires-2 : tie.Need-in-grains-requires-2
 in-grains-requires-2 c κs = let W = c .before .before .before .before .before in grains-ready (taken (known-of (rule-at W))) (small W .1)
 
-returns-3 : tie.Need-returns-3
-returns-3 c =
-    let r = c .before .r .given in
-    let R = c .before .before .before .before .before .before .before in
-    let v = refused-at R (r .0 .0) (r .1) in
-    refusing R (refused (r .0 .0)) (ap (λ (v : Verdict Table). sought v (margin-of R) (length (list-of R))) v)
+apart-requires : tie.Need-apart-requires
+apart-requires c κs = let u = small (c .before .before .before .before .before .before) in (u .0, u .1)
+
+sub-read : tie.Need-sub-read
+sub-read c = small (c .before .before .before .before .before .before .before .before .before) .2
 
 returns-4 : tie.Need-returns-4
 returns-4 c =
-    let W = c .before .before .before .before .before .before .before in
+    let r = c .before .r .given in
+    let R = c .before .before .before .before .before .before .before in
+    let v = refused-at R (r .0 .0) (r .1) in
+    refusing R (refused (r .0 .0)) (ap (λ (v : Verdict Table). soughtWithin v (margin-of R) (budget-of R) (length (list-of R))) v)
+
+returns-5 : tie.Need-returns-5
+returns-5 c =
+    let A = c .before .before .before in
+    let W = A .before .before .before .before .before .before .before in
     let L = rule-at W in
     let K = known-of L in
     let R = read-of K in
     let G = taken K in
     let f : Found = W .search .result in
-    let low = grains-at G (small W .0) (c .before .before .before .in-grains .ensures) in
-    let high = grains-at G (small W .1) (c .before .in-grains2 .ensures) in (
-      (λ i. Given (record { low = low i; high = high i; play = (c .play-at .ensures) i; leaves = f .used; grain = summary-of K .grain }))
-          ∙ given-at G (margin-of R) (good L) (rule-is L) (ends-are L) f (list-of R) (W .search .last .1 .1 .1 .1 .0) (room-of L .if2 .left) (W .search .ensures),
-      reads-at G (margin-of R) (good L) (rule-is L) (ends-are L) f (list-of R) (W .search .last .1 .1 .1 .1 .0) (room-of L .if2 .left) (W .search .ensures),
+    let x = good-margin (budgeted-of L .before .before) in
+    let y = good-budget (budgeted-of L) in
+    let low = grains-at G (le-trans (small W .0) (small W .1)) (A .before .before .before .in-grains .ensures) in
+    let high = grains-at G (small W .1) (A .before .in-grains2 .ensures) in (
+      (λ i. Given (record {
+        low = low i;
+        high = high i;
+        difference = apart-back (f .low) (f .high) (small W .1) (A .apart .ensures) i;
+        play = (c .play-at .ensures) i;
+        leaves = L .before .rule-of .result .budget - f .left;
+        spent = f .spent;
+        grain = summary-of K .grain;
+      }))
+          ∙ given-at G (margin-of R) (budget-of R) x y (rule-is L) (ends-are L) f (list-of R) (W .search .last .1 .1 .1 .1 .0) (room-of L .if3 .left) (W .search .ensures),
+      reads-at G (margin-of R) (budget-of R) x y (rule-is L) (ends-are L) f (list-of R) (W .search .last .1 .1 .1 .1 .0) (room-of L .if3 .left) (W .search .ensures),
     )
 
-pub search-table-spec : {M : Type 1} → statement M
-search-table-spec =
+pub search-within-spec : {M : Type 1} → statement M
+search-within-spec =
     tie.close
     (tie.spec
     (λ c. search needs)
@@ -157,8 +208,10 @@ search-table-spec =
     (λ c. search needs)
     (λ c κs. search needs)
     returns
+    (λ c κs. search needs)
     returns-2
-    (λ c κs. spread-at (taken (c .before .before .before .before)))
+    returns-3
+    (λ c κs. spread-at (taken (c .before .before .before .before .before .before)))
     (λ c κs. search needs)
     (λ c κs. search needs)
     (λ c. search needs)
@@ -168,7 +221,9 @@ search-table-spec =
     search-requires
     in-grains-requires
     in-grains-requires-2
+    apart-requires
+    sub-read
     (λ c κs. search needs)
-    returns-3
+    returns-4
     (λ c. search needs)
-    returns-4)
+    returns-5)
