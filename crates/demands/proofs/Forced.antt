@@ -22,7 +22,7 @@ use Rattle.judge.specs.declared.Opinion.the-variants.{Refused}
 use Rattle.judge.specs.Judge.{Judgement, judge}
 use Rattle.judge.specs.Call.{judgeAnswer, judgeCall}
 use Rattle.judge.proofs.Judge.{forced-judged, choice-judged, missing-refused, refused-choice}
-use Rattle.search.specs.Search.{nodeOf}
+use Rattle.search.specs.Search.{unlimited, nodeOf}
 use Rattle.search.specs.Whole.{searched}
 use Rattle.search_call.specs.declared.Bounds.{Bounds}
 use Rattle.search_call.proofs.Answered.{answered}
@@ -37,7 +37,7 @@ use Rattle.report.proofs.Refusals.{head-named}
 use Rattle.report.proofs.Decisions.{decisions-are}
 use Rattle.report_call.specs.Call.{reportKinds, reportLosses}
 use Rattle.demands.specs.Forced.{ForcedNoDecision, ChoiceAsBefore, Fourteen, FourteenNeeds, PositionFourteen, StillNamed, CountsFollow}
-use Rattle.demands.proofs.Demands.{fine-same}
+use Rattle.demands.proofs.Within.{fine-same}
 use Rattle.demands.proofs.Matches.{totals-summed}
 
 -- ---- judging
@@ -116,7 +116,7 @@ still-named s t m room b side p root one e =
     let A = answered s m room b e in
     let ε : ℕ = toNat m in
     let same : A .table ≡ t = fine-same (A .table) t (sym (A .read) ∙ p) in
-    let (x, q, first) = play-named s t p ε side root in
+    let (x, q, first) = play-named s t p ε unlimited refl side root in
     let (v, w, above, below) = play-near s t p ε (x .node) q in (
       x .node,
       ap (λ (c : Bounds). c .play) (A .bounds) ∙ ap (λ (u : Table). playOf (nodeOf (searched u ε .play))) same ∙ ap playOf q,

@@ -1,5 +1,6 @@
 pub mod Untouched
 pub mod Utilities
+pub mod Within
 pub mod Demands
 pub mod Rows
 pub mod Matches
@@ -7,3 +8,4 @@ pub mod Forced
 pub mod Level
 pub mod Marks
 pub mod Worked
+pub mod Budget

@@ -18,7 +18,7 @@ use Rattle.judge.specs.declared.Opinion
 use Rattle.judge.specs.declared.Opinion.{Opinion}
 use Rattle.judge.specs.Call.{judgeCall}
 use Rattle.turn_call.specs.Call.{turnOf, turnAnswer, turnWritten}
-use Rattle.search_call.specs.Call.{Sought, sought, searchAnswer, searchList}
+use Rattle.search_call.specs.Call.{Sought, sought, soughtWithin, searchAnswer, searchList}
 use Rattle.rollout_call.specs.declared.Record.{Record}
 use Rattle.rolled.specs.Call.{rolls, rollAnswer, rollList, rollRecords}
 use Rattle.rollout_call.specs.Records.{recorded}
@@ -28,7 +28,7 @@ use Rattle.mark.specs.declared.Choice.{Choice}
 use Rattle.mark.specs.Marks.{choiceOf}
 use Rattle.report_call.specs.Call.{roomIn, reported, reportAnswer, filled, marksBy}
 use Rattle.codes.specs.Numbers.{readCode, numbersOf, worthCode, worthNumbers, judgeCode, judgeNumbers, searchCode, searchNumbers, rollCode, rollNumbers, turnedCode, reportCode, reportNumbers, put}
-use Rattle.demands.specs.Untouched.{Refuses, CodesRefuse, ReportCodesRefuse, SlicesKept, ReadUntouched, SearchUntouched, TurnUntouched, RollUntouched, ReportUntouched, CReadUntouched, CWorthUntouched, CJudgeUntouched, CSearchUntouched, CTurnUntouched, CRollUntouched, CReportUntouched}
+use Rattle.demands.specs.Untouched.{Refuses, CodesRefuse, ReportCodesRefuse, SlicesKept, ReadUntouched, SearchUntouched, WithinUntouched, TurnUntouched, RollUntouched, ReportUntouched, CReadUntouched, CWorthUntouched, CJudgeUntouched, CSearchUntouched, CWithinUntouched, CTurnUntouched, CRollUntouched, CReportUntouched}
 
 slices-kept : (r : Refusal) (kind stop weight height : List ℕ) → SlicesKept (refused r) kind stop weight height
 slices-kept r kind stop weight height =
@@ -89,6 +89,9 @@ c-judge-untouched s number numbers c = judge-code (judgeCall (readText s) number
 pub c-search-untouched : CSearchUntouched
 c-search-untouched s m list numbers c = search-code (sought (readText s) m (length list)) list numbers c
 
+pub c-within-untouched : CWithinUntouched
+c-within-untouched s m b list numbers c = search-code (soughtWithin (readText s) m b (length list)) list numbers c
+
 pub c-turn-untouched : CTurnUntouched
 c-turn-untouched s buffer c = turn-code (turnOf (readText s) (length buffer)) buffer c
 
@@ -107,6 +110,9 @@ read-untouched s kind stop weight height r e =
 
 pub search-untouched : SearchUntouched
 search-untouched s m list r e = c-search-untouched s m list [] (λ z. codes-refuse r (sym (ap searchCode e) ∙ z)) .1
+
+pub within-untouched : WithinUntouched
+within-untouched s m b list r e = c-within-untouched s m b list [] (λ z. codes-refuse r (sym (ap searchCode e) ∙ z)) .1
 
 pub turn-untouched : TurnUntouched
 turn-untouched s buffer r e = c-turn-untouched s buffer (λ z. codes-refuse r (sym (ap turnedCode e) ∙ z))

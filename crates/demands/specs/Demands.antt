@@ -81,8 +81,10 @@ pub record Differ (read : List ℕ) (s u : List ℕ) : Type 0 where
 pub record Mirrors (b c : Bounds) : Type 0 where
   pub low : c .low ≡ negℤ (b .high)
   pub high : c .high ≡ negℤ (b .low)
+  pub difference : c .difference ≡ b .difference
   pub play : c .play ≡ b .play
   pub leaves : c .leaves ≡ b .leaves
+  pub spent : c .spent ≡ b .spent
   pub grain : c .grain ≡ b .grain
 
 -- ---- the sentences: "For every table, margin and leaf list that the bounded search accepts", a text s, a margin m and a list of `room` entries

@@ -5,3 +5,4 @@ pub mod Matches
 pub mod Forced
 pub mod Level
 pub mod Marks
+pub mod Budget

@@ -1,9 +1,10 @@
 -- Document 01, 'Positions with known results': the rows with a star, as one table. Plays are named by node: in A and B the first root child is node 1.
 -- proofs/Rows.antt has the theorem about all rows.
 use mathlib.Core.Path.{_≡_}
+use mathlib.Core.Bool.{false}
 use mathlib.Core.List.{List, [], _∷_}
 use Prim.Native.Nat.{ℕ}
-use lib.IntN.{ℤ, pos, negsuc}
+use lib.IntN.{ℤ, pos, negsuc, _-ℤ_}
 use Rattle.table.specs.Table.{readText}
 use Rattle.table.specs.Examples.{table-a, table-b, turned-b, lone-leaf}
 use Rattle.table.specs.declared.Play.{Play}
@@ -48,7 +49,8 @@ pub record Row : Type 0 where
   pub told : Told
 
 abbrev pub bounds : (low high : ℤ) (grain : ℕ) (play : Play) (leaves : ℕ) → List ℕ → Told
-bounds low high grain play leaves read = sought (Found (record { low = low; high = high; play = play; leaves = leaves; grain = grain })) read
+bounds low high grain play leaves read =
+    sought (Found (record { low = low; high = high; difference = high -ℤ low; play = play; leaves = leaves; spent = false; grain = grain })) read
 
 abbrev pub rows : List Row
 rows =

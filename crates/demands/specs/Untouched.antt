@@ -15,7 +15,7 @@ use Rattle.judge.specs.Call.{judgeCall}
 use Rattle.turn_call.specs.declared.Turned
 use Rattle.turn_call.specs.Call.{turnCall, turnBytes}
 use Rattle.search_call.specs.declared.Bounded
-use Rattle.search_call.specs.Call.{searchCall, searchReads}
+use Rattle.search_call.specs.Call.{searchCall, searchReads, withinCall, withinReads}
 use Rattle.rollout_call.specs.declared.Record.{Record}
 use Rattle.rolled.specs.declared.Rolled
 use Rattle.rolled.specs.Call.{rollCall, rollReads, rollStore}
@@ -43,6 +43,12 @@ abbrev pub SearchUntouched : Type 0
 SearchUntouched =
     (s : List ℕ) (m : ℤ) (list : List ℕ) (r : Refusal) → searchCall (readText s) m (length list) ≡ Bounded.the-variants.Refused r
     → laid (searchReads (readText s) m (length list)) list ≡ list
+
+-- the same within a budget (document 02, Item 3)
+abbrev pub WithinUntouched : Type 0
+WithinUntouched =
+    (s : List ℕ) (m b : ℤ) (list : List ℕ) (r : Refusal) → withinCall (readText s) m b (length list) ≡ Bounded.the-variants.Refused r
+    → laid (withinReads (readText s) m b (length list)) list ≡ list
 
 abbrev pub TurnUntouched : Type 0
 TurnUntouched =
@@ -100,6 +106,12 @@ CSearchUntouched =
     (s : List ℕ) (m : ℤ) (list : List ℕ) (numbers : List ℤ) → Refuses (searchCode (searchCall (readText s) m (length list)))
     → (put 0 (searchNumbers (searchCall (readText s) m (length list))) numbers ≡ numbers)
     × (laid (searchReads (readText s) m (length list)) list ≡ list)
+
+abbrev pub CWithinUntouched : Type 0
+CWithinUntouched =
+    (s : List ℕ) (m b : ℤ) (list : List ℕ) (numbers : List ℤ) → Refuses (searchCode (withinCall (readText s) m b (length list)))
+    → (put 0 (searchNumbers (withinCall (readText s) m b (length list))) numbers ≡ numbers)
+    × (laid (withinReads (readText s) m b (length list)) list ≡ list)
 
 abbrev pub CTurnUntouched : Type 0
 CTurnUntouched =

@@ -1,0 +1,166 @@
+-- Document 02, Item 3, at the public calls. Assumes nothing.
+use Prim.Native.Nat.{ℕ, _≤_, _<_}
+use mathlib.Core.Path.{_≡_, refl, sym, ap, ap₂, subst, _∙_}
+use mathlib.Core.Bool.{Bool, true, false}
+use mathlib.Core.List.{List, []}
+use native.Mathlib.Omega.{arith}
+use borrow.Author.Tests.{ltb-true, ltb-false, le-ltb}
+use lib.Dec.{ltb}
+use lib.ListN.{length, take, length-take}
+use lib.IntN.{ℤ, pos, negsuc, _*ℤ_}
+use lib.Signed.{ltZ}
+use Rattle.field.specs.Field.{strip, digits, whole as wholeField, signed, leading}
+use Rattle.numbers.specs.Integers.{maxZ, minZ, floorZ, ceilZ}
+use Rattle.line.specs.declared.Refusal.the-variants.{NoRoom, BadBudget}
+use Rattle.line.specs.Refusal.{Verdict, fine, numberOf, unless, unlessAt}
+use Rattle.line.specs.Line.{toNat, climb}
+use Rattle.line.proofs.Checks.{or-left, or-right}
+use Rattle.line.proofs.Signs.{true-ne-false}
+use Rattle.table.specs.Tree.{Forest, end, leaf, inner, run, after as afterRun, forest, weigh, nodesWhere, leaves}
+use Rattle.table.specs.Table.{Table, tree, nodeLines, complete, readText, greatest, grain}
+use Rattle.table.specs.Accepted.{Rooted}
+use Rattle.table.specs.Root.{playOf}
+use Rattle.table.proofs.Accepted.{accepted-rooted}
+use Rattle.search.specs.Search.{Seen, noPlay, limited, nodeOf, begin, finish, cut, point, unmet, lower, upper, beats, update, stop, scan, search, searchRoot}
+use Rattle.search.specs.Whole.{whole, rules, searched, searchedWithin, downZ, upZ, gainZ, lossZ, inGrains}
+use Rattle.search.proofs.Within.{spent-where, unspent-same, first-reads}
+use Rattle.search_call.specs.declared.Bounds.{Bounds}
+use Rattle.search_call.specs.declared.Bounded.the-variants.{Found, Refused}
+use Rattle.search_call.specs.Call.{badBudget, boundsOf, searchAnswer, withinCall}
+use Rattle.search_call.proofs.Call.{sought-budget, sought-room, sought-fine}
+use Rattle.search_call.proofs.Answered.{answered, answers, reads, answered-within, answers-within, reads-within, default-call, default-reads, unspent-answer}
+use Rattle.demands.specs.Budget.{DefaultBudget, NeverSpent, SpentWhere, UnspentSame, SpentFirst, Unread, RootUnread, SeventeenIs, Budgets, AnswersWithin, Within1, Within2, Within3, budgets, AllKnown}
+use Rattle.demands.proofs.Within.{fine-same, within-kept, within-same, within-turned}
+
+-- ---- budgets in range
+
+-- an accepted one is a count
+budget-is : (b : ℤ) → badBudget b ≡ false → pos (toNat b) ≡ b
+budget-is (pos n) x = refl
+budget-is (negsuc n) x = absurd (true-ne-false (or-left (ltZ (negsuc n) (pos 0)) (ltZ (pos 1024) (negsuc n)) x))
+
+pub in-range : Budgets
+in-range = (λ n l. rw (le-ltb n 0 (omega arith), le-ltb 1024 n l) refl, λ b x. (toNat b, few b x, sym (budget-is b x)))
+  where
+    few : (b : ℤ) → badBudget b ≡ false → toNat b ≤ 1024
+    few (pos n) x = ltb-false 1024 n (or-right (ltZ (pos n) (pos 0)) (ltZ (pos 1024) (pos n)) x)
+    few (negsuc n) x = omega arith
+
+-- ---- against document 01's search
+
+pub default-same : DefaultBudget
+default-same s m room = (sym (default-call s m room), sym (default-reads s m room))
+
+pub never-spent : NeverSpent
+never-spent = unspent-answer
+
+pub spent-exactly : SpentWhere
+spent-exactly s m b room other a c e f =
+    let A = answered-within s m b room a e in
+    let C = answered s m other c f in
+    let ε : ℕ = toNat m in
+    let same : C .table ≡ A .table = fine-same (C .table) (A .table) (sym (C .read) ∙ A .read) in
+    let count : c .leaves ≡ length (searched (A .table) ε .read) =
+    ap (λ (x : Bounds). x .leaves) (C .bounds) ∙ ap (λ (t : Table). length (searched t ε .read)) same in
+    ap (λ (x : Bounds). x .spent) (A .bounds)
+    ∙ spent-where s (A .table) (A .read) ε (toNat b)
+    ∙ ap (ltb (toNat b)) (sym count)
+    ∙ ap (λ (z : ℤ). ltZ z (pos (c .leaves))) (budget-is b (A .budget))
+
+pub unspent-answers : UnspentSame
+unspent-answers s m b room a e z =
+    let A = answered-within s m b room a e in
+    let t : Table = A .table in
+    let found : searchedWithin t (toNat m) (toNat b) ≡ searched t (toNat m) =
+    unspent-same s t (A .read) (toNat m) (toNat b) (sym (ap (λ (x : Bounds). x .spent) (A .bounds)) ∙ z) in (
+      answers s m room t (A .read) (A .margin) (A .long)
+          ∙ ap Found (ap (λ (x : Seen ℤ). boundsOf (record { table = t; seen = x })) (sym found) ∙ sym (A .bounds)),
+      reads s m room t (A .read) (A .margin) (A .long)
+          ∙ sym (ap (λ (x : Seen ℤ). x .read) found)
+          ∙ sym (reads-within s m b room t (A .read) (A .margin) (A .budget) (A .long)),
+    )
+
+-- the first n of more than n numbers are n
+first-length : (n : ℕ) (l : List ℕ) → n < length l → length (take n l) ≡ n
+first-length n l h = length-take n l ∙ omega arith
+
+pub spent-first : SpentFirst
+spent-first s m b room a e z =
+    let A = answered-within s m b room a e in
+    let t : Table = A .table in
+    let n : ℕ = toNat b in
+    let all : List ℕ = searched t (toNat m) .read in
+    let more : n < length all =
+    ltb-true n (length all) (sym (spent-where s t (A .read) (toNat m) n) ∙ sym (ap (λ (x : Bounds). x .spent) (A .bounds)) ∙ z) in
+    let first = first-reads s t (A .read) (toNat m) n in
+    let count : a .leaves ≡ n = ap (λ (x : Bounds). x .leaves) (A .bounds) ∙ ap length first ∙ first-length n all more in (
+      reads-within s m b room t (A .read) (A .margin) (A .budget) (A .long)
+          ∙ first
+          ∙ ap₂ take (sym count) (sym (reads s m room t (A .read) (A .margin) (A .long))),
+      ap pos count ∙ budget-is b (A .budget),
+    )
+
+-- ---- the root met unread
+
+unread-seen : (t : Table) (ε : ℕ) (f : Forest ℤ) → Rooted f
+    → searchRoot whole (rules t ε (limited 0)) (inGrains (grain t) f)
+    ≡ record { low = t .head .lowest *ℤ pos (grain t); high = t .head .highest *ℤ pos (grain t); play = noPlay; read = []; spent = true }
+unfolding searchRoot search unmet inGrains
+unread-seen t ε end r = absurd r
+unread-seen t ε (leaf n w v rest) r = refl
+unread-seen t ε (inner n w k under rest) r = refl
+
+pub root-unread : RootUnread
+root-unread s t m room a p e =
+    let A = answered-within s m (pos 0) room a e in
+    let same : A .table ≡ t = fine-same (A .table) t (sym (A .read) ∙ p) in
+    let seen = unread-seen t (toNat m) (tree t) (accepted-rooted s t p) in
+    let bounds : boundsOf (record { table = t; seen = searchedWithin t (toNat m) 0 }) ≡ a =
+    ap (λ (x : Table). boundsOf (record { table = x; seen = searchedWithin x (toNat m) 0 })) (sym same) ∙ sym (A .bounds) in
+    subst (Unread t) bounds (record {
+      low = ap (λ (x : Seen ℤ). x .low) seen;
+      high = ap (λ (x : Seen ℤ). x .high) seen;
+      play = ap (λ (x : Seen ℤ). playOf (nodeOf (x .play))) seen;
+      leaves = ap (λ (x : Seen ℤ). length (x .read)) seen;
+      spent = ap (λ (x : Seen ℤ). x .spent) seen;
+    })
+
+-- ---- 17
+
+no-seventeen : {P : Type 0} (a : Bounds) → Found a ≡ Refused BadBudget → P
+no-seventeen a e = let z : _≡_ {A = ℕ} 0 1 = cc in absurd (omega arith)
+
+eleven : {P : Type 0} → Refused NoRoom ≡ Refused BadBudget → P
+eleven e = let q : NoRoom ≡ BadBudget = cc in let z : _≡_ {A = ℕ} 11 17 = ap numberOf q in absurd (omega arith)
+
+pub seventeen : SeventeenIs
+seventeen s t m b room p good = (
+  λ bad. ap (λ (v : Verdict Table). withinCall v m b room) p ∙ ap searchAnswer (sought-budget t m b room good bad),
+  λ e. back (badBudget b) (ltb room (leaves (tree t))) refl refl (sym (ap (λ (v : Verdict Table). withinCall v m b room) p) ∙ e),
+)
+  where
+    back : (x y : Bool) → badBudget b ≡ x → ltb room (leaves (tree t)) ≡ y → withinCall (fine t) m b room ≡ Refused BadBudget → x ≡ true
+    back true y bad short e = refl
+    back false true bad short e = eleven (sym (ap searchAnswer (sought-room t m b room good bad (ltb-true room (leaves (tree t)) short))) ∙ e)
+    back false false bad short e = no-seventeen _ (sym (ap searchAnswer (sought-fine t m b room good bad (ltb-false room (leaves (tree t)) short))) ∙ e)
+
+-- ---- demand 3
+
+pub always-answers-within : AnswersWithin
+always-answers-within s t m b room p good over long =
+    (boundsOf (record { table = t; seen = searchedWithin t (toNat m) (toNat b) }), answers-within s m b room t p good over (long t p))
+
+pub within-sentence1 : Within1
+within-sentence1 = within-kept
+
+pub within-sentence2 : Within2
+within-sentence2 = within-same
+
+pub within-sentence3 : Within3
+within-sentence3 = within-turned
+
+-- ---- known answers
+
+pub all-budgets : AllKnown budgets
+unfolding strip digits wholeField signed leading unless unlessAt climb run afterRun forest weigh nodesWhere leaves nodeLines complete readText greatest maxZ minZ floorZ ceilZ begin finish cut point unmet lower upper beats update stop scan search searchRoot downZ upZ gainZ lossZ inGrains
+all-budgets = (refl, refl, (refl, refl, (refl, refl, (refl, refl, (refl, refl, (refl, refl, (refl, refl, (refl, refl, (refl, refl, tt)))))))))
