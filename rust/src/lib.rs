@@ -47,7 +47,7 @@ pub use raw::Record;
 pub use refusal::Refusal;
 pub use report::{Loss, Mark, Position, Report, Tally, places, report};
 pub use rollout::{Rolled, rollout};
-pub use search::{Found, Play, search};
+pub use search::{Found, Play, search, search_within};
 pub use table::{Kind, Node, Table, read};
 pub use turn::{Turned, turn};
 pub use worth::{Worth, exact_worth};
@@ -81,3 +81,6 @@ pub const MOST_CHANCES: usize = 4;
 
 /// The greatest margin, in grains.
 pub const GREATEST_MARGIN: i64 = 40_000_000_000_000;
+
+/// The greatest leaf budget: no table has more leaves, so that it is never spent.
+pub const GREATEST_BUDGET: i64 = 1_024;

@@ -6,7 +6,7 @@
 //! writes nothing. What is written, and where, stands in
 //! `include/margin_engine.h`. Entries past an answer keep what they held.
 //!
-//! The only `unsafe` of this package is here. All seven blocks are sound for the
+//! The only `unsafe` of this package is here. All eight blocks are sound for the
 //! same reasons: the declarations are those of the header, and `Record` has the
 //! layout of its struct; each pointer stands with the length of what it points to;
 //! it comes from a slice and so is not null; and no slice that a call may write
@@ -64,6 +64,17 @@ mod abi {
             text: *const u8,
             text_len: usize,
             margin: i64,
+            leaves: *mut u16,
+            leaves_len: usize,
+            numbers: *mut i64,
+            numbers_len: usize,
+        ) -> u64;
+
+        pub fn margin_search_within(
+            text: *const u8,
+            text_len: usize,
+            margin: i64,
+            budget: i64,
             leaves: *mut u16,
             leaves_len: usize,
             numbers: *mut i64,
@@ -164,14 +175,39 @@ pub fn judge(text: &[u8], number: i64, numbers: &mut [u64]) -> u64 {
 }
 
 /// Searches to this margin, in grains. `numbers`: low, high, the node number of
-/// the play (0 for none), the number of leaves read, G. `leaves`: the node numbers
-/// of the leaves read, in reading sequence.
+/// the play (0 for none), the number of leaves read, G, high minus low, and 0 for a
+/// budget that is not spent. `leaves`: the node numbers of the leaves read, in
+/// reading sequence.
 pub fn search(text: &[u8], margin: i64, leaves: &mut [u16], numbers: &mut [i64]) -> u64 {
     unsafe {
         abi::margin_search(
             text.as_ptr(),
             text.len(),
             margin,
+            leaves.as_mut_ptr(),
+            leaves.len(),
+            numbers.as_mut_ptr(),
+            numbers.len(),
+        )
+    }
+}
+
+/// Searches to this margin, in grains, with at most so many leaves read, 0 to 1,024.
+/// `numbers` and `leaves` as in [`search`]; the last number is 1 where the budget was
+/// spent.
+pub fn search_within(
+    text: &[u8],
+    margin: i64,
+    budget: i64,
+    leaves: &mut [u16],
+    numbers: &mut [i64],
+) -> u64 {
+    unsafe {
+        abi::margin_search_within(
+            text.as_ptr(),
+            text.len(),
+            margin,
+            budget,
             leaves.as_mut_ptr(),
             leaves.len(),
             numbers.as_mut_ptr(),

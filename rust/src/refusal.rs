@@ -121,6 +121,10 @@ impl Refusal {
                 "the play-number line is ill-written, or the file ends in this position",
                 "write the play number right-justified in 4 columns and a newline, then all lines of its table",
             ),
+            17 => (
+                "the budget is not 0 to 1,024 leaves",
+                "give a budget in this range",
+            ),
             20 => (
                 "there is no marking scale of that number",
                 "give 1, the scale of books in print, or 2, that of new books",

@@ -1,4 +1,4 @@
-//! The search to a margin.
+//! The search to a margin, and within a budget of leaf reads.
 
 use crate::MOST_NODES;
 use crate::raw;
@@ -10,13 +10,19 @@ use crate::refusal::{Refusal, answered};
 pub struct Found {
     /// The exact worth is at least this, in grains.
     pub low: i64,
-    /// The exact worth is at most this, in grains; at most the margin above `low`.
+    /// The exact worth is at most this, in grains. Where the budget was not spent, it
+    /// is at most the margin above `low`.
     pub high: i64,
-    /// A play whose worth is within the margin of the best.
+    /// `high` minus `low`.
+    pub difference: i64,
+    /// A play that is worth at least `low` at an M root, at most `high` at an N root.
+    /// Where the budget was not spent, its worth is within the margin of the best.
     pub play: Play,
     /// The node numbers of the leaves read, in reading sequence. The answer is the
     /// same whatever the other leaves are, within the table's ends.
     pub leaves: Vec<usize>,
+    /// Whether the search without a budget reads more leaves than the budget.
+    pub spent: bool,
     /// G, the grains in one point.
     pub per_point: i64,
 }
@@ -32,7 +38,7 @@ pub enum Play {
         /// Its node number.
         node: usize,
     },
-    /// Nobody chooses at a C or L root.
+    /// Nobody chooses at a C or L root, and a budget of 0 enters no child.
     None,
 }
 
@@ -53,20 +59,56 @@ pub enum Play {
 /// # Ok::<(), Box<dyn std::error::Error>>(())
 /// ```
 pub fn search(text: &[u8], margin: i64) -> Result<Found, Refusal> {
-    let mut numbers = [0; 5];
+    let mut numbers = [0; 7];
     let mut leaves = [0; MOST_NODES];
     answered(raw::search(text, margin, &mut leaves, &mut numbers))?;
-    let [low, high, play, read, per_point] = numbers;
-    Ok(Found {
+    Ok(found(text, numbers, &leaves))
+}
+
+/// Searches a table to this margin, in grains, with at most so many leaves read.
+/// Refuses as [`search`] does, and 17 for a budget that is not 0 to
+/// [`GREATEST_BUDGET`](crate::GREATEST_BUDGET).
+///
+/// A budget that is spent keeps neither the margin between the bounds nor that of the
+/// play; the worth still lies between them. One that is not spent changes nothing.
+///
+/// ```
+/// use margin_engine::{Play, search, search_within};
+///
+/// let text = std::fs::read("../examples/a.txt")?;
+/// let found = search_within(&text, 0, 2)?;
+/// assert_eq!((found.low, found.high, found.difference), (3, 10, 7));
+/// assert_eq!(found.play, Play::Child { number: 1, node: 1 });
+/// assert_eq!(found.leaves, [2, 3]); // the first two of three
+/// assert!(found.spent);
+///
+/// assert_eq!(search_within(&text, 0, 3)?, search(&text, 0)?);
+/// assert_eq!(search_within(&text, 0, 1_025).unwrap_err().number, 17);
+/// # Ok::<(), Box<dyn std::error::Error>>(())
+/// ```
+pub fn search_within(text: &[u8], margin: i64, budget: i64) -> Result<Found, Refusal> {
+    let mut numbers = [0; 7];
+    let mut leaves = [0; MOST_NODES];
+    let code = raw::search_within(text, margin, budget, &mut leaves, &mut numbers);
+    answered(code)?;
+    Ok(found(text, numbers, &leaves))
+}
+
+/// What the numbers and the leaf list of an answer say.
+fn found(text: &[u8], numbers: [i64; 7], leaves: &[u16]) -> Found {
+    let [low, high, play, read, per_point, difference, spent] = numbers;
+    Found {
         low,
         high,
+        difference,
         play: match play {
             0 => Play::None,
             node => child(text, node as usize),
         },
-        leaves: nodes(&leaves, read),
+        leaves: nodes(leaves, read),
+        spent: spent == 1,
         per_point,
-    })
+    }
 }
 
 /// The root child with this node number. The engine tells only this, so the table is

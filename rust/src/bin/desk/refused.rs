@@ -23,7 +23,7 @@ impl Refused {
         if let Ok(table) = read(text)
             && spot.line.is_none()
         {
-            spot.detail = question.given(&table);
+            spot.detail = question.given(&refusal, &table);
         }
         Refused {
             refusal,

@@ -45,13 +45,13 @@ impl Question for Asked {
         };
         Ok(Box::new(Judged {
             judgement,
-            played: Played::of(play, &table),
+            played: Played::of(play, &table, "no decision: node 1 is the only play"),
             plays: plays.len(),
             per_point: table.per_point,
         }))
     }
 
-    fn given(&self, table: &Table) -> String {
+    fn given(&self, _: &Refusal, table: &Table) -> String {
         given(&self.number.word, table)
     }
 }

@@ -65,7 +65,7 @@ pub trait Question {
 
     /// Where the table is accepted and the question is refused: what was asked, to be
     /// printed with the reason.
-    fn given(&self, _: &Table) -> String {
+    fn given(&self, _: &Refusal, _: &Table) -> String {
         String::new()
     }
 }
@@ -88,17 +88,19 @@ pub fn formed(answer: &dyn Answer, tsv: bool) -> Vec<u8> {
     page.into_bytes()
 }
 
-/// The play that a verb speaks of; in judging none where there is no decision.
+/// The play that a verb speaks of, if there is one.
 struct Played {
     play: Play,
     /// The root's kind, which says why there is no play where there is none.
     root: Kind,
+    /// Why there is none at an M or N root.
+    none: &'static str,
 }
 
 impl Played {
-    fn of(play: Play, table: &Table) -> Played {
+    fn of(play: Play, table: &Table, none: &'static str) -> Played {
         let root = table.nodes[0].kind;
-        Played { play, root }
+        Played { play, root, none }
     }
 
     fn people(&self, page: &mut Page) {
@@ -110,8 +112,7 @@ impl Played {
                 let why = match self.root {
                     Kind::Chance => "none: nobody chooses at a C root",
                     Kind::Leaf => "none: nobody chooses at an L root",
-                    // In judging alone: a search names it.
-                    Kind::Max | Kind::Min => "no decision: node 1 is the only play",
+                    Kind::Max | Kind::Min => self.none,
                 };
                 page.named("play", why);
             }

@@ -1,17 +1,24 @@
-//! `search MARGIN`: the worth and a play to within a margin.
+//! `search MARGIN`: the worth and a play to within a margin, or as far as a budget of
+//! leaf reads goes.
 
-use margin_engine::{Found, Refusal, Table, read, search};
+use margin_engine::{Found, Refusal, Table, read, search, search_within};
 
 use super::{Answer, Played, Question, Verb};
 use crate::help::MARGINS;
 use crate::input::TABLE;
-use crate::margin::Margin;
+use crate::margin::{Margin, Number};
 use crate::output::{Amount, Page, Sheet};
+
+/// The option that names the budget.
+const BUDGET: &str = "--budget";
+
+/// The refusal of a budget.
+const BAD_BUDGET: u8 = 17;
 
 pub const VERB: Verb = Verb {
     name: "search",
     arguments: "MARGIN",
-    options: &[],
+    options: &[(BUDGET, "N")],
     files: &TABLE,
     does: "finds the worth and a play to within a margin",
     more: &[
@@ -21,26 +28,38 @@ loses at most the margin against the best. Only the leaves listed were read: the
 answer is the same whatever the others are, within the ends. Margin 0 gives the
 exact worth.
 ",
+        "\
+With --budget N, 0 to 1,024, at most N leaves are read. Where that is too few,
+the budget is spent: the worth still lies from low to high, and the play is worth
+at least low at an M root, at most high at an N root, but the margin need not be
+kept.
+",
         MARGINS,
     ],
     ask: |mut words| {
         let margin = words.margin()?;
-        words.about_table(Asked { margin })
+        let budget = words.number_after(BUDGET)?;
+        words.about_table(Asked { margin, budget })
     },
 };
 
 struct Asked {
     margin: Margin,
+    budget: Option<Number>,
 }
 
 impl Question for Asked {
     fn answer(&self, text: &[u8]) -> Result<Box<dyn Answer>, Refusal> {
         let table = read(text)?;
-        Ok(Box::new(Searched::to(&self.margin, text, &table)?))
+        let budget = self.budget.as_ref().map(|budget| budget.value);
+        Ok(Box::new(Searched::to(&self.margin, budget, text, &table)?))
     }
 
-    fn given(&self, table: &Table) -> String {
-        given(&self.margin, table)
+    fn given(&self, refusal: &Refusal, table: &Table) -> String {
+        match &self.budget {
+            Some(budget) if refusal.number == BAD_BUDGET => format!("{} was given", budget.word),
+            _ => given(&self.margin, table),
+        }
     }
 }
 
@@ -57,6 +76,8 @@ pub fn given(margin: &Margin, table: &Table) -> String {
 /// What a search found, and what it is shown with.
 pub struct Searched {
     pub margin: i64,
+    /// How many leaves it was to read at most, if that was said.
+    budget: Option<i64>,
     pub found: Found,
     played: Played,
     /// The table's leaves.
@@ -64,31 +85,47 @@ pub struct Searched {
 }
 
 impl Searched {
-    /// Searches a table to this margin.
-    pub fn to(margin: &Margin, text: &[u8], table: &Table) -> Result<Searched, Refusal> {
+    /// Searches a table to this margin, within this budget if there is one.
+    pub fn to(
+        margin: &Margin,
+        budget: Option<i64>,
+        text: &[u8],
+        table: &Table,
+    ) -> Result<Searched, Refusal> {
         let margin = margin.grains(table.per_point);
-        let found = search(text, margin)?;
+        let found = match budget {
+            Some(budget) => search_within(text, margin, budget)?,
+            None => search(text, margin)?,
+        };
         Ok(Searched {
             margin,
-            played: Played::of(found.play, table),
+            budget,
+            played: Played::of(found.play, table, "none: a budget of 0 reads no leaf"),
             found,
             leaves: table.leaves,
         })
     }
 
-    fn amounts(&self) -> [(&'static str, Amount); 3] {
-        let amount = |grains| Amount::of(grains, self.found.per_point);
-        [
-            ("margin", amount(self.margin)),
-            ("low", amount(self.found.low)),
-            ("high", amount(self.found.high)),
-        ]
+    fn amount(&self, grains: i64) -> Amount {
+        Amount::of(grains, self.found.per_point)
     }
 
     /// The bounds, the play and how much was read.
     pub fn head(&self, page: &mut Page) {
-        for (name, amount) in self.amounts() {
-            page.amount(name, amount);
+        page.amount("margin", self.amount(self.margin));
+        if let Some(budget) = self.budget {
+            let leaves = if budget == 1 { "leaf" } else { "leaves" };
+            let spent = if self.found.spent {
+                "spent"
+            } else {
+                "not spent"
+            };
+            page.named("budget", format_args!("{budget} {leaves}, {spent}"));
+        }
+        page.amount("low", self.amount(self.found.low));
+        page.amount("high", self.amount(self.found.high));
+        if self.budget.is_some() {
+            page.amount("apart", self.amount(self.found.difference));
         }
         self.played.people(page);
         page.leaves(self.found.leaves.len(), self.leaves);
@@ -96,8 +133,14 @@ impl Searched {
 
     /// The bounds and the play.
     pub fn head_tsv(&self, sheet: &mut Sheet) {
-        for (name, amount) in self.amounts() {
-            sheet.amount(name, amount);
+        sheet.amount("margin", self.amount(self.margin));
+        if let Some(budget) = self.budget {
+            sheet.row("budget", &[&budget, &u8::from(self.found.spent)]);
+        }
+        sheet.amount("low", self.amount(self.found.low));
+        sheet.amount("high", self.amount(self.found.high));
+        if self.budget.is_some() {
+            sheet.amount("apart", self.amount(self.found.difference));
         }
         self.played.tsv(sheet);
     }

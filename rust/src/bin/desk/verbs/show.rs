@@ -47,7 +47,7 @@ impl Question for Asked {
     fn answer(&self, text: &[u8]) -> Result<Box<dyn Answer>, Refusal> {
         let table = read(text)?;
         let margin = self.margin.as_ref();
-        let searched = margin.map(|margin| Searched::to(margin, text, &table));
+        let searched = margin.map(|margin| Searched::to(margin, None, text, &table));
         Ok(Box::new(Drawn {
             searched: searched.transpose()?,
             worths: worths(text, &table),
@@ -55,7 +55,7 @@ impl Question for Asked {
         }))
     }
 
-    fn given(&self, table: &Table) -> String {
+    fn given(&self, _: &Refusal, table: &Table) -> String {
         self.margin
             .as_ref()
             .map_or_else(String::new, |margin| given(margin, table))
