@@ -26,7 +26,7 @@ module _ {A : Type 0} (O : Arith A) (R : Rules A) where
   unfolding cut
   few-after e k rest t n h more = choose (λ (r : Seen A). length (r .read) ≤ n) (stop O (R .margin) rest t) (λ _. omega arith) (λ _. more)
 
-  pub few-met : (e : Frame A) (l : List ℕ) (r : Seen A) (n : ℕ) → length l ≤ n → length (r .read) ≤ n → length (met R e l r .read) ≤ n
+  few-met : (e : Frame A) (l : List ℕ) (r : Seen A) (n : ℕ) → length l ≤ n → length (r .read) ≤ n → length (met R e l r .read) ≤ n
   unfolding unmet
   few-met e l r n h more = choose (λ (r : Seen A). length (r .read) ≤ n) (R .full l) (λ _. h) (λ _. more)
 

@@ -1,8 +1,10 @@
 -- The search of an accepted table with a budget, against document 01's search of it. Document 02, Item 3. Assumes nothing.
-use Prim.Native.Nat.{ℕ, _≤_}
-use mathlib.Core.Path.{_≡_, _∙_}
+use Prim.Native.Nat.{ℕ, min, _≤_}
+use mathlib.Core.Path.{_≡_, sym, ap, _∙_}
 use mathlib.Core.Bool.{false}
 use mathlib.Core.List.{List}
+use native.Mathlib.Nat.{min-eq-left, min-eq-right}
+use native.Mathlib.Decide.{decLe}
 use native.Mathlib.Omega.{arith}
 use borrow.Author.Tests.{le-ltb}
 use lib.Dec.{ltb}
@@ -49,7 +51,17 @@ module _ (s : List ℕ) (t : Table) (r : readText s ≡ fine t) (ε b : ℕ) whe
   enough : leaves (tree t) ≤ b → searchedWithin t ε b ≡ searched t ε
   enough h = unspent-same (spent-where ∙ le-ltb b (length (searched t ε .read)) (omega (arith, reads-few s t r ε unlimited)))
 
--- nor is 1,024
+-- so that a budget past a list that has room for them need not be counted
+pub budget-met : (s : List ℕ) (t : Table) (r : readText s ≡ fine t) (ε b room : ℕ) → leaves (tree t) ≤ room
+    → searchedWithin t ε (min b room) ≡ searchedWithin t ε b
+budget-met s t r ε b room h =
+    elim (decLe b room) [
+      | yes l ↦ ap (searchedWithin t ε) (min-eq-left l)
+      | no l ↦ let past : room ≤ b = omega arith in
+          ap (searchedWithin t ε) (min-eq-right past) ∙ enough s t r ε room h ∙ sym (enough s t r ε b (omega arith))
+    ]
+
+-- nor is 1,024 ever spent
 pub greatest-budget : (s : List ℕ) (t : Table) (r : readText s ≡ fine t) (ε : ℕ) → searchedWithin t ε 1024 ≡ searched t ε
 greatest-budget s t r ε =
     enough s t r ε 1024 (omega (arith, accepted-size s t r, accepted-leaves s t r, accepted-leaf-lines s t r))

@@ -1,13 +1,13 @@
 -- What the search of an accepted text gives. Assumes nothing.
-use Prim.Native.Nat.{ℕ, _-_, _≤_, _<_}
-use mathlib.Core.Path.{_≡_, refl, sym, ap, ap₂, _∙_}
+use Prim.Native.Nat.{ℕ, zero, suc, min, _-_, _≤_, _<_}
+use mathlib.Core.Path.{_≡_, refl, sym, ap, ap₂, subst, _∙_}
 use mathlib.Core.Bool.{true, false}
-use mathlib.Core.List.{List, [], _∷_}
+use mathlib.Core.List.{List, [], _∷_, _++_, append-assoc}
 use native.Mathlib.Omega.{arith}
 use borrow.Author.Needs.{sfits-of}
 use borrow.Author.Tests.{lt-ltb, le-ltb, ltb-false}
 use lib.Dec.{ltb}
-use lib.ListN.{length}
+use lib.ListN.{length, take, drop, length-take}
 use lib.IntN.{ℤ, pos, negsuc, _+ℤ_, _-ℤ_, _*ℤ_}
 use lib.Signed.{ltZ}
 use mir.Syntax.{w64}
@@ -29,9 +29,9 @@ use Rattle.scale.specs.Inside.{scaleFor}
 use Rattle.scale.proofs.Taken.{zeros, zeros-enough, Taken, of-table}
 use Rattle.search.specs.Search.{Seen, limited}
 use Rattle.search.specs.Inside.{heightSearched}
-use Rattle.search.specs.Whole.{searched, searchedWithin}
+use Rattle.search.specs.Whole.{searched, searchedUntil, searchedWithin}
 use Rattle.search.proofs.Table.{heights-order, shifted, difference-is}
-use Rattle.search.proofs.Within.{greatest-budget}
+use Rattle.search.proofs.Within.{budget-met, greatest-budget}
 use Rattle.steps.specs.declared.Rule.{Rule}
 use Rattle.steps.specs.declared.Ends.{Ends}
 use Rattle.steps.specs.declared.Found.{Found}
@@ -41,7 +41,7 @@ use Rattle.searching.proofs.Ready.{accepted-search-ready, accepted-searched}
 use Rattle.search_call.specs.Inside.{ruleFor, endsFor}
 use Rattle.search_call.specs.declared.Bounded.{Bounded}
 use Rattle.search_call.specs.declared.Bounded.the-variants.{Found as Given}
-use Rattle.search_call.specs.Call.{badMargin, badBudget, Sought, sought, soughtWithin, searchAnswer, searchList, withinCall, withinReads}
+use Rattle.search_call.specs.Call.{badMargin, badBudget, Sought, sought, soughtWithin, boundsOf, searchAnswer, searchList, withinCall, withinReads}
 
 -- ---- the search's own refusals
 
@@ -106,31 +106,52 @@ module _ {s : List ℕ} {t : Summary} {K S W H : List ℕ} (G : Taken s t K S W 
 pub apart-back : (low high : ℕ) → high ≤ 35184372088832 → {r : ℤ} → r ≡ pos (high - low) → toZ w64 (ofZ w64 r) ≡ pos (high - low)
 apart-back low high h e = ap (λ (z : ℤ). toZ w64 (ofZ w64 z)) e ∙ toZ-ofZ w64 (pos (high - low)) (sfits-of (omega arith))
 
--- g is the rule, and v the ends
-module _ {s : List ℕ} {t : Summary} {K S W H : List ℕ} (G : Taken s t K S W H) (m b : ℤ) (x : badMargin m ≡ false) (y : badBudget b ≡ false)
-    {g : Rule} (isG : g ≡ ruleFor (scaleFor t) m b) {v : Ends} (isV : v ≡ endsFor (scaleFor t)) where
-  pub search-ready : (room : ℕ) → t .leaves ≤ room → ReadyRoot (slices K S W H) g v (t .nodes) room
-  search-ready room enough =
-      rw (isG, isV)
-      (of-table G (λ t K S W H. t .leaves ≤ room → ReadyRoot (slices K S W H) (ruleFor (scaleFor t) m b) (endsFor (scaleFor t)) (t .nodes) room) (λ T p enough.
-      let z = zeros-enough s T p in accepted-search-ready s T p (toNat m) (toNat b) (margin-small m x) zeros zeros zeros zeros z z z z room enough) enough)
+-- as many entries of a list as it has
+pub part-length : (n b : ℕ) (came : List ℕ) → n ≡ min b (length came) → length (take n came) ≡ n
+part-length n b came e = length-take n came ∙ omega arith
 
-  -- f is what `search` gave, with the list as it came and as it is now
-  module _ (f : Found) (came now : List ℕ) (enough : t .leaves ≤ length came) (told : Searched (slices K S W H) g v (t .nodes) f came now) where
+-- a list of which the first n entries were lent and came back with xs
+part-laid : (n : ℕ) (xs came : List ℕ) → length xs ≤ n → laid xs (take n came) ++ drop n came ≡ laid xs came
+part-laid n xs came h = append-assoc xs (drop (length xs) (take n came)) (drop n came) ∙ ap (λ (l : List ℕ). xs ++ l) (rest n (length xs) came h)
+  where
+    rest : (n k : ℕ) (l : List ℕ) → k ≤ n → drop k (take n l) ++ drop n l ≡ drop k l
+    rest zero zero l h = refl
+    rest zero (suc k) l h = absurd (omega arith)
+    rest (suc n) zero [] h = refl
+    rest (suc n) zero (y ∷ l) h = ap (λ (z : List ℕ). y ∷ z) (rest n zero l (omega arith))
+    rest (suc n) (suc k) [] h = refl
+    rest (suc n) (suc k) (y ∷ l) h = rest n k l (omega arith)
+
+-- g is the rule, v the ends, and n how many leaves may be read
+module _ {s : List ℕ} {t : Summary} {K S W H : List ℕ} (G : Taken s t K S W H) (m b : ℤ) (x : badMargin m ≡ false) (y : badBudget b ≡ false)
+    {g : Rule} (isG : g ≡ ruleFor (scaleFor t) m) {v : Ends} (isV : v ≡ endsFor (scaleFor t)) where
+  pub search-ready : ReadyRoot (slices K S W H) g v (t .nodes)
+  search-ready =
+      rw (isG, isV)
+      (of-table G (λ t K S W H. ReadyRoot (slices K S W H) (ruleFor (scaleFor t) m) (endsFor (scaleFor t)) (t .nodes)) (λ T p.
+      let z = zeros-enough s T p in accepted-search-ready s T p (toNat m) (margin-small m x) zeros zeros zeros zeros z z z z))
+
+  -- f is what `search` gave, with the first n entries of the list as they came and as they are now
+  module _ (f : Found) (n : ℕ) (came now : List ℕ) (isN : n ≡ min (toNat b) (length came)) (enough : t .leaves ≤ length came)
+      (told : Searched (slices K S W H) g v (t .nodes) f (take n came) now) where
+    lent : length (take n came) ≡ n
+    lent = part-length n (toNat b) came isN
+
     of-shown : (C : Summary → Type 0)
-        → ((T : Table) → readText s ≡ fine T → leaves (tree T) ≤ length came → Shows (toNat b) f (heightSearched T (toNat m) (limited (toNat b))) came now → C (summary T)) → C t
+        → ((T : Table) → readText s ≡ fine T → leaves (tree T) ≤ length came → Shows f (heightSearched T (toNat m) (limited n)) (take n came) now → C (summary T)) → C t
     of-shown C show =
-        of-table G (λ t K S W H. t .leaves ≤ length came → Searched (slices K S W H) (ruleFor (scaleFor t) m b) (endsFor (scaleFor t)) (t .nodes) f came now → C t) (λ T p few told.
+        of-table G (λ t K S W H. t .leaves ≤ length came → Searched (slices K S W H) (ruleFor (scaleFor t) m) (endsFor (scaleFor t)) (t .nodes) f (take n came) now → C t) (λ T p few told.
         let z = zeros-enough s T p in
-        show T p (rw (accepted-leaves s T p) few) (accepted-searched s T p (toNat m) (toNat b) (margin-small m x) zeros zeros zeros zeros z z z z f came now few told)) enough
+        show T p (rw (accepted-leaves s T p) few)
+        (subst (λ (k : ℕ). Shows f (heightSearched T (toNat m) (limited k)) (take n came) now) lent
+        (accepted-searched s T p (toNat m) (margin-small m x) zeros zeros zeros zeros z z z z f (take n came) now told))) enough
         (rw (isG, isV) at told)
 
-    -- its bounds are at most the top, and it has read no more than the budget
-    pub found-small : (f .low ≤ f .high) × (f .high ≤ 35184372088832) × (f .left ≤ g .budget)
-    found-small = of-shown (λ t. (f .low ≤ f .high) × (f .high ≤ 35184372088832) × (f .left ≤ g .budget)) (λ T p few w.
-        let h = heights-order s T p (toNat m) (limited (toNat b)) in
-        let budget : g .budget ≡ toNat b = ap (λ (r : Rule). r .budget) isG in
-        (omega (arith, w .low, w .high, h .0), omega (arith, w .high, h .1, span-grains s T p), omega (arith, w .reads)))
+    -- its bounds are at most the top, and it has read no more than it may
+    pub found-small : (f .low ≤ f .high) × (f .high ≤ 35184372088832) × (f .left ≤ n)
+    found-small = of-shown (λ t. (f .low ≤ f .high) × (f .high ≤ 35184372088832) × (f .left ≤ n)) (λ T p few w.
+        let h = heights-order s T p (toNat m) (limited n) in
+        (omega (arith, w .low, w .high, h .0), omega (arith, w .high, h .1, span-grains s T p), omega (arith, w .reads, lent)))
 
     abbrev gives : Summary → Bounded
     gives t =
@@ -139,20 +160,23 @@ module _ {s : List ℕ} {t : Summary} {K S W H : List ℕ} (G : Taken s t K S W 
           high = t .lowest *ℤ pos (t .grain) +ℤ pos (f .high);
           difference = pos (f .high - f .low);
           play = playOf (playAt (f .play));
-          leaves = g .budget - f .left;
+          leaves = n - f .left;
           spent = f .spent;
           grain = t .grain;
         })
 
+    -- reading no more than the list holds is the search within the budget
+    seen-within : (T : Table) → readText s ≡ fine T → leaves (tree T) ≤ length came → searchedUntil T (toNat m) (limited n) ≡ searchedWithin T (toNat m) (toNat b)
+    seen-within T p few = ap (λ (k : ℕ). searchedWithin T (toNat m) k) isN ∙ budget-met s T p (toNat m) (toNat b) (length came) few
+
     pub given-at : gives t ≡ withinCall (readText s) m b (length came)
     given-at =
         of-shown (λ t. gives t ≡ withinCall (readText s) m b (length came)) (λ T p few w.
-        let (low, high, play, read, spent) = shifted s T p (toNat m) (limited (toNat b)) in
+        let (low, high, play, read, spent) = shifted s T p (toNat m) (limited n) in
         let base : ℤ = T .head .lowest *ℤ pos (grain T) in
-        let is-low = ap (λ (n : ℕ). base +ℤ pos n) (w .low) ∙ sym low in
-        let is-high = ap (λ (n : ℕ). base +ℤ pos n) (w .high) ∙ sym high in
-        let budget : g .budget ≡ toNat b = ap (λ (r : Rule). r .budget) isG in
-        let count : g .budget - f .left ≡ length (heightSearched T (toNat m) (limited (toNat b)) .read) = omega (arith, w .reads) in
+        let is-low = ap (λ (k : ℕ). base +ℤ pos k) (w .low) ∙ sym low in
+        let is-high = ap (λ (k : ℕ). base +ℤ pos k) (w .high) ∙ sym high in
+        let count : n - f .left ≡ length (heightSearched T (toNat m) (limited n) .read) = omega (arith, w .reads, lent) in
         ap Given (λ i. record {
           low = is-low i;
           high = is-high i;
@@ -162,10 +186,13 @@ module _ {s : List ℕ} {t : Summary} {K S W H : List ℕ} (G : Taken s t K S W 
           spent = (w .spent ∙ sym spent) i;
           grain = grain T;
         })
+        ∙ ap (λ (r : Seen ℤ). Given (boundsOf (record { table = T; seen = r }))) (seen-within T p few)
         ∙ sym (ap searchAnswer (ap (λ (v : Verdict Table). soughtWithin v m b (length came)) p ∙ sought-fine T m b (length came) x y few)))
 
-    pub reads-at : now ≡ laid (withinReads (readText s) m b (length came)) came
-    reads-at = of-shown (λ t. now ≡ laid (withinReads (readText s) m b (length came)) came) (λ T p few w.
-        let (low, high, play, read, spent) = shifted s T p (toNat m) (limited (toNat b)) in
-        w .leaves
-        ∙ ap (λ (l : List ℕ). laid l came) (sym read ∙ sym (ap searchList (ap (λ (v : Verdict Table). soughtWithin v m b (length came)) p ∙ sought-fine T m b (length came) x y few))))
+    pub reads-at : now ++ drop n came ≡ laid (withinReads (readText s) m b (length came)) came
+    reads-at = of-shown (λ t. now ++ drop n came ≡ laid (withinReads (readText s) m b (length came)) came) (λ T p few w.
+        let (low, high, play, read, spent) = shifted s T p (toNat m) (limited n) in
+        ap (λ (l : List ℕ). l ++ drop n came) (w .leaves)
+        ∙ part-laid n (heightSearched T (toNat m) (limited n) .read) came (omega (arith, w .reads, lent))
+        ∙ ap (λ (l : List ℕ). laid l came) (sym read ∙ ap (λ (r : Seen ℤ). r .read) (seen-within T p few)
+        ∙ sym (ap searchList (ap (λ (v : Verdict Table). soughtWithin v m b (length came)) p ∙ sought-fine T m b (length came) x y few))))

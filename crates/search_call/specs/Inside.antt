@@ -6,8 +6,8 @@ use Rattle.steps.specs.declared.Rule.{Rule}
 use Rattle.steps.specs.declared.Ends.{Ends}
 
 -- the numbers that a search goes by
-abbrev pub ruleFor : Scale → (margin budget : ℤ) → Rule
-ruleFor s margin budget = record { margin = toNat margin; grain = s .grain; budget = toNat budget }
+abbrev pub ruleFor : Scale → ℤ → Rule
+ruleFor s margin = record { margin = toNat margin; grain = s .grain }
 
 -- the ends of a table, in grains above the lowest
 abbrev pub endsFor : Scale → Ends

@@ -1,8 +1,9 @@
 // The public calls of the bounded search, with a leaf budget and without. They take any input, and end with an answer or a refusal.
 ghost use mathlib.Core.Path.{_≡_};
-ghost use Prim.Native.Nat.{_-_, _≤_};
+ghost use Prim.Native.Nat.{_-_, min, _≤_};
 ghost use lib.ListN.{length};
 ghost use lib.IntN.{pos};
+ghost use Rattle.line.specs.Line.{toNat};
 ghost use Rattle.table.specs.Table.{readText};
 ghost use Rattle.table.specs.Slices.{laid};
 ghost use Rattle.table.specs.Root.{playOf};
@@ -47,14 +48,21 @@ fn is_bad_budget(budget: i64) -> bool
 }
 
 // The numbers that a search goes by.
-fn rule_of(s: Scale, margin: i64, budget: i64) -> Rule
-    ensures { λ r. ⌜ r ≡ ruleFor s margin budget ⌝ }
+fn rule_of(s: Scale, margin: i64) -> Rule
+    ensures { λ r. ⌜ r ≡ ruleFor s margin ⌝ }
 {
     Rule {
         margin: line::natural(margin),
         grain: s.grain,
-        budget: line::natural(budget) as usize,
     }
+}
+
+// How many leaves may be read: the budget, or as many as the list has room for where that is less. The table has no more leaves than that.
+fn reads_of(budget: i64, room: usize) -> usize
+    ensures { λ r. ⌜ r ≡ min (toNat budget) room ⌝ }
+{
+    let b = line::natural(budget) as usize;
+    if b < room { b } else { room }
 }
 
 // The ends of a table.
@@ -108,13 +116,23 @@ pub fn search_within(text: &[u8], margin: i64, budget: i64, leaves: &mut [u16]) 
                 return Bounded::Refused(Refusal::NoRoom);
             }
             let s = scale::scale_of(t);
-            let g = rule_of(s, margin, budget);
+            let g = rule_of(s, margin);
             let v = ends_of(s);
-            let f = searching::search(&kind, &stop, &weight, &height, leaves, t.nodes, g, v);
+            let n = reads_of(budget, leaves.len());
+            let f = searching::search(
+                &kind,
+                &stop,
+                &weight,
+                &height,
+                &mut leaves[..n],
+                t.nodes,
+                g,
+                v,
+            );
             let low = scale::in_grains(t.lowest, t.grain, f.low);
             let high = scale::in_grains(t.lowest, t.grain, f.high);
             let difference = apart(f.low, f.high);
-            let read = g.budget - f.left;
+            let read = n - f.left;
             Bounded::Found(Bounds {
                 low: low,
                 high: high,

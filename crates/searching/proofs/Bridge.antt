@@ -119,7 +119,7 @@ limited-behind left budget l q m =
 -- what the first node gives in the window w, where it is entered with so many reads left
 abbrev pub nodeSeen : Rule → Ends → (left : ℕ) → Forest ℕ → Window → Seen ℕ
 nodeSeen g v left end w = record { low = 0; high = 0; play = noPlay; read = []; spent = false }
-nodeSeen g v left (leaf n x h rest) w = leafSeen g v left n (h * g .grain)
+nodeSeen g v left (leaf n x h rest) w = leafSeen v left n (h * g .grain)
 nodeSeen g v left (inner n x j under rest) w = seenIn g v left j under w
 
 lower-lift : (e : Frame ℕ) (k : Kind) (w : ℕ) (s : State) (p : Play ℕ) (l : List ℕ) (x : Bool) → lower natural e k w (lift s p l x) ≡ windowFor e k w s .alpha
@@ -156,7 +156,7 @@ module _ (g : Rule) (v : Ends) (left budget : ℕ) (l : List ℕ) (q : left + le
   scan-step N k end s p x some = absurd (true-ne-false some)
   scan-step N k (leaf n w h rest) s p x some =
       let e : Frame ℕ = frameAt v N in
-      let C : Seen ℕ = leafSeen g v left n (h * g .grain) in
+      let C : Seen ℕ = leafSeen v left n (h * g .grain) in
       ap (λ (y : Seen ℕ). seenAfter natural (rulesOf g v budget) e k (grained (g .grain) rest) (update natural e k n w (lift s p l x) y))
       (met-behind e (point n (h * g .grain) []) (point n (h * g .grain) l) refl)
       ∙ ap (seenAfter natural (rulesOf g v budget) e k (grained (g .grain) rest)) (update-lift e k n w s p l x (ahead l C))

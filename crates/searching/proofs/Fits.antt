@@ -1,20 +1,18 @@
 -- Nodes that can be searched are what the laws of the search ask for; what the search of one gives. Assumes nothing.
-use Prim.Native.Nat.{ℕ, _+_, _*_, _≤_}
+use Prim.Native.Nat.{ℕ, _+_, _*_}
 use mathlib.Core.Path.{_≡_, refl, sym, ap, _∙_}
 use mathlib.Core.Bool.{false}
 use mathlib.Core.List.{[]}
 use native.Mathlib.Nat.{le-refl}
 use native.Mathlib.Omega.{arith}
-use lib.ListN.{length}
 use Rattle.line.proofs.Signs.{true-ne-false}
 use Rattle.table.specs.Tree.{Kind, MAX, MIN, CHANCE, Forest, end, leaf, inner, isEnd, weigh}
-use Rattle.table.proofs.Nodes.{restOf, weightOf, ownLeaves, weigh-split}
-use Rattle.search.specs.Search.{Frame, State, Rules, begin, point, scan, framed}
+use Rattle.table.proofs.Nodes.{restOf, weightOf, weigh-split}
+use Rattle.search.specs.Search.{Frame, Rules, begin, point, scan, framed}
 use Rattle.search.specs.Inside.{natural, grained}
 use Rattle.search.proofs.Heights.{Sound, Within}
 use Rattle.search.proofs.Contain.{Holding, hold-point, hold-met, contained}
-use Rattle.search.proofs.Grains.{grained-leaves, grained-weigh}
-use Rattle.search.proofs.Few.{few-met, few-scan}
+use Rattle.search.proofs.Grains.{grained-weigh}
 use Rattle.steps.specs.declared.Rule.{Rule}
 use Rattle.steps.specs.declared.Ends.{Ends}
 use Rattle.steps.specs.declared.Window.{Window}
@@ -71,15 +69,3 @@ module _ (g : Rule) (v : Ends) where
           hold-met R d [] _ (scan natural R d j u (begin d j (y .alpha) (y .beta) []))
               (contained R d j u (y .alpha) (y .beta) [] (fit-sound j under (f .1) (f .3)) (fit-within left (d .total) j under (f .3))),
         )
-
-  -- at most as many leaves are read as it has
-  pub node-few : (left : ℕ) (F : Forest ℕ) (y : Window) → length (nodeSeen g v left F y .read) ≤ ownLeaves F
-  unfolding point begin
-  node-few left end y = omega arith
-  node-few left (leaf n w h rest) y = few-met natural (rulesOf g v left) (frameAt v 0) [] (point n (h * g .grain) []) _ (omega arith) (omega arith)
-  node-few left (inner n w j under rest) y =
-      let R : Rules ℕ = rulesOf g v left in
-      let u : Forest ℕ = grained (g .grain) under in
-      let d : Frame ℕ = framed (v .bottom) (v .top) u in
-      let s : State ℕ = begin d j (y .alpha) (y .beta) [] in
-      few-met natural R d [] (scan natural R d j u s) _ (omega arith) (omega (arith, few-scan natural R d j u s, grained-leaves (g .grain) under))

@@ -9,10 +9,10 @@ use lib.ListN.{length}
 use Rattle.line.specs.Inside.{Weighs}
 use Rattle.line.specs.Refusal.{fine}
 use Rattle.table.specs.Tree.{Kind, MAX, Forest, end, leaf, inner, isChance}
-use Rattle.table.specs.Table.{Table, readText, greatest, leafLines, grain}
+use Rattle.table.specs.Table.{Table, readText, greatest, grain}
 use Rattle.table.specs.Inside.{lent, heightTree}
 use Rattle.table.specs.Accepted.{span, Filled, Balanced, Proper}
-use Rattle.table.proofs.Accepted.{accepted-ranged, accepted-grain, accepted-lent, accepted-holds, heights-rooted, heights-proper, heights-filled, heights-balanced, heights-leaves}
+use Rattle.table.proofs.Accepted.{accepted-ranged, accepted-grain, accepted-lent, accepted-holds, heights-rooted, heights-proper, heights-filled, heights-balanced}
 use Rattle.table.proofs.Ends.{span-grains}
 use Rattle.search.specs.Search.{limited}
 use Rattle.search.specs.Inside.{heightSearched}
@@ -21,9 +21,9 @@ use Rattle.steps.specs.declared.Ends.{Ends}
 use Rattle.steps.specs.declared.Found.{Found}
 use Rattle.searching.specs.Inside.{Pays, Fit, ReadyRoot, Shows, Searched}
 
--- the numbers of a table, the margin and the budget
-abbrev pub ruleOf : Table → (ε budget : ℕ) → Rule
-ruleOf t ε budget = record { margin = ε; grain = grain t; budget = budget }
+-- the numbers of a table, and the margin
+abbrev pub ruleOf : Table → ℕ → Rule
+ruleOf t ε = record { margin = ε; grain = grain t }
 
 abbrev pub endsOf : Table → Ends
 endsOf t = record { bottom = 0; top = span (t .head) * grain t }
@@ -40,23 +40,22 @@ module _ (g : Rule) (T K S : ℕ) (few : T ≤ 64) where
   fits k d c (inner n w j under rest) f b p =
       (pays k T w (p .0), f .0, (λ e. omega (arith, b .0 e)), fits j (suc d) _ under (f .1) (b .1) (p .3), fits k d c rest (f .2) (b .2) (p .4))
 
-module _ (s : List ℕ) (t : Table) (h : readText s ≡ fine t) (ε budget : ℕ) (small : ε ≤ 40000000000000) (K S W H : List ℕ)
+module _ (s : List ℕ) (t : Table) (h : readText s ≡ fine t) (ε : ℕ) (small : ε ≤ 40000000000000) (K S W H : List ℕ)
     (roomK : length (t .lines) ≤ length K) (roomS : length (t .lines) ≤ length S) (roomW : length (t .lines) ≤ length W) (roomH : length (t .lines) ≤ length H) where
-  pub accepted-search-ready : (room : ℕ) → leafLines (t .lines) ≤ room → ReadyRoot (lent t K S W H) (ruleOf t ε budget) (endsOf t) (length (t .lines)) room
-  accepted-search-ready room enough =
+  pub accepted-search-ready : ReadyRoot (lent t K S W H) (ruleOf t ε) (endsOf t) (length (t .lines))
+  accepted-search-ready =
       record {
         nodes = heightTree t;
         spans = accepted-lent s t h K S W H roomK roomS roomW roomH;
         rooted = heights-rooted s t h;
-        fit = fits (ruleOf t ε budget) (t .head .total) (greatest (t .lines)) (span (t .head)) (accepted-ranged s t h .total) MAX 0 0 (heightTree t) (heights-filled s t h) (heights-balanced s t h) (heights-proper s t h);
+        fit = fits (ruleOf t ε) (t .head .total) (greatest (t .lines)) (span (t .head)) (accepted-ranged s t h .total) MAX 0 0 (heightTree t) (heights-filled s t h) (heights-balanced s t h) (heights-proper s t h);
         ends = record { order = omega arith; top = omega (arith, span-grains s t h) };
         rule = record { margin = small; grain = accepted-grain s t h };
         holds = accepted-holds s t h K S W H roomK roomS roomW roomH;
-        space = omega (arith, heights-leaves s t h);
       }
 
-  -- what was found is the search of the table
-  pub accepted-searched : (r : Found) (came now : List ℕ) → leafLines (t .lines) ≤ length came
-      → Searched (lent t K S W H) (ruleOf t ε budget) (endsOf t) (length (t .lines)) r came now → Shows budget r (heightSearched t ε (limited budget)) came now
+  -- what was found is the search of the table, within a budget of as many reads as the list has entries
+  pub accepted-searched : (r : Found) (came now : List ℕ) → Searched (lent t K S W H) (ruleOf t ε) (endsOf t) (length (t .lines)) r came now
+      → Shows r (heightSearched t ε (limited (length came))) came now
   unfolding accepted-search-ready
-  accepted-searched r came now enough told = told (accepted-search-ready (length came) enough)
+  accepted-searched r came now told = told accepted-search-ready

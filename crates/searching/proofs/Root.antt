@@ -9,7 +9,7 @@ use Rattle.table.specs.Tree.{MAX, Forest, end, leaf, inner}
 use Rattle.table.specs.Inside.{Slices}
 use Rattle.table.specs.Slices.{laid}
 use Rattle.table.specs.Accepted.{Rooted}
-use Rattle.table.proofs.Nodes.{leaves-split, root-stop, root-some}
+use Rattle.table.proofs.Nodes.{root-stop, root-some}
 use Rattle.search.specs.Search.{Seen, unmet, search, searchRoot}
 use Rattle.search.specs.Inside.{natural, grained}
 use Rattle.steps.specs.declared.Rule.{Rule}
@@ -19,7 +19,6 @@ use Rattle.steps.specs.declared.Found.{Found}
 use Rattle.steps.specs.Inside.{rulesOf, putFrom, Gives}
 use Rattle.searching.specs.Inside.{ReadyRoot, Shows, Searched}
 use Rattle.searching.proofs.Bridge.{nodeSeen}
-use Rattle.searching.proofs.Fits.{node-few}
 use Rattle.searching.proofs.Rules.{NodeTold, ReadyNode}
 
 -- ---- a list written from its front
@@ -41,9 +40,9 @@ put-laid (y ∷ l) (x ∷ xs) h = put-later x l 0 xs ∙ ap (λ (z : List ℕ). 
 abbrev pub rootWindow : Ends → Window
 rootWindow v = record { alpha = v .bottom; beta = v .top }
 
-module _ {t : Slices} {g : Rule} {v : Ends} {n room : ℕ} (R : ReadyRoot t g v n room) where
-  pub root-ready : ReadyNode t g v (rootWindow v) 0 n (g .budget) room
-  root-ready =
+module _ {t : Slices} {g : Rule} {v : Ends} {n : ℕ} (R : ReadyRoot t g v n) where
+  pub root-ready : (room : ℕ) → ReadyNode t g v (rootWindow v) 0 n room room
+  root-ready room =
       record {
         nodes = R .nodes;
         parent = MAX;
@@ -57,8 +56,7 @@ module _ {t : Slices} {g : Rule} {v : Ends} {n room : ℕ} (R : ReadyRoot t g v 
         alpha = omega (arith, R .ends .order, R .ends .top);
         beta = R .ends .top;
         holds = R .holds;
-        within = le-refl (g .budget);
-        space = omega (arith, R .space);
+        within = le-refl room;
       }
 
   pub root-long : (0 < length (t .kinds)) × (0 < length (t .heights))
@@ -66,30 +64,28 @@ module _ {t : Slices} {g : Rule} {v : Ends} {n room : ℕ} (R : ReadyRoot t g v 
       let x = root-some t n (R .nodes) (R .spans) (R .rooted) in
       (omega (arith, x, R .holds .kinds), omega (arith, x, R .holds .heights))
 
-root-is : (g : Rule) (v : Ends) (F : Forest ℕ) → Rooted F → searchRoot natural (rulesOf g v (g .budget)) (grained (g .grain) F) ≡ nodeSeen g v (g .budget) F (rootWindow v)
+root-is : (g : Rule) (v : Ends) (left : ℕ) (F : Forest ℕ) → Rooted F → searchRoot natural (rulesOf g v left) (grained (g .grain) F) ≡ nodeSeen g v left F (rootWindow v)
 unfolding grained searchRoot search unmet
-root-is g v end r = absurd r
-root-is g v (leaf i w h rest) r = refl
-root-is g v (inner i w k under rest) r = refl
+root-is g v left end r = absurd r
+root-is g v left (leaf i w h rest) r = refl
+root-is g v left (inner i w k under rest) r = refl
 
-shown : (g : Rule) (r : Found) (a : Seen ℕ) (came now : List ℕ) → length (a .read) ≤ length came → Gives g (g .budget) r a came now
-    → Shows (g .budget) r a came now
-shown g r a came now few G =
-    let front : g .budget - g .budget ≡ 0 = omega arith in
+shown : (r : Found) (a : Seen ℕ) (came now : List ℕ) → Gives (length came) r a came now → Shows r a came now
+shown r a came now G =
+    let front : length came - length came ≡ 0 = omega arith in
     record {
       low = G .low;
       high = G .high;
       play = G .play;
       reads = G .reads;
       spent = G .spent;
-      leaves = G .leaves ∙ ap (λ (n : ℕ). putFrom came n (a .read)) front ∙ put-laid came (a .read) few;
+      leaves = G .leaves ∙ ap (λ (n : ℕ). putFrom came n (a .read)) front ∙ put-laid came (a .read) (omega (arith, G .reads));
     }
 
 -- what is told of the root is the search of the table
-pub root-searched : {t : Slices} {g : Rule} {v : Ends} {n : ℕ} {r : Found} {came now : List ℕ} → NodeTold t g v (rootWindow v) 0 (g .budget) r came now
+pub root-searched : {t : Slices} {g : Rule} {v : Ends} {n : ℕ} {r : Found} {came now : List ℕ} → NodeTold t g v (rootWindow v) 0 (length came) r came now
     → Searched t g v n r came now
 root-searched {t} {g} {v} {n} {r} {came} {now} T R =
     let F = R .nodes in
-    rw (root-is g v F (R .rooted))
-    (shown g r (nodeSeen g v (g .budget) F (rootWindow v)) came now (omega (arith, node-few g v (g .budget) F (rootWindow v), leaves-split F, R .space))
-    (T .tells F n (R .spans) (root-some t n F (R .spans) (R .rooted))))
+    rw (root-is g v (length came) F (R .rooted))
+    (shown r (nodeSeen g v (length came) F (rootWindow v)) came now (T .tells F n (R .spans) (root-some t n F (R .spans) (R .rooted))))

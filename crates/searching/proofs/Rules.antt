@@ -11,7 +11,7 @@ use borrow.Author.Tests.{lt-leb}
 use Rattle.line.proofs.Signs.{true-ne-false}
 use Rattle.table.specs.Tree.{Kind, MAX, MIN, CHANCE, Forest, end, leaf, inner, codeOf, isEnd, weigh, leaves}
 use Rattle.table.specs.Inside.{Slices, Spans, Holds}
-use Rattle.table.proofs.Nodes.{code-inj, code-pos, stopOf, restOf, numberOf, weightOf, leaves-split, weigh-split, Step, step, spans-last, spans-more, spans-lt, spans-same}
+use Rattle.table.proofs.Nodes.{code-inj, code-pos, stopOf, restOf, numberOf, weightOf, weigh-split, Step, step, spans-last, spans-more, spans-lt, spans-same}
 use Rattle.runs.specs.Inside.{weighAt}
 use Rattle.runs.proofs.Scan.{spans-weigh}
 use Rattle.search.specs.Search as alg
@@ -29,7 +29,7 @@ use Rattle.steps.specs.declared.Found.{Found}
 use Rattle.steps.specs.Inside.{frameAt, lift, windowFor, after, stops, rulesOf, putFrom, Gives, unmetIn, leafSeen, limit, OkEnds, OkState}
 use Rattle.searching.specs.Inside.{seenIn, OkRule, Light, Fit, ReadyChildren, Told}
 use Rattle.searching.proofs.Bridge.{ahead, nodeSeen, update-lift, scan-step, Plays, plays-number, plays-after}
-use Rattle.searching.proofs.Fits.{grained-split, fit-rest, fit-weight, fit-sound, node-holds, node-few}
+use Rattle.searching.proofs.Fits.{grained-split, fit-rest, fit-weight, fit-sound, node-holds}
 
 -- ---- the list
 
@@ -52,7 +52,7 @@ cond-later b x y e = rw e refl
 
 -- what is told of the node at entry c, searched in the window w: its result r, and the list as it came and as it is now
 pub record NodeTold (t : Slices) (g : Rule) (v : Ends) (w : Window) (c left : ℕ) (r : Found) (came now : List ℕ) : Type 0 where
-  pub tells : (F : Forest ℕ) (e : ℕ) → Spans t c e F → c < e → Gives g left r (nodeSeen g v left F w) came now
+  pub tells : (F : Forest ℕ) (e : ℕ) → Spans t c e F → c < e → Gives left r (nodeSeen g v left F w) came now
 
 -- the node at entry c, with its later siblings, can be searched in the window w; its run goes up to x
 pub record ReadyNode (t : Slices) (g : Rule) (v : Ends) (w : Window) (c x left room : ℕ) : Type 0 where
@@ -68,8 +68,7 @@ pub record ReadyNode (t : Slices) (g : Rule) (v : Ends) (w : Window) (c x left r
   pub alpha : w .alpha ≤ limit
   pub beta : w .beta ≤ limit
   pub holds : Holds t x
-  pub within : left ≤ g .budget
-  pub space : g .budget - left + leaves nodes ≤ room
+  pub within : left ≤ room
 
 code-three : (j : Kind) → (codeOf j ≡ 1 → ⊥) → (codeOf j ≡ 2 → ⊥) → codeOf j ≡ 3
 code-three MAX p q = absurd (p refl)
@@ -83,21 +82,21 @@ spans-three t c e end h lt p q r = absurd (omega arith)
 spans-three t c e (leaf i w x rest) h lt p q r = absurd (p (h .1))
 spans-three t c e (inner i w j under rest) h lt p q r = h .1 ∙ code-three j (λ z. q (h .1 ∙ z)) (λ z. r (h .1 ∙ z))
 
--- a leaf, its height and the room for it
+-- a leaf's height
 spans-leaf : (t : Slices) (g : Rule) (v : Ends) (k : Kind) (c e : ℕ) (F : Forest ℕ) → Spans t c e F → c < e → Fit g v k F → getD (t .kinds) c 0 ≡ 0
-    → (getD (t .heights) c 0 * g .grain ≤ v .top) × (0 < leaves F)
-unfolding Spans Fit leaves
+    → getD (t .heights) c 0 * g .grain ≤ v .top
+unfolding Spans Fit
 spans-leaf t g v k c e end h lt f z = absurd (omega arith)
-spans-leaf t g v k c e (leaf i w x rest) h lt f z = (subst (λ (n : ℕ). n * g .grain ≤ v .top) (sym (h .4)) (f .2), omega arith)
+spans-leaf t g v k c e (leaf i w x rest) h lt f z = subst (λ (n : ℕ). n * g .grain ≤ v .top) (sym (h .4)) (f .2)
 spans-leaf t g v k c e (inner i w j under rest) h lt f z = absurd (omega (arith, code-pos j, h .1))
 
 module _ (t : Slices) (g : Rule) (v : Ends) (w : Window) (c x left room : ℕ) where
   ready-under : (k j : Kind) (e : ℕ) (F : Forest ℕ) → Spans t c e F → Fit g v k F → c < e → getD (t .kinds) c 0 ≡ codeOf j → stopOf t c ≡ x
-      → OkEnds v → OkRule g → w .alpha ≤ limit → w .beta ≤ limit → Holds t x → left ≤ g .budget → g .budget - left + leaves F ≤ room → ReadyChildren t g v j w (c + 1) x left room
-  unfolding Spans Fit leaves
-  ready-under k j e end h f lt z q o o2 p p′ tb le sp = absurd (omega arith)
-  ready-under k j e (leaf i y u rest) h f lt z q o o2 p p′ tb le sp = absurd (omega (arith, code-pos j, h .1))
-  ready-under k j e (inner i y j′ under rest) h f lt z q o o2 p p′ tb le sp =
+      → OkEnds v → OkRule g → w .alpha ≤ limit → w .beta ≤ limit → Holds t x → left ≤ room → ReadyChildren t g v j w (c + 1) x left room
+  unfolding Spans Fit
+  ready-under k j e end h f lt z q o o2 p p′ tb le = absurd (omega arith)
+  ready-under k j e (leaf i y u rest) h f lt z q o o2 p p′ tb le = absurd (omega (arith, code-pos j, h .1))
+  ready-under k j e (inner i y j′ under rest) h f lt z q o o2 p p′ tb le =
       let same : j′ ≡ j = code-inj j′ j (sym (h .1) ∙ z) in
       let isU : Spans t (c + 1) x under = subst (λ (n : ℕ). Spans t (c + 1) n under) q (h .3) in
       record {
@@ -113,47 +112,45 @@ module _ (t : Slices) (g : Rule) (v : Ends) (w : Window) (c x left room : ℕ) w
         beta = p′;
         holds = tb;
         within = le;
-        space = omega arith;
       }
 
 module _ {t : Slices} {g : Rule} {v : Ends} {w : Window} {c x left room : ℕ} (N : ReadyNode t g v w c x left room) where
   pub ready-inner : (j : Kind) → getD (t .kinds) c 0 ≡ codeOf j → ReadyChildren t g v j w (c + 1) x left room
   ready-inner j z =
-      ready-under t g v w c x left room (N .parent) j (N .upto) (N .nodes) (N .spans) (N .fit) (N .some) z (N .stop) (N .ends) (N .rule) (N .alpha) (N .beta) (N .holds) (N .within) (N .space)
+      ready-under t g v w c x left room (N .parent) j (N .upto) (N .nodes) (N .spans) (N .fit) (N .some) z (N .stop) (N .ends) (N .rule) (N .alpha) (N .beta) (N .holds) (N .within)
 
   -- y is the kind that was read
   pub ready-three : (y : ℕ) → y ≡ getD (t .kinds) c 0 → (y ≡ 0 → ⊥) → (y ≡ 1 → ⊥) → (y ≡ 2 → ⊥) → getD (t .kinds) c 0 ≡ 3
   ready-three y q n0 n1 n2 = spans-three t c (N .upto) (N .nodes) (N .spans) (N .some) (λ z. n0 (q ∙ z)) (λ z. n1 (q ∙ z)) (λ z. n2 (q ∙ z))
 
-  pub ready-leaf : getD (t .kinds) c 0 ≡ 0 → (g .budget - left < room) × (getD (t .heights) c 0 * g .grain < 9223372036854775808)
+  pub ready-leaf : getD (t .kinds) c 0 ≡ 0 → getD (t .heights) c 0 * g .grain < 9223372036854775808
   ready-leaf z =
-      let L = spans-leaf t g v (N .parent) c (N .upto) (N .nodes) (N .spans) (N .some) (N .fit) z in
-      (omega (arith, L .1, N .space), omega (arith, L .0, N .ends .top))
+      omega (arith, spans-leaf t g v (N .parent) c (N .upto) (N .nodes) (N .spans) (N .some) (N .fit) z, N .ends .top)
 
 -- what is told of a leaf, and of an inner node from what is told of its children
 module _ (t : Slices) (g : Rule) (v : Ends) (w : Window) (c left : ℕ) (came : List ℕ) where
-  leaf-gives : (r : Found) (now : List ℕ) → getD (t .kinds) c 0 ≡ 0 → Gives g left r (leafSeen g v left c (getD (t .heights) c 0 * g .grain)) came now
-      → (F : Forest ℕ) (e : ℕ) → Spans t c e F → c < e → Gives g left r (nodeSeen g v left F w) came now
+  leaf-gives : (r : Found) (now : List ℕ) → getD (t .kinds) c 0 ≡ 0 → Gives left r (leafSeen v left c (getD (t .heights) c 0 * g .grain)) came now
+      → (F : Forest ℕ) (e : ℕ) → Spans t c e F → c < e → Gives left r (nodeSeen g v left F w) came now
   unfolding Spans point putFrom
   leaf-gives r now z L end e is lt = absurd (omega arith)
   leaf-gives r now z L (leaf i y h rest) e is lt =
-      subst₂ (λ (n x : ℕ). Gives g left r (leafSeen g v left n (x * g .grain)) came now) (sym (is .0)) (is .4) L
+      subst₂ (λ (n x : ℕ). Gives left r (leafSeen v left n (x * g .grain)) came now) (sym (is .0)) (is .4) L
   leaf-gives r now z L (inner i y j under rest) e is lt = absurd (omega (arith, code-pos j, is .1))
 
   inner-gives : (x : ℕ) (j : Kind) (r : Found) (now : List ℕ) → getD (t .kinds) c 0 ≡ codeOf j → x ≡ stopOf t c → Told t g v j w (c + 1) x left r came now
-      → (F : Forest ℕ) (e : ℕ) → Spans t c e F → c < e → Gives g left r (nodeSeen g v left F w) came now
+      → (F : Forest ℕ) (e : ℕ) → Spans t c e F → c < e → Gives left r (nodeSeen g v left F w) came now
   unfolding Spans
   inner-gives x j r now z q more end e is lt = absurd (omega arith)
   inner-gives x j r now z q more (leaf i y h rest) e is lt = absurd (omega (arith, code-pos j, is .1))
   inner-gives x j r now z q more (inner i y j′ under rest) e is lt =
-      subst (λ (y : Kind). Gives g left r (seenIn g v left y under w) came now) (code-inj j j′ (sym z ∙ is .1))
+      subst (λ (y : Kind). Gives left r (seenIn g v left y under w) came now) (code-inj j j′ (sym z ∙ is .1))
       (more under (subst (λ (n : ℕ). Spans t (c + 1) n under) (sym q) (is .3)))
 
 module _ {t : Slices} {g : Rule} {v : Ends} {w : Window} {c left : ℕ} {came : List ℕ} where
   pub told-same : {r r′ : Found} {now now′ : List ℕ} → r ≡ r′ → now ≡ now′ → NodeTold t g v w c left r′ came now′ → NodeTold t g v w c left r came now
   told-same p q h = subst₂ (λ (r : Found) (now : List ℕ). NodeTold t g v w c left r came now) (sym p) (sym q) h
 
-  pub told-leaf : {r : Found} {now : List ℕ} → getD (t .kinds) c 0 ≡ 0 → Gives g left r (leafSeen g v left c (getD (t .heights) c 0 * g .grain)) came now
+  pub told-leaf : {r : Found} {now : List ℕ} → getD (t .kinds) c 0 ≡ 0 → Gives left r (leafSeen v left c (getD (t .heights) c 0 * g .grain)) came now
       → NodeTold t g v w c left r came now
   told-leaf {r} {now} z L = record { tells = leaf-gives t g v w c left came r now z L }
 
@@ -166,7 +163,7 @@ pub told-unmet : (t : Slices) (g : Rule) {v : Ends} (k : Kind) (w : Window) (c e
     → Told t g v k w c e left r came came
 unfolding unmet putFrom
 told-unmet t g {v} k w c e {left} {came} {r} z q F is =
-    subst₂ (λ (n : ℕ) (x : Found). Gives g n x (seenIn g v n k F w) came came) (sym z) (sym q)
+    subst₂ (λ (n : ℕ) (x : Found). Gives n x (seenIn g v n k F w) came came) (sym z) (sym q)
     (record { low = refl; high = refl; play = refl; reads = refl; spent = refl; leaves = refl })
 
 -- ---- the loop over the children
@@ -213,10 +210,9 @@ pub record Going (t : Slices) (g : Rule) (v : Ends) (k : Kind) (w : Window) (c�
   pub plays : Plays (frameOf g v all) k s play
   pub spent : Bool
   pub safe : Safe limit (frameOf g v all) k (weigh (grained (g .grain) nodes)) (lift s play read spent)
-  pub budget : left₀ ≤ g .budget
+  pub within : left₀ ≤ length came
   pub left-is : left + length read ≡ left₀
-  pub leaves-are : now ≡ putFrom came (g .budget - left₀) read
-  pub space : g .budget - left + leaves nodes ≤ length now
+  pub leaves-are : now ≡ putFrom came (length came - left₀) read
   pub so-far : seenIn g v left₀ k all w ≡ scan natural (rulesOf g v left₀) (frameOf g v all) k (grained (g .grain) nodes) (lift s play read spent)
 
 pub going-start : {t : Slices} {g : Rule} {v : Ends} (k : Kind) (w : Window) {c e left : ℕ} {came : List ℕ} → ReadyChildren t g v k w c e left (length came)
@@ -247,10 +243,9 @@ going-start {t} {g} {v} k w {c} {e} {left} {came} R more =
       spent = false;
       safe = subst (λ (z : alg.State ℕ). Safe limit (frameOf g v F) k (weigh f) z) (begin-lift v (weigh f) k w)
           (safe-begin limit (frameOf g v F) k f (w .alpha) (w .beta) [] (fit-sound g v (R .ends) k F (st .some) (R .fit)) o (R .alpha) (R .beta));
-      budget = R .within;
+      within = R .within;
       left-is = omega arith;
       leaves-are = refl;
-      space = R .space;
       so-far = cond-later (leb left 0) _ _ (lt-leb left 0 (omega (arith, more))) ∙ ap (scan natural (rulesOf g v left) (frameOf g v F) k f) (begin-lift v (weigh f) k w);
     }
 
@@ -265,6 +260,10 @@ module _ {t : Slices} {g : Rule} {v : Ends} {k : Kind} {w : Window} {c₀ e left
     (I : Going t g v k w c₀ e left₀ came₀ s c left came) where
   pub going-step : Step t c e (I .nodes)
   going-step = step t c e (I .nodes) (I .spans) (I .some)
+
+  -- the list is as long as it was
+  going-kept : length came ≡ length came₀
+  going-kept = ap length (I .leaves-are) ∙ put-length came₀ (length came₀ - left₀) (I .read)
 
   pub going-small : OkState s
   going-small = safe-small (frameOf g v (I .all)) k (weigh (grained (g .grain) (I .nodes))) s (I .play) (I .read) (I .spent) (I .safe)
@@ -319,8 +318,7 @@ child-of {t} {g} {v} {k} {w} {c₀} {e} {left₀} {came₀} {s} {c} {left} {came
           heights = omega (arith, q, st .within, H .heights);
           few = omega (arith, q, st .within, H .few);
         };
-        within = omega (arith, I .left-is, I .budget);
-        space = I .space;
+        within = omega (arith, I .left-is, I .within, going-kept I);
       };
       less = omega (arith, q, st .within, st .below, I .past);
       inside = omega (arith, q, st .below);
@@ -337,10 +335,9 @@ module _ {t : Slices} {g : Rule} {v : Ends} {c₀ e c x left room : ℕ} {y : Wi
 
   -- what a call of `leaf_at` asks
   pub child-leaf : (z : ℕ) → z ≡ getD (t .kinds) c 0 → z ≡ 0
-      → (c < length (t .heights)) × (g .budget - left < room) × (left ≤ g .budget) × (c < 1024) × (getD (t .heights) c 0 * g .grain < 9223372036854775808)
+      → (c < length (t .heights)) × (left ≤ room) × (c < 1024) × (getD (t .heights) c 0 * g .grain < 9223372036854775808)
   child-leaf z q p =
-      let L = ready-leaf (C .node) (sym q ∙ p) in
-      (omega (arith, C .inside, C .node .holds .heights), L .0, C .node .within, C .small, L .1)
+      (omega (arith, C .inside, C .node .holds .heights), C .node .within, C .small, ready-leaf (C .node) (sym q ∙ p))
 
 -- ---- after a child
 
@@ -431,8 +428,8 @@ module _ {t : Slices} {g : Rule} {v : Ends} {k : Kind} {w : Window} {c₀ e left
   abbrev own : Seen ℕ
   own = nodeSeen g v left F (windowFor frame k (weightOf F) s)
 
-  own-gives : Gives g left r own came now
-  own-gives = subst (λ (x : ℕ). Gives g left r (nodeSeen g v left F (windowFor frame k x s)) came now) (going-step I .weight) (told .tells F e (I .spans) (I .some))
+  own-gives : Gives left r own came now
+  own-gives = subst (λ (x : ℕ). Gives left r (nodeSeen g v left F (windowFor frame k x s)) came now) (going-step I .weight) (told .tells F e (I .spans) (I .some))
 
   own-holds : (x : ℕ) × Holding frame x own
   own-holds = node-holds g v (I .ends) left (frame .total) k F (windowFor frame k (weightOf F) s) (going-step I .some) (I .fit)
@@ -451,19 +448,16 @@ module _ {t : Slices} {g : Rule} {v : Ends} {k : Kind} {w : Window} {c₀ e left
   left-next = omega (arith, own-gives .reads, I .left-is, length-append (I .read) (own .read))
 
   -- where the child's leaves are listed
-  place : g .budget - left ≡ g .budget - left₀ + length (I .read)
-  place = omega (arith, I .left-is, I .budget)
+  place : length came - left ≡ length came₀ - left₀ + length (I .read)
+  place = omega (arith, I .left-is, I .within, going-kept I)
 
-  leaves-next : now ≡ putFrom came₀ (g .budget - left₀) listed
+  leaves-next : now ≡ putFrom came₀ (length came₀ - left₀) listed
   leaves-next =
       own-gives .leaves ∙ ap₂ (λ (l : List ℕ) (n : ℕ). putFrom l n (own .read)) (I .leaves-are) place
-      ∙ put-put came₀ (g .budget - left₀) (I .read) (own .read)
+      ∙ put-put came₀ (length came₀ - left₀) (I .read) (own .read)
 
   kept-next : length now ≡ length came₀
-  kept-next = ap length leaves-next ∙ put-length came₀ (g .budget - left₀) listed
-
-  kept-now : length now ≡ length came
-  kept-now = ap length (own-gives .leaves) ∙ put-length came (g .budget - left) (own .read)
+  kept-next = ap length leaves-next ∙ put-length came₀ (length came₀ - left₀) listed
 
   -- the state
   abbrev played : Play ℕ
@@ -511,16 +505,16 @@ module _ {t : Slices} {g : Rule} {v : Ends} {k : Kind} {w : Window} {c₀ e left
       omega (arith, q .0, I .rule .margin)
 
   -- whatever the nodes are said to be, they are those
-  told-all : (out : Found) → Gives g left₀ out (seenIn g v left₀ k (U .going .all) w) came₀ now → Told t g v k w c₀ e left₀ out came₀ now
+  told-all : (out : Found) → Gives left₀ out (seenIn g v left₀ k (U .going .all) w) came₀ now → Told t g v k w c₀ e left₀ out came₀ now
   told-all out h H is =
-      subst (λ (f : Forest ℕ). Gives g left₀ out (seenIn g v left₀ k f w) came₀ now) (spans-same t c₀ e (U .going .all) H (U .going .begun) is) h
+      subst (λ (f : Forest ℕ). Gives left₀ out (seenIn g v left₀ k f w) came₀ now) (spans-same t c₀ e (U .going .all) H (U .going .begun) is) h
 
   turn-gives : (low high : ℕ) → seenLeft g v left₀ (frameOf g v (U .going .all)) k s′ (played (U .going) (U .told)) (listed (U .going) (U .told)) (own (U .going) (U .told) .spent) (restOf (U .going .nodes)) ≡ record { low = low; high = high; play = played (U .going) (U .told); read = listed (U .going) (U .told); spent = own (U .going) (U .told) .spent }
       → Told t g v k w c₀ e left₀ (record { low = low; high = high; play = s′ .play; left = r .left; spent = r .spent }) came₀ now
   turn-gives low high q =
       let I = U .going in
       told-all _
-      (subst (λ (a : Seen ℕ). Gives g left₀ (record { low = low; high = high; play = s′ .play; left = r .left; spent = r .spent }) a came₀ now)
+      (subst (λ (a : Seen ℕ). Gives left₀ (record { low = low; high = high; play = s′ .play; left = r .left; spent = r .spent }) a came₀ now)
       (sym (seen-next I (U .told) s′ (U .state) ∙ q))
       (record {
         low = refl;
@@ -565,7 +559,6 @@ module _ {t : Slices} {g : Rule} {v : Ends} {k : Kind} {w : Window} {c₀ e left
       let h = U .told in
       let F = I .nodes in
       let st = going-step I in
-      let y = windowFor (frameOf g v (I .all)) k (weightOf F) (U .s) in
       record {
         all = I .all;
         begun = I .begun;
@@ -585,9 +578,8 @@ module _ {t : Slices} {g : Rule} {v : Ends} {k : Kind} {w : Window} {c₀ e left
         spent = own I h .spent;
         plays = plays-next I h s′ (U .state);
         safe = safe-next I h s′ (U .state);
-        budget = I .budget;
+        within = I .within;
         left-is = left-next I h;
         leaves-are = leaves-next I h;
-        space = omega (arith, leaves-split F, node-few g v (U .left) F y, own-gives I h .reads, kept-now I h, I .space);
         so-far = seen-next I h s′ (U .state) ∙ left-more g v left₀ (frameOf g v (I .all)) k s′ (played I h) (listed I h) (own I h .spent) (restOf F) (some-left ne) (sym p ∙ q);
       }

@@ -1,5 +1,5 @@
 -- What the functions of the search over slices ask and tell, in the words of Algorithm 1 over heights. No promise names these.
-use Prim.Native.Nat.{ℕ, _+_, _-_, _*_, _≤_, _<_}
+use Prim.Native.Nat.{ℕ, _+_, _*_, _≤_, _<_}
 use mathlib.Core.Path.{_≡_}
 use mathlib.Core.Bool.{true, false}
 use mathlib.Core.List.{List, []}
@@ -56,17 +56,16 @@ pub record ReadyChildren (t : Slices) (g : Rule) (v : Ends) (k : Kind) (w : Wind
   pub alpha : w .alpha ≤ limit
   pub beta : w .beta ≤ limit
   pub holds : Holds t e
-  pub within : left ≤ g .budget
-  pub space : g .budget - left + leaves nodes ≤ room
+  pub within : left ≤ room
 
 -- what is told of them
 abbrev pub Told : Slices → Rule → Ends → Kind → Window → (c e left : ℕ) → Found → List ℕ → List ℕ → Type 0
-Told t g v k w c e left r came now = (F : Forest ℕ) → Spans t c e F → Gives g left r (seenIn g v left k F w) came now
+Told t g v k w c e left r came now = (F : Forest ℕ) → Spans t c e F → Gives left r (seenIn g v left k F w) came now
 
 -- ---- the whole table
 
 -- the nodes in the entries up to n are one tree that can be searched
-pub record ReadyRoot (t : Slices) (g : Rule) (v : Ends) (n room : ℕ) : Type 0 where
+pub record ReadyRoot (t : Slices) (g : Rule) (v : Ends) (n : ℕ) : Type 0 where
   pub nodes : Forest ℕ
   pub spans : Spans t 0 n nodes
   pub rooted : Rooted nodes
@@ -74,18 +73,17 @@ pub record ReadyRoot (t : Slices) (g : Rule) (v : Ends) (n room : ℕ) : Type 0 
   pub ends : OkEnds v
   pub rule : OkRule g
   pub holds : Holds t n
-  pub space : leaves nodes ≤ room
 
 -- the result r, with the list as it came and as it is now, is what was seen
-pub record Shows (budget : ℕ) (r : Found) (a : Seen ℕ) (came now : List ℕ) : Type 0 where
+pub record Shows (r : Found) (a : Seen ℕ) (came now : List ℕ) : Type 0 where
   pub low : r .low ≡ a .low
   pub high : r .high ≡ a .high
   pub play : playAt (r .play) ≡ nodeOf (a .play)
-  pub reads : r .left + length (a .read) ≡ budget
+  pub reads : r .left + length (a .read) ≡ length came
   pub spent : r .spent ≡ a .spent
   pub leaves : now ≡ laid (a .read) came
 
--- what the search of a tree that can be searched gives
+-- what the search of a tree that can be searched gives, within a budget of as many reads as the list has entries
 abbrev pub Searched : Slices → Rule → Ends → ℕ → Found → List ℕ → List ℕ → Type 0
 Searched t g v n r came now =
-    (R : ReadyRoot t g v n (length came)) → Shows (g .budget) r (searchRoot natural (rulesOf g v (g .budget)) (grained (g .grain) (R .nodes))) came now
+    (R : ReadyRoot t g v n) → Shows r (searchRoot natural (rulesOf g v (length came)) (grained (g .grain) (R .nodes))) came now

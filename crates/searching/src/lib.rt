@@ -49,15 +49,9 @@ fn max_over(
             alpha: t.alpha,
             beta: t.beta,
         };
-        let mut r = Found {
-            low: 0,
-            high: 0,
-            play: 0,
-            left: n,
-            spent: false,
-        };
+        let r: Found;
         if k == 0 {
-            r = steps::leaf_at(height, leaves, n, i, g, v);
+            r = steps::leaf_at(height, leaves, n, i, g.grain, v);
         } else if k == 1 {
             r = max_over(kind, stop, weight, height, leaves, n, g, i + 1, e, v, y);
         } else if k == 2 {
@@ -125,15 +119,9 @@ fn min_over(
             alpha: t.alpha,
             beta: t.beta,
         };
-        let mut r = Found {
-            low: 0,
-            high: 0,
-            play: 0,
-            left: n,
-            spent: false,
-        };
+        let r: Found;
         if k == 0 {
-            r = steps::leaf_at(height, leaves, n, i, g, v);
+            r = steps::leaf_at(height, leaves, n, i, g.grain, v);
         } else if k == 1 {
             r = max_over(kind, stop, weight, height, leaves, n, g, i + 1, e, v, y);
         } else if k == 2 {
@@ -199,15 +187,9 @@ fn chance_over(
         let e = node_at(stop, i);
         let k = at8(kind, i);
         let x = wide8(at8(weight, i));
-        let mut r = Found {
-            low: 0,
-            high: 0,
-            play: 0,
-            left: n,
-            spent: false,
-        };
+        let r: Found;
         if k == 0 {
-            r = steps::leaf_at(height, leaves, n, i, g, v);
+            r = steps::leaf_at(height, leaves, n, i, g.grain, v);
         } else {
             let y = steps::chance_window(v, total, t, x);
             if k == 1 {
@@ -242,8 +224,8 @@ fn chance_over(
     }
 }
 
-// The search of the table whose nodes are the entries up to n, between the ends v, within the budget of g. The leaves read are listed in reading sequence; the rest of
-// the list stays.
+// The search of the table whose nodes are the entries up to n, between the ends v. The list has an entry for each read of the budget: the leaves read
+// are listed in reading sequence, and the rest of the list stays.
 pub fn search(
     kind: &[u8],
     stop: &[u16],
@@ -254,22 +236,23 @@ pub fn search(
     g: Rule,
     v: Ends,
 ) -> Found
-    requires { ⌜ ReadyRoot (slices (now kind) (now stop) (now weight) (now height)) g v n (length (now leaves)) ⌝ }
+    requires { ⌜ ReadyRoot (slices (now kind) (now stop) (now weight) (now height)) g v n ⌝ }
     ensures { λ r. ⌜ Searched (slices (now (kind .entry)) (now (stop .entry)) (now (weight .entry)) (now (height .entry))) g v n r (now (leaves .entry)) (now (leaves .exit)) ⌝ }
 {
+    let left = leaves.len();
     let k = at8(kind, 0);
     let w = Window {
         alpha: v.bottom,
         beta: v.top,
     };
     if k == 0 {
-        return steps::leaf_at(height, leaves, g.budget, 0, g, v);
+        return steps::leaf_at(height, leaves, left, 0, g.grain, v);
     }
     if k == 1 {
-        return max_over(kind, stop, weight, height, leaves, g.budget, g, 1, n, v, w);
+        return max_over(kind, stop, weight, height, leaves, left, g, 1, n, v, w);
     }
     if k == 2 {
-        return min_over(kind, stop, weight, height, leaves, g.budget, g, 1, n, v, w);
+        return min_over(kind, stop, weight, height, leaves, left, g, 1, n, v, w);
     }
-    chance_over(kind, stop, weight, height, leaves, g.budget, g, 1, n, v, w)
+    chance_over(kind, stop, weight, height, leaves, left, g, 1, n, v, w)
 }

@@ -5,22 +5,21 @@ use mathlib.Core.Bool.{false}
 use mathlib.Core.List.{List}
 use native.Mathlib.Omega.{arith}
 use borrow.Author.Tests.{lt-leb}
-use lib.ListN.{set}
+use lib.ListN.{length, set}
 use Rattle.search.specs.Search.{point, unmet}
-use Rattle.steps.specs.declared.Rule.{Rule}
 use Rattle.steps.specs.declared.Ends.{Ends}
 use Rattle.steps.specs.declared.Found.{Found}
 use Rattle.steps.specs.Inside.{putFrom, playAt, Gives, unmetIn, leafSeen}
 
-module _ (g : Rule) (v : Ends) where
-  pub gives-unmet : (left c h : ℕ) (r : Found) (came : List ℕ) → left ≡ 0 → r ≡ unmetIn v → Gives g left r (leafSeen g v left c h) came came
+module _ (v : Ends) where
+  pub gives-unmet : (left c h : ℕ) (r : Found) (came : List ℕ) → left ≡ 0 → r ≡ unmetIn v → Gives left r (leafSeen v left c h) came came
   unfolding unmet putFrom
   gives-unmet left c h r came z q =
-      subst₂ (λ (n : ℕ) (x : Found). Gives g n x (leafSeen g v n c h) came came) (sym z) (sym q)
+      subst₂ (λ (n : ℕ) (x : Found). Gives n x (leafSeen v n c h) came came) (sym z) (sym q)
       (record { low = refl; high = refl; play = refl; reads = refl; spent = refl; leaves = refl })
 
   pub gives-read : (left c h : ℕ) (r : Found) (came now : List ℕ) → 0 < left → r .low ≡ h → r .high ≡ h → r .play ≡ 0 → r .left ≡ left - 1 → r .spent ≡ false
-      → now ≡ set came (g .budget - left) c → Gives g left r (leafSeen g v left c h) came now
+      → now ≡ set came (length came - left) c → Gives left r (leafSeen v left c h) came now
   unfolding point putFrom
   gives-read left c h r came now more low high play one spent listed =
       rw (lt-leb left 0 more)

@@ -71,23 +71,23 @@ putFrom l k (x ∷ xs) = putFrom (set l k x) (suc k) xs
 abbrev pub playAt : ℕ → Option ℕ
 playAt n = cond (eqb n 0) none (some n)
 
--- The result r, with the list as it came and as it is now, is what was seen of a node that was entered with so many reads left. The leaves are listed
--- behind those read before it.
-pub record Gives (g : Rule) (left : ℕ) (r : Found) (a : Seen ℕ) (came now : List ℕ) : Type 0 where
+-- The result r, with the list as it came and as it is now, is what was seen of a node that was entered with so many reads left. The list has an entry
+-- for each read of the whole budget, and the leaves are listed behind those read before.
+pub record Gives (left : ℕ) (r : Found) (a : Seen ℕ) (came now : List ℕ) : Type 0 where
   pub low : r .low ≡ a .low
   pub high : r .high ≡ a .high
   pub play : playAt (r .play) ≡ nodeOf (a .play)
   pub reads : r .left + length (a .read) ≡ left
   pub spent : r .spent ≡ a .spent
-  pub leaves : now ≡ putFrom came (g .budget - left) (a .read)
+  pub leaves : now ≡ putFrom came (length came - left) (a .read)
 
 -- a node met when no read is left
 abbrev pub unmetIn : Ends → Found
 unmetIn v = record { low = v .bottom; high = v .top; play = 0; left = 0; spent = true }
 
--- the leaf c of h grains
-abbrev pub leafSeen : Rule → Ends → (left c h : ℕ) → Seen ℕ
-leafSeen g v left c h = met (rulesOf g v left) (frameAt v 0) [] (point c h [])
+-- the leaf c of h grains, whatever the margin
+abbrev pub leafSeen : Ends → (left c h : ℕ) → Seen ℕ
+leafSeen v left c h = met (heightRules (v .bottom) (v .top) 0 (limited left)) (frameAt v 0) [] (point c h [])
 
 -- ---- numbers that fit
 

@@ -1,7 +1,7 @@
 // One step of the bounded search: the window of a child, the state after it, and a leaf read. Lines are those of Algorithm 1 of document 000,
 // numbers are in grains above the lowest end.
 ghost use mathlib.Core.Path.{_≡_};
-ghost use Prim.Native.Nat.{_+_, _*_, _-_, _<_, _≤_};
+ghost use Prim.Native.Nat.{_+_, _*_, _<_, _≤_};
 ghost use lib.ListN.{length, getD};
 ghost use Rattle.table.specs.Tree.{MAX, MIN, CHANCE};
 ghost use Rattle.steps.specs.Inside.{frameAt, windowFor, preferred, after, stops, unmetIn, leafSeen, Gives, limit, OkEnds, OkState};
@@ -10,11 +10,10 @@ use numbers::min_of;
 use numbers::monus;
 use numbers::wide32;
 
-// The margin, the grains in a point, and how many leaves may be read.
+// The margin, and the grains in a point.
 pub struct Rule {
     pub margin: u64,
     pub grain: u64,
-    pub budget: usize,
 }
 
 // A node's least and greatest value in grains.
@@ -144,17 +143,25 @@ pub fn unmet(v: Ends) -> Found
     }
 }
 
-// The leaf at entry c, lines 1 and 2: it is listed behind those read before, and both bounds are its height in grains.
-pub fn leaf_at(height: &[u32], leaves: &mut [u16], left: usize, c: usize, g: Rule, v: Ends) -> Found
-    requires { ⌜ (c < length (now height)) × (g .budget - left < length (now leaves)) × (left ≤ g .budget) × (c < 1024) × (getD (now height) c 0 * g .grain < 9223372036854775808) ⌝ }
-    ensures { λ r. ⌜ Gives g left r (leafSeen g v left c (getD (now (height .entry)) c 0 * g .grain)) (now (leaves .entry)) (now (leaves .exit)) ⌝ }
+// The leaf at entry c, lines 1 and 2: it is listed behind those read before, in a list that has an entry for each read of the whole budget, and both
+// bounds are its height in grains.
+pub fn leaf_at(
+    height: &[u32],
+    leaves: &mut [u16],
+    left: usize,
+    c: usize,
+    grain: u64,
+    v: Ends,
+) -> Found
+    requires { ⌜ (c < length (now height)) × (left ≤ length (now leaves)) × (c < 1024) × (getD (now height) c 0 * grain < 9223372036854775808) ⌝ }
+    ensures { λ r. ⌜ Gives left r (leafSeen v left c (getD (now (height .entry)) c 0 * grain)) (now (leaves .entry)) (now (leaves .exit)) ⌝ }
 {
     if left == 0 {
         return unmet(v);
     }
-    let used = g.budget - left;
+    let used = leaves.len() - left;
     leaves[used] = c as u16;
-    let h = wide32(height[c]) * g.grain;
+    let h = wide32(height[c]) * grain;
     let n = left - 1;
     Found {
         low: h,

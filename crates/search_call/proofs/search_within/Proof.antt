@@ -1,9 +1,10 @@
 -- `search_call::search_within` meets its contract. Assumes nothing.
-use Prim.Native.Nat.{ℕ, _-_, _≤_}
-use mathlib.Core.Path.{_≡_, sym, ap, _∙_}
+use Prim.Native.Nat.{ℕ, _-_, min, _≤_}
+use mathlib.Core.Path.{_≡_, sym, ap, ap₂, _∙_}
 use mathlib.Core.Bool.{false}
 use mathlib.Core.List.{List}
 use native.Mathlib.Nat.{le-trans}
+use native.Mathlib.Omega.{arith}
 use borrow.Author.Needs.{needs}
 use denote.Ref.{now}
 use lib.ListN.{length}
@@ -13,6 +14,7 @@ use mir.ValLaws.{toZ-ofZ}
 use Rattle.line.specs.declared.Refusal.{Refusal}
 use Rattle.line.specs.declared.Refusal.the-variants.{NoRoom, BadMargin, BadBudget}
 use Rattle.line.specs.Refusal.{Verdict, refused}
+use Rattle.line.specs.Line.{toNat}
 use Rattle.table.specs.declared.Summary.{Summary}
 use Rattle.table.specs.Slices.{laid}
 use Rattle.table.specs.Table.{Table, readText}
@@ -23,7 +25,7 @@ use Rattle.steps.specs.declared.Found.{Found}
 use Rattle.search_call.specs.declared.Bounded.the-variants.{Found as Given}
 use Rattle.search_call.specs.Call.{badMargin, badBudget, Sought, soughtWithin, searchAnswer, searchList, withinCall, withinReads}
 use Rattle.search_call.specs.Inside.{ruleFor, endsFor}
-use Rattle.search_call.proofs.Call.{bad-margin, bad-budget, no-room, apart-back, search-ready, found-small, given-at, reads-at}
+use Rattle.search_call.proofs.Call.{bad-margin, bad-budget, no-room, apart-back, part-length, search-ready, found-small, given-at, reads-at}
 use Rattle.search_call.proofs.search_within.Statement.{statement}
 use Rattle.search_call.proofs.search_within.Tie as tie
 
@@ -116,51 +118,66 @@ budgeted-of L = room-of L .before .before
 abbrev known-of : tie.After-ends-of → tie.After-known-told2
 known-of L = budgeted-of L .before .before .before .before
 
-rule-is : (L : tie.After-ends-of)
-    → L .before .rule-of .result ≡ ruleFor (scaleFor (summary-of (known-of L))) (margin-of (read-of (known-of L))) (budget-of (read-of (known-of L)))
+rule-is : (L : tie.After-ends-of) → L .before .rule-of .result ≡ ruleFor (scaleFor (summary-of (known-of L))) (margin-of (read-of (known-of L)))
 rule-is L =
     let S = start-of (read-of (known-of L)) in
-    L .before .rule-of .ensures
-    ∙ λ i. ruleFor (L .before .before .scale-of .ensures i) (toZ-ofZ w64 (S .args .margin) (S .fits .margin) i) (toZ-ofZ w64 (S .args .budget) (S .fits .budget) i)
+    L .before .rule-of .ensures ∙ ap₂ ruleFor (L .before .before .scale-of .ensures) (toZ-ofZ w64 (S .args .margin) (S .fits .margin))
 
 ends-are : (L : tie.After-ends-of) → L .ends-of .result ≡ endsFor (scaleFor (summary-of (known-of L)))
 ends-are L = L .ends-of .ensures ∙ ap endsFor (L .before .before .scale-of .ensures)
 
+-- how many leaves may be read
+most-is : (N : tie.After-reads-of)
+    → let R = read-of (known-of (N .before)) in N .reads-of .result ≡ min (toNat (budget-of R)) (length (list-of R))
+most-is N =
+    let R = read-of (known-of (N .before)) in
+    let S = start-of R in
+    N .reads-of .ensures ∙ ap (λ (z : ℤ). min (toNat z) (length (list-of R))) (toZ-ofZ w64 (S .args .budget) (S .fits .budget))
+
+-- that many are in the list
+relend : tie.Need-slice-relend-prefix-search
+relend c = omega (arith, most-is (c .before .before .before .before))
+
+counts : tie.Need-slice-aggregate-search-5
+counts c =
+    let N = c .before .before .before .before .before in
+    let R = read-of (known-of (N .before)) in
+    sym (part-length (N .reads-of .result) (toNat (budget-of R)) (list-of R) (most-is N))
+
 search-requires : tie.Need-search-requires
 search-requires c κs =
-    let L = c .before .before .before .before .before in
+    let L = c .before .before .before .before .before .before in
     let K = known-of L in
     let R = read-of K in
-    search-ready (taken K) (margin-of R) (budget-of R) (good-margin (budgeted-of L .before .before)) (good-budget (budgeted-of L)) (rule-is L) (ends-are L) (length (list-of R))
-    (room-of L .if3 .left)
+    search-ready (taken K) (margin-of R) (budget-of R) (good-margin (budgeted-of L .before .before)) (good-budget (budgeted-of L)) (rule-is L) (ends-are L)
 
 -- ---- what it found
 
-abbrev rule-at : tie.After-search → tie.After-ends-of
-rule-at W = W .before .before .before .before .before .before
+abbrev most-at : tie.After-search → tie.After-reads-of
+most-at W = W .before .before .before .before .before .before
 
 small : (W : tie.After-search)
-    → (W .search .result .low ≤ W .search .result .high) × (W .search .result .high ≤ 35184372088832) × (W .search .result .left ≤ rule-at W .before .rule-of .result .budget)
+    → (W .search .result .low ≤ W .search .result .high) × (W .search .result .high ≤ 35184372088832) × (W .search .result .left ≤ most-at W .reads-of .result)
 small W =
-    let L = rule-at W in
+    let L = most-at W .before in
     let K = known-of L in
     let R = read-of K in
-    found-small (taken K) (margin-of R) (budget-of R) (good-margin (budgeted-of L .before .before)) (good-budget (budgeted-of L)) (rule-is L) (ends-are L) (W .search .result) (list-of R)
-    (W .search .last .1 .1 .1 .1 .0) (room-of L .if3 .left) (W .search .ensures)
+    found-small (taken K) (margin-of R) (budget-of R) (good-margin (budgeted-of L .before .before)) (good-budget (budgeted-of L)) (rule-is L) (ends-are L) (W .search .result)
+    (most-at W .reads-of .result) (list-of R) (W .search .last .1 .1 .1 .1 .0) (most-is (most-at W)) (room-of L .if3 .left) (W .search .ensures)
 
 in-grains-requires : tie.Need-in-grains-requires
 in-grains-requires c κs =
     let W = c .before .before .before in
-    grains-ready (taken (known-of (rule-at W))) (le-trans (small W .0) (small W .1))
+    grains-ready (taken (known-of (most-at W .before))) (le-trans (small W .0) (small W .1))
 
 in-grains-requires-2 : tie.Need-in-grains-requires-2
-in-grains-requires-2 c κs = let W = c .before .before .before .before .before in grains-ready (taken (known-of (rule-at W))) (small W .1)
+in-grains-requires-2 c κs = let W = c .before .before .before .before .before in grains-ready (taken (known-of (most-at W .before))) (small W .1)
 
 apart-requires : tie.Need-apart-requires
 apart-requires c κs = let u = small (c .before .before .before .before .before .before) in (u .0, u .1)
 
 sub-read : tie.Need-sub-read
-sub-read c = small (c .before .before .before .before .before .before .before .before .before) .2
+sub-read c = small (c .before .before .before .before .before .before .before .before) .2
 
 returns-4 : tie.Need-returns-4
 returns-4 c =
@@ -171,9 +188,10 @@ returns-4 c =
 
 returns-5 : tie.Need-returns-5
 returns-5 c =
-    let A = c .before .before .before in
+    let A = c .before .before in
     let W = A .before .before .before .before .before .before .before in
-    let L = rule-at W in
+    let N = most-at W in
+    let L = N .before in
     let K = known-of L in
     let R = read-of K in
     let G = taken K in
@@ -187,12 +205,12 @@ returns-5 c =
         high = high i;
         difference = apart-back (f .low) (f .high) (small W .1) (A .apart .ensures) i;
         play = (c .play-at .ensures) i;
-        leaves = L .before .rule-of .result .budget - f .left;
+        leaves = N .reads-of .result - f .left;
         spent = f .spent;
         grain = summary-of K .grain;
       }))
-          ∙ given-at G (margin-of R) (budget-of R) x y (rule-is L) (ends-are L) f (list-of R) (W .search .last .1 .1 .1 .1 .0) (room-of L .if3 .left) (W .search .ensures),
-      reads-at G (margin-of R) (budget-of R) x y (rule-is L) (ends-are L) f (list-of R) (W .search .last .1 .1 .1 .1 .0) (room-of L .if3 .left) (W .search .ensures),
+          ∙ given-at G (margin-of R) (budget-of R) x y (rule-is L) (ends-are L) f (N .reads-of .result) (list-of R) (W .search .last .1 .1 .1 .1 .0) (most-is N) (room-of L .if3 .left) (W .search .ensures),
+      reads-at G (margin-of R) (budget-of R) x y (rule-is L) (ends-are L) f (N .reads-of .result) (list-of R) (W .search .last .1 .1 .1 .1 .0) (most-is N) (room-of L .if3 .left) (W .search .ensures),
     )
 
 pub search-within-spec : {M : Type 1} → statement M
@@ -214,10 +232,13 @@ search-within-spec =
     (λ c κs. spread-at (taken (c .before .before .before .before .before .before)))
     (λ c κs. search needs)
     (λ c κs. search needs)
+    (λ c κs. search needs)
     (λ c. search needs)
     (λ c. search needs)
     (λ c. search needs)
     (λ c. search needs)
+    relend
+    counts
     search-requires
     in-grains-requires
     in-grains-requires-2

@@ -18,13 +18,13 @@ at8-requires c κs = root-long (c .before .before .before .before .before .pre) 
 -- at the place where the root's kind was read
 root : (c : tie.After-at8)
     → let a = c .before .before .before .before .before .before .args in
-    ReadyNode (slices (now (a .kind)) (now (a .stop)) (now (a .weight)) (now (a .height))) (a .g) (a .v) (rootWindow (a .v)) 0 (a .n) (a .g .budget) (length (now (a .leaves)))
-root c = root-ready (c .before .before .before .before .before .before .pre)
+    ReadyNode (slices (now (a .kind)) (now (a .stop)) (now (a .weight)) (now (a .height))) (a .g) (a .v) (rootWindow (a .v)) 0 (a .n) (length (now (a .leaves))) (length (now (a .leaves)))
+root c = let s = c .before .before .before .before .before .before in root-ready (s .pre) (length (now (s .args .leaves)))
 
 leaf-at-requires : tie.Need-leaf-at-requires
 leaf-at-requires c κs =
-    let L = ready-leaf (root (c .before .before)) (sym (c .before .before .at8 .ensures) ∙ c .before .if1 .taken) in
-    (root-long (c .before .before .before .before .before .before .before .before .pre) .1, L .0, le-refl _, omega arith, L .1)
+    let h = ready-leaf (root (c .before .before)) (sym (c .before .before .at8 .ensures) ∙ c .before .if1 .taken) in
+    (root-long (c .before .before .before .before .before .before .before .before .pre) .1, le-refl _, omega arith, h)
 
 same-length : tie.Need-same-length
 same-length c = search needs

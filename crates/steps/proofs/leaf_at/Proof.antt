@@ -13,7 +13,7 @@ unmet-requires : tie.Need-unmet-requires
 unmet-requires c κs = search needs
 
 returns : tie.Need-returns
-returns c = gives-unmet _ _ _ _ _ _ _ (c .before .if1 .taken) (c .unmet .ensures)
+returns c = gives-unmet _ _ _ _ _ _ (c .before .if1 .taken) (c .unmet .ensures)
 
 sub-used : tie.Need-sub-used
 sub-used c = search needs
@@ -38,12 +38,12 @@ wide32-requires c κs = search needs
 
 -- the grains that are computed are those that are meant
 grains : (c : tie.After-wide32)
-    → let a = c .before .before .before .before .before .before .args in
-    c .wide32 .result * a .g .grain ≡ getD (now (a .height)) (a .c) 0 * a .g .grain
-grains c = ap (λ (h : ℕ). h * c .before .before .before .before .before .before .args .g .grain) (c .wide32 .ensures)
+    → let a = c .before .before .before .before .before .args in
+    c .wide32 .result * a .grain ≡ getD (now (a .height)) (a .c) 0 * a .grain
+grains c = ap (λ (h : ℕ). h * c .before .before .before .before .before .args .grain) (c .wide32 .ensures)
 
 mul-h : tie.Need-mul-h
-mul-h c = record { fits = omega (arith, grains (c .before), c .before .before .before .before .before .before .before .pre .4) }
+mul-h c = record { fits = omega (arith, grains c, c .before .before .before .before .before .pre .3) }
 
 sub-n : tie.Need-sub-n
 sub-n c = search needs
@@ -52,8 +52,7 @@ same-length : tie.Need-same-length
 same-length c = search needs
 
 returns-2 : tie.Need-returns-2
-returns-2 c =
-    gives-read _ _ _ _ _ _ _ _ (omega (arith, c .before .before .before .before .if1 .left)) (grains (c .before)) (grains (c .before)) refl refl refl refl
+returns-2 c = gives-read _ _ _ _ _ _ _ (omega (arith, c .before .before .if1 .left)) (grains c) (grains c) refl refl refl refl
 
 pub leaf-at-spec : {M : Type 1} → statement M
 leaf-at-spec =
