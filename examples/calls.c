@@ -88,16 +88,32 @@ static void judging(void) {
 }
 
 static void searching(void) {
-    int64_t numbers[6];
+    int64_t numbers[8];
     uint16_t leaves[3];
     memset(numbers, 0xff, sizeof numbers);
     memset(leaves, 0xff, sizeof leaves);
-    returned("margin_search in a short list", margin_search(b, b_len, 12, leaves, 2, numbers, 6), 11);
+    returned("margin_search in a short list", margin_search(b, b_len, 12, leaves, 2, numbers, 8), 11);
     SAME(0, numbers, 0);
     SAME(0, leaves, 0);
-    returned("margin_search", margin_search(b, b_len, 12, leaves, 3, numbers, 6), 0);
-    SAME(5, numbers, 20, 32, 1, 1, 4);
+    returned("margin_search", margin_search(b, b_len, 12, leaves, 3, numbers, 8), 0);
+    SAME(7, numbers, 20, 32, 1, 1, 4, 12, 0);
     SAME(1, leaves, 1);
+}
+
+static void searching_within(void) {
+    int64_t numbers[8];
+    uint16_t leaves[5];
+    memset(numbers, 0xff, sizeof numbers);
+    memset(leaves, 0xff, sizeof leaves);
+    returned("margin_search_within a budget out of range", margin_search_within(a, a_len, 0, MARGIN_GREATEST_BUDGET + 1, leaves, 2, numbers, 8), 17);
+    SAME(0, numbers, 0);
+    SAME(0, leaves, 0);
+    returned("margin_search_within", margin_search_within(a, a_len, 0, 2, leaves, 5, numbers, 8), 0);
+    SAME(7, numbers, 3, 10, 1, 2, 1, 7, 1);
+    SAME(2, leaves, 2, 3);
+    returned("margin_search_within what is needed", margin_search_within(a, a_len, 0, 3, leaves, 5, numbers, 8), 0);
+    SAME(7, numbers, 3, 3, 1, 3, 1, 0, 0);
+    SAME(3, leaves, 2, 3, 5);
 }
 
 static void turning(void) {
@@ -174,6 +190,7 @@ int main(int argc, char **argv) {
     worth();
     judging();
     searching();
+    searching_within();
     turning();
     rollouts();
     report();

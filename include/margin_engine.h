@@ -30,11 +30,12 @@
 extern "C" {
 #endif
 
-/* The largest table, its text, the most positions of a match, the greatest margin. Areas of these lengths have room for every answer. */
+/* The largest table, its text, the most positions of a match, the greatest margin and budget. Areas of these lengths have room for every answer. */
 #define MARGIN_MOST_NODES 1024
 #define MARGIN_MOST_BYTES 25625
 #define MARGIN_MOST_POSITIONS 500
 #define MARGIN_GREATEST_MARGIN INT64_C(40000000000000)
+#define MARGIN_GREATEST_BUDGET 1024
 
 /* What a refused call returned, taken apart. */
 #define MARGIN_NUMBER(code) ((code) % 100)
@@ -77,7 +78,8 @@ uint64_t margin_judge(const uint8_t *text, size_t text_len, int64_t number, uint
  * fewer entries than the table has leaves.
  *
  * leaves: the node numbers of the leaves read, in reading sequence.
- * numbers (5): low, high, the node number of the play (0 for none: the root is no play), the number of leaves read, G.
+ * numbers (7): low, high, the node number of the play (0 for none: the root is no play), the number of leaves read, G, high minus low, and
+ * 0, as no budget is spent.
  *
  * The exact worth lies from low to high, which are at most the margin apart, and the play's worth is within the margin of it. margin_judge
  * takes another number for a play, its place among the root's children, from 1: the first child is node 1, and the next after node i is
@@ -85,6 +87,20 @@ uint64_t margin_judge(const uint8_t *text, size_t text_len, int64_t number, uint
  */
 uint64_t margin_search(const uint8_t *text, size_t text_len, int64_t margin, uint16_t *leaves, size_t leaves_len, int64_t *numbers,
                        size_t numbers_len);
+
+/*
+ * The same search with at most `budget` leaves read, 0 to MARGIN_GREATEST_BUDGET; margin_search is the one with that. Refuses 1 to 10, 12, 17
+ * for another budget, and 11 where `leaves` has fewer entries than the table has leaves, whatever the budget.
+ *
+ * leaves and numbers as in margin_search, but that the last number is 1 where the budget was spent: where margin_search reads more leaves than
+ * that.
+ *
+ * A budget that is not spent changes nothing in the answer. Where it is spent, the leaves are the first that margin_search reads, as many as
+ * the budget; the exact worth still lies from low to high, and the play is worth at least low at an M root, at most high at an N root, but the
+ * margin need not be kept. With a budget of 0 there is no play, and low and high are the table's two ends.
+ */
+uint64_t margin_search_within(const uint8_t *text, size_t text_len, int64_t margin, int64_t budget, uint16_t *leaves, size_t leaves_len,
+                              int64_t *numbers, size_t numbers_len);
 
 /*
  * The turned table. Refuses 1 to 10, and 11 where `buffer` is shorter than the text.
