@@ -2,7 +2,7 @@
 //! the raw calls of the package `margin-engine`, which calls the C interface.
 
 pub use margin_engine::raw::{
-    exact_worth as worth, read as read_into, report, rollout, search, turn, Record,
+    exact_worth as worth, read as read_into, report, rollout, search, search_within, turn, Record,
 };
 
 use crate::second::MOST_NODES;

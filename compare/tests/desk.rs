@@ -8,13 +8,15 @@ use std::thread;
 use std::time::Duration;
 
 use compare::hold;
-use compare::hold::desk::Question::{Judge, Rollout, Search, Show, ShowTo, Turn, Worth};
+use compare::hold::desk::Question::{
+    Judge, Rollout, Search, SearchWithin, Show, ShowTo, Turn, Worth,
+};
 use compare::hold::desk::*;
 use compare::hold::rolling::policies;
 use compare::hold::seen::{Seen, ROOTS, SIDES};
 use compare::random::Random;
 use compare::second::desk::{self, Form, FORMS};
-use compare::second::{self, root_children, Refusal, Table};
+use compare::second::{self, root_children, Refusal, Table, GREATEST_BUDGET};
 use compare::texts::examples::*;
 use compare::texts::knobs::{Kinds, Knobs};
 
@@ -29,7 +31,15 @@ const MARGINS: [&str; 10] = [
     "0", "3", "0.05", "50", "12.345", "300.0", "0g", "12g", "1800g", "1000001g",
 ];
 
-/// Every verb in both forms: the plays one after another, and several margins.
+/// Budgets in leaves.
+const BUDGETS: [&str; 6] = ["0", "1", "2", "3", "40", "1024"];
+
+fn within(margin: &str, budget: &str) -> Question {
+    SearchWithin(margin.to_string(), budget.to_string())
+}
+
+/// Every verb in both forms: the plays one after another, several margins and several
+/// budgets.
 #[test]
 fn every_verb_on_the_examples() {
     let mut comparison = Comparison::new("desk on the examples");
@@ -44,6 +54,7 @@ fn every_verb_on_the_examples() {
             questions.push(Search(margin.to_string()));
             questions.push(ShowTo(margin.to_string()));
         }
+        questions.extend(BUDGETS.map(|budget| within("0.05", budget)));
         if table.chances == 0 {
             let policies = [&[][..], &[0], &[1, 1], &[255, 3], &[2, 0, 1]];
             questions.extend(policies.map(|policy| Rollout(policy.to_vec())));
@@ -73,6 +84,7 @@ fn every_verb_by_every_way() {
         Worth,
         Judge(2),
         Search("1".to_string()),
+        within("1", "2"),
         Turn,
         Rollout(Vec::new()),
         Rollout(vec![2, 0, 1]),
@@ -82,7 +94,7 @@ fn every_verb_by_every_way() {
             comparison.answered(question, &text, way);
         }
     }
-    comparison.demand(48);
+    comparison.demand(54);
 }
 
 const FORCED_JUDGED: &str = "\
@@ -177,8 +189,22 @@ fn random_number(table: &Table, random: &mut Random) -> i64 {
     }
 }
 
+/// A budget for a table as it may be written, rarely one that is refused.
+fn random_budget(table: &Table, random: &mut Random) -> String {
+    let budget = match random.below(8) {
+        0 => random.pick(&[0, 1, GREATEST_BUDGET]),
+        1 => random.pick(&[-1, GREATEST_BUDGET + 1, i64::MIN, i64::MAX]),
+        _ => random.between(0, table.leaves as i64),
+    };
+    budget.to_string()
+}
+
 fn random_question(table: &Table, random: &mut Random) -> Question {
-    match random.below(8) {
+    match random.below(9) {
+        8 => {
+            let margin = random_margin(table, random);
+            SearchWithin(margin, random_budget(table, random))
+        }
         0 => Worth,
         1 => Judge(random_number(table, random)),
         2 => Search(random_margin(table, random)),
@@ -252,10 +278,21 @@ fn random_tables() {
         }
         let refused = answer.as_ref().err().map(|refusal| refusal.number);
         seen.count("an answer", answer.is_ok());
-        for number in [12, 13, 14] {
+        for number in [12, 13, 14, 17] {
             seen.count(&format!("refused {number}"), refused == Some(number));
         }
         let answer = answer.unwrap_or_default();
+        for (sort, part) in [
+            ("spent", " leaves, spent\n"),
+            ("not spent", " leaves, not spent\n"),
+        ] {
+            let here = |part| answer.contains(part);
+            seen.count(&format!("a budget {sort} for People"), here(part));
+            let fields = answer.lines().find(|line| line.starts_with("budget\t"));
+            let bit = if sort == "spent" { "\t1" } else { "\t0" };
+            let in_fields = fields.is_some_and(|line| line.ends_with(bit));
+            seen.count(&format!("a budget {sort} for Tsv"), in_fields);
+        }
         let has = |part| answer.contains(part);
         seen.count("leaves read in several lines", has("\n        "));
         seen.count("a play past the margin", has("past the margin"));
@@ -324,6 +361,162 @@ fn random_forced_plays() {
     }
     comparison.demand(600);
     seen.demand(10);
+}
+
+// ---------------------------------------------------------------------------
+// A leaf budget
+// ---------------------------------------------------------------------------
+
+const SPENT: &str = "\
+margin  0.000 points (0g)
+budget  1 leaf, spent
+low     5.000 points (20g)
+high    8.000 points (32g)
+apart   3.000 points (12g)
+play    1, node 1
+leaves  1 of 3 read
+leaf    1
+grain   4g to the point
+";
+
+const SPENT_IN_FIELDS: &str = "\
+margin\t0\t0.000
+budget\t1\t1
+low\t20\t5.000
+high\t32\t8.000
+apart\t12\t3.000
+play\t1\t1
+leaves\t3
+read\t1
+leaf\t1
+grain\t4
+";
+
+const NOT_SPENT: &str = "\
+margin  3.000 points (12g)
+budget  1024 leaves, not spent
+low     5.000 points (20g)
+high    8.000 points (32g)
+apart   3.000 points (12g)
+play    1, node 1
+leaves  1 of 3 read
+leaf    1
+grain   4g to the point
+";
+
+const NOT_SPENT_IN_FIELDS: &str = "\
+margin\t12\t3.000
+budget\t1024\t0
+low\t20\t5.000
+high\t32\t8.000
+apart\t12\t3.000
+play\t1\t1
+leaves\t3
+read\t1
+leaf\t1
+grain\t4
+";
+
+const NO_LEAF: &str = "\
+margin  0.000 points (0g)
+budget  0 leaves, spent
+low     0.000 points (0g)
+high    8.000 points (32g)
+apart   8.000 points (32g)
+play    none: a budget of 0 reads no leaf
+leaves  0 of 3 read
+grain   4g to the point
+";
+
+const NO_LEAF_IN_FIELDS: &str = "\
+margin\t0\t0.000
+budget\t0\t1
+low\t0\t0.000
+high\t32\t8.000
+apart\t32\t8.000
+play\t0\t0
+leaves\t3
+read\t0
+grain\t4
+";
+
+/// Searches of table B within a budget, by the words and the fields that are printed.
+#[test]
+fn budgets_by_the_words_printed() {
+    let (file, text) = example("b");
+    for (question, words, fields) in [
+        (within("0", "1"), SPENT, SPENT_IN_FIELDS),
+        (within("3", "1024"), NOT_SPENT, NOT_SPENT_IN_FIELDS),
+        (within("0g", "0"), NO_LEAF, NO_LEAF_IN_FIELDS),
+    ] {
+        for (form, printed) in [(Form::People, words), (Form::Tsv, fields)] {
+            let answer = question.answer(&text, form).expect("an answer");
+            assert_eq!(answer, printed, "{question:?}");
+            ask(question.words(), &text, form, Way::File(&file), 0).answers(printed);
+        }
+    }
+    // Where nobody chooses, that is why there is no play.
+    for (text, root) in [
+        (table_b_under_chance(), "a C root"),
+        (dotted(LONE_LEAF), "an L root"),
+    ] {
+        let question = within("0", "0");
+        let ran = ask(question.words(), &text, Form::People, Way::Input, 0);
+        let none = format!("\nplay    none: nobody chooses at {root}\n");
+        assert!(ran.out.contains(&none), "{}", ran.out);
+        let answer = question.answer(&text, Form::People).expect("an answer");
+        ran.answers(&answer);
+    }
+}
+
+/// Tables of every sort, searched within a budget. It also fails where the answers
+/// were too much alike to mean anything.
+#[test]
+fn random_budgets() {
+    let mut comparison = Comparison::new("desk on random budgets");
+    let mut seen = Seen::default();
+    for number in 0..360 {
+        let random = &mut Random::of_case(comparison.tally.seed, number);
+        let text = random_text(number, random);
+        let table = second::read(&text).expect("valid");
+        let margin = match random.below(12) {
+            0 => "-1".to_string(),
+            _ => random_margin(&table, random),
+        };
+        let question = SearchWithin(margin, random_budget(&table, random));
+        let form = random.pick(&FORMS);
+        let answer = comparison.hold(&question, &text, form, Way::Input);
+        let refused = answer.as_ref().err().map(|refusal| refusal.number);
+        let answer = answer.unwrap_or_default();
+        let has = |part: &str| answer.contains(part);
+        for one in FORMS {
+            let mut count = |sort: &str, is_one: bool| {
+                let here = form == one && is_one;
+                seen.count(&format!("{sort} for {one:?}"), here);
+            };
+            count(
+                "spent",
+                has(", spent\n") || spent_field(&answer) == Some("1"),
+            );
+            let not = has(", not spent\n") || spent_field(&answer) == Some("0");
+            count("not spent", not);
+            count("no leaf", has("leaves  0 of") || has("\nread\t0\n"));
+            count("refused 12", refused == Some(12));
+            count("refused 17", refused == Some(17));
+        }
+        seen.count("a budget of one leaf", has("budget  1 leaf, "));
+        seen.count("no play of 0 leaves", has("none: a budget of 0"));
+        seen.count("no play at a C or L", has("none: nobody"));
+    }
+    comparison.demand(360);
+    seen.demand(2);
+}
+
+/// The last field of the line `budget`.
+fn spent_field(answer: &str) -> Option<&str> {
+    let mut lines = answer.lines();
+    let fields = lines.find_map(|line| line.strip_prefix("budget\t"))?;
+    fields.split('\t').nth(1)
 }
 
 /// Rollouts of random tables without C, by several policies.
@@ -522,6 +715,13 @@ fn numbers_of_any_length() {
             refused += hold_number(words, &file, &text, 12);
         }
     }
+    for number in ["-1", "1025", "9223372036854775808", SIXTY_DIGITS, &minus] {
+        let words = ["search", "--budget", number, "0"];
+        refused += hold_number(&words, &file, &text, 17);
+        // 12 comes first.
+        let words = ["search", "--budget", number, "-1"];
+        refused += hold_number(&words, &file, &text, 12);
+    }
     for number in ["0", "3", "-1", "9223372036854775808", SIXTY_DIGITS, &minus] {
         refused += hold_number(&["judge", number], &file, &text, 14);
         for form in FORMS {
@@ -529,7 +729,7 @@ fn numbers_of_any_length() {
             ran.answers(&forced_and_judged(&table, form));
         }
     }
-    assert_eq!(refused, 24);
+    assert_eq!(refused, 44);
 }
 
 /// Holds both forms to this refusal of a number, and counts the runs.
@@ -556,6 +756,7 @@ fn examples_in_the_description() {
         ("level", Judge(2), "judge 2"),
         ("forced", Judge(3), "judge 3"),
         ("b", Search("3".to_string()), "search 3"),
+        ("a", within("0", "2"), "search --budget 2 0"),
         ("a", Rollout(Vec::new()), "rollout"),
         ("b", Show, "show"),
         ("b", ShowTo("3".to_string()), "show --margin 3"),
@@ -568,6 +769,17 @@ fn examples_in_the_description() {
         assert_eq!(described, answer, "docs/DESK.md on {words} {file}");
         ask(question.words(), &text, Form::People, Way::File(&file), 0).answers(&described);
     }
+}
+
+/// The refused budget in the description is what the program prints.
+#[test]
+fn refused_budget_in_the_description() {
+    let described = block("docs/DESK.md", "budget is refused where the table");
+    assert!(described.starts_with("desk: examples/a.txt: refused 17\n"));
+    let words = ["search", "--budget", "2000", "0", "examples/a.txt"];
+    let ran = run(&words, &[]);
+    assert_eq!((ran.status, &*ran.out), (Some(1), ""));
+    assert_eq!(ran.err, described);
 }
 
 /// The refusal in the description is what the program prints.

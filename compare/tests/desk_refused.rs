@@ -7,7 +7,7 @@ use std::fs;
 use std::ops::RangeInclusive;
 use std::time::{Duration, Instant};
 
-use compare::hold::desk::Question::{Judge, Rollout, Search, ShowTo};
+use compare::hold::desk::Question::{Judge, Rollout, Search, SearchWithin, ShowTo};
 use compare::hold::desk::*;
 use compare::hold::tally::{Tally, OF_TABLES};
 use compare::random::Random;
@@ -215,8 +215,13 @@ fn other_texts() -> Vec<Bad> {
 #[test]
 fn refused_tables() {
     let mut tally = Tally::new("desk on refused tables");
-    // A table is refused before a margin or a number.
-    let verbs = [OF_A_TABLE, &[&["search", "-1"], &["judge", "0"]]].concat();
+    // A table is refused before a margin, a budget or a number.
+    let numbers: [&[&str]; 3] = [
+        &["search", "-1"],
+        &["search", "--budget", "-1", "0"],
+        &["judge", "0"],
+    ];
+    let verbs = [OF_A_TABLE, &numbers].concat();
     let lists = [wrong_lengths(), lines_of_b(), other_texts()];
     for bad in lists.iter().flatten() {
         let file = written("desk-refused.txt", &bad.text);
@@ -434,17 +439,27 @@ fn reasons_in_words() {
     let great = "99999999999999999999";
     let given = format!("{great} was given");
     Said::new(b(), &given, "range").hold(&["show", "--margin", great]);
+    for budget in ["2000", "-1", "1025", "-9223372036854775808", great] {
+        let given = format!("{budget} was given");
+        let said = Said::new(b(), &given, "range");
+        said.hold(&["search", "--budget", budget, "0"]);
+        said.hold(&["search", "0", &format!("--budget={budget}")]);
+    }
     Said::new(b(), "the first is node 2", "search it").hold(&["rollout"]);
     Said::new(b(), "7 was given, and there are 2", "from 1").hold(&["judge", "7"]);
 }
 
-/// Refusals of a call on an accepted table: 12, 13 and 14.
+/// Refusals of a call on an accepted table: 12, 13, 14 and 17.
 #[test]
 fn refused_calls() {
     let mut comparison = Comparison::new("desk on refused calls");
     let (file, b) = example("b");
     let chance = table_b_under_chance();
     let turned = dotted(TABLE_B_TURNED);
+    let within = |margin: &str, budget: &str| {
+        let (margin, budget) = (margin.to_string(), budget.to_string());
+        SearchWithin(margin, budget)
+    };
     let questions = [
         (12, &b, Search("-1".to_string())),
         (12, &b, ShowTo("-0.25".to_string())),
@@ -456,6 +471,12 @@ fn refused_calls() {
         (14, &b, Judge(0)),
         (14, &b, Judge(3)),
         (14, &turned, Judge(-1)),
+        (17, &b, within("0", "1025")),
+        (17, &b, within("40000000000000g", "-1")),
+        (17, &chance, within("0", "2000")),
+        (17, &turned, within("3", "9223372036854775807")),
+        (12, &b, within("-1", "2000")),
+        (12, &chance, within("40000000000001g", "0")),
     ];
     for (number, text, question) in questions {
         for form in FORMS {
@@ -483,8 +504,8 @@ fn refused_calls() {
             comparison.answered(&Judge(number), &text, Way::Input);
         }
     }
-    comparison.demand(36);
-    for number in [12, 13, 14] {
+    comparison.demand(48);
+    for number in [12, 13, 14, 17] {
         assert!(comparison.tally.counts[number] >= 6, "refusal {number}");
     }
 }

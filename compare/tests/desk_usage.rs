@@ -23,9 +23,10 @@ fn options_anywhere() {
     let (file, text) = example("b");
     let table = second::read(&text).expect("accepted");
     let worth = desk::worth(&table, Form::Tsv);
-    let search = desk::search(&table, 12, Form::Tsv).expect("an answer");
+    let search = desk::search(&table, 12, None, Form::Tsv).expect("an answer");
+    let within = desk::search(&table, 0, Some(1), Form::Tsv).expect("an answer");
     let show = desk::show(&table, Some(12), Form::Tsv).expect("an answer");
-    let lines: [(&str, &str); 13] = [
+    let lines: [(&str, &str); 25] = [
         ("worth --tsv F", &worth),
         ("worth F --tsv", &worth),
         ("worth --tsv -- F", &worth),
@@ -33,6 +34,18 @@ fn options_anywhere() {
         ("search 3 --tsv F", &search),
         ("search 3 F --tsv", &search),
         ("search --tsv -- 12g F", &search),
+        ("search --tsv --budget 1 0 F", &within),
+        ("search --budget 1 --tsv 0 F", &within),
+        ("search --budget 1 0 --tsv F", &within),
+        ("search 0 --budget 1 F --tsv", &within),
+        ("search --tsv 0 F --budget 1", &within),
+        ("search 0 F --tsv --budget 1", &within),
+        ("search --tsv --budget=1 0 F", &within),
+        ("search 0 F --budget=1 --tsv", &within),
+        ("search --tsv --budget 1 -- 0 F", &within),
+        ("search --tsv --budget 2 --budget 1 0 F", &within),
+        ("search --tsv --budget 2000 0 F --budget=1", &within),
+        ("search --tsv --budget=-1 0 --budget 1 F", &within),
         ("show --tsv --margin 3 F", &show),
         ("show --margin 3 --tsv F", &show),
         ("show --margin 12g F --tsv", &show),
@@ -141,6 +154,36 @@ fn wrong_usage() {
         "search 0x10 F",
         "search 3,5 F",
         "search 3 F F",
+        "search --budget",
+        "search --budget 2",
+        "search --budget 2 F",
+        "search 3 F --budget",
+        "search 3 --tsv --budget",
+        "search --budget F 3",
+        "search --budget x 3 F",
+        "search --budget E 3 F",
+        "search --budget= 3 F",
+        "search --budget=x 3 F",
+        "search --budget 1.5 3 F",
+        "search --budget=1.5 3 F",
+        "search --budget 2g 3 F",
+        "search --budget 1,2 3 F",
+        "search --budget 1,024 3 F",
+        "search --budget 0x10 3 F",
+        "search --budget 1e3 3 F",
+        "search --budget - 3 F",
+        "search --budget --tsv 3 F",
+        "search --budget x --tsv 3 F",
+        "search --budgets 2 3 F",
+        "search --budget 2000 x F",
+        "search --budget 2 3 F F",
+        "show --budget 2 F",
+        "show --margin 3 --budget 2 F",
+        "worth --budget 2 F",
+        "judge 1 --budget 2 F",
+        "turn --budget 2 F",
+        "rollout --budget 2 F",
+        "report --budget 2 F",
         "show --margin",
         "show F --margin",
         "show --margin F",
@@ -213,6 +256,7 @@ fn help() {
         ran.out
     };
     assert!(helped(&["help", "report"]).contains("--scale"));
+    assert!(helped(&["help", "search"]).contains("--budget"));
     let all = helped(&["help"]);
     for verb in VERBS {
         assert!(all.contains(verb[0]), "desk help does not name {}", verb[0]);

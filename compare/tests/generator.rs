@@ -8,7 +8,7 @@ use compare::random::{seed, Random};
 use compare::second::{self, root_children, Kind, Table, MOST_CHANCES, MOST_TOTAL};
 use compare::texts::examples::escaped;
 use compare::texts::knobs::{Kinds, Knobs, Order, Shape, Utilities, Weights, ROLLS, WIDEST};
-use compare::texts::{self, bench, level, matches};
+use compare::texts::{self, bench, level, matches, windows};
 
 /// A setting and its name.
 type Setting = (&'static str, fn(&mut Random) -> Knobs);
@@ -314,6 +314,32 @@ fn count_plan(seen: &mut Seen, table: &Table, plays: &[usize], losses: &[i64]) {
         is(play, Kind::Chance) && run.any(|node| is(node, Kind::Chance))
     });
     seen.count("a level C over another", nested);
+}
+
+/// Tables made for their windows are valid and have every number of C on a path; under
+/// each C one child has most of the weight, and that is of the side that is not to move
+/// at the root.
+#[test]
+fn windows_are_under_heavy_children() {
+    let mut seen = Seen::default();
+    for number in 0..2_000 {
+        let text = windows::narrowed(&mut Random::of_case(seed(), number));
+        let place = || format!("case {number}:\n{}", escaped(&text));
+        let table =
+            second::read(&text).unwrap_or_else(|refusal| panic!("{refusal:?} at {}", place()));
+        let root = table.nodes[0].kind;
+        let heavy = table.nodes.iter().filter(|node| {
+            let weight = node.weight.unwrap_or(0);
+            3 * weight >= 2 * table.total
+        });
+        let kinds: Vec<Kind> = heavy.map(|node| node.kind).collect();
+        assert_eq!(kinds.len(), weights(&table).len(), "{}", place());
+        let others = [Kind::Max, Kind::Min].contains(&root) && !kinds.contains(&root);
+        assert!(others && !kinds.contains(&Kind::Leaf), "{}", place());
+        seen.count_root(&SIDES, &table);
+        seen.count_chances(&table);
+    }
+    seen.demand_but(300, |sort| sort == "K 0");
 }
 
 /// The benchmark's figures are compared with those of earlier runs, so every byte

@@ -7,14 +7,16 @@
 
 use std::fmt::Debug;
 
+use compare::hold::budget::no_budget;
 use compare::hold::seen::{Seen, ROOTS, SIDES};
 use compare::hold::tally::{Tally, OF_TABLES};
 use compare::hold::{code, span};
 use compare::random::{number_from_environment, Random};
 use compare::second::{
-    self, root_children, Bounds, Entry, Mark, Refusal, Stop, Table, MARKS, PLAY_LINE,
+    self, root_children, Bounds, Entry, Mark, Refusal, Stop, Table, GREATEST_BUDGET, MARKS,
+    PLAY_LINE,
 };
-use compare::texts::examples::escaped;
+use compare::texts::examples::{dotted, escaped, TABLE_A};
 use compare::texts::knobs::Knobs;
 use compare::texts::matches::chosen::chosen;
 use compare::texts::matches::NO_SCALES;
@@ -70,12 +72,17 @@ fn judged(judgement: second::Judgement) -> package::Judgement {
     }
 }
 
-/// Low, high, play, leaves and G of a search.
-type Found = (i64, i64, package::Play, Vec<usize>, i64);
+/// Low, high and their difference, the play, the leaves, whether the budget was spent,
+/// and G of a search.
+type Found = ([i64; 3], package::Play, Vec<usize>, bool, i64);
 
-fn found(table: &Table, margin: i64) -> Result<Found, Refusal> {
+/// Without a budget, or with one.
+fn found(table: &Table, margin: i64, budget: Option<i64>) -> Result<Found, Refusal> {
     let mut leaves = vec![0; table.leaves];
-    let found = second::search(table, margin, &mut leaves)?;
+    let found = match budget {
+        None => second::search(table, margin, &mut leaves)?,
+        Some(budget) => second::search_within(table, margin, budget, &mut leaves)?,
+    };
     let play = match found.play {
         None => package::Play::None,
         Some(node) => {
@@ -87,7 +94,19 @@ fn found(table: &Table, margin: i64) -> Result<Found, Refusal> {
     };
     let read = leaves[..found.read].iter();
     let read = read.map(|&leaf| usize::from(leaf)).collect();
-    Ok((found.low, found.high, play, read, table.grains))
+    let bounds = [found.low, found.high, found.high - found.low];
+    Ok((bounds, play, read, found.spent, table.grains))
+}
+
+fn package_found(found: package::Found) -> Found {
+    let bounds = [found.low, found.high, found.difference];
+    (
+        bounds,
+        found.play,
+        found.leaves,
+        found.spent,
+        found.per_point,
+    )
 }
 
 /// The worth, the leaves and the bounds of each node by rollouts.
@@ -115,9 +134,23 @@ fn turned(text: &[u8]) -> Result<Vec<u8>, Refusal> {
 // The comparison
 // ---------------------------------------------------------------------------
 
-/// Asks both about a text, with this play number, margin and policy. Returns what
-/// each call was answered, as the proved engine would return it.
-fn hold(text: &[u8], number: i64, margin: i64, policy: &[u8], place: &str) -> [u64; 6] {
+/// What is asked about a text.
+struct Questions {
+    number: i64,
+    margin: i64,
+    budget: i64,
+    policy: Vec<u8>,
+}
+
+/// Asks both about a text. Returns what each call was answered, as the proved engine
+/// would return it.
+fn hold(text: &[u8], questions: &Questions, place: &str) -> [u64; 7] {
+    let Questions {
+        number,
+        margin,
+        budget,
+        ref policy,
+    } = *questions;
     let table = second::read(text);
     let with = |call: &str| format!("{place}, {call}\n{}", escaped(text));
 
@@ -144,17 +177,15 @@ fn hold(text: &[u8], number: i64, margin: i64, policy: &[u8], place: &str) -> [u
     let call = format!("judge {number}");
     assert_eq!(said, second(expected.map(judged)), "{}", with(&call));
 
-    let expected = table.clone().and_then(|table| found(&table, margin));
-    let said = package::search(text, margin).map(|found| {
-        (
-            found.low,
-            found.high,
-            found.play,
-            found.leaves,
-            found.per_point,
-        )
-    });
+    let expected = table.clone().and_then(|table| found(&table, margin, None));
+    let said = package::search(text, margin).map(package_found);
     let call = format!("search {margin}");
+    assert_eq!(typed(said), second(expected), "{}", with(&call));
+
+    let within = |table: &Table| found(table, margin, Some(budget));
+    let expected = table.clone().and_then(|table| within(&table));
+    let said = package::search_within(text, margin, budget).map(package_found);
+    let call = format!("search_within {margin}, {budget}");
     assert_eq!(typed(said), second(expected), "{}", with(&call));
 
     let said = package::turn(text).map(|turned| turned.text);
@@ -175,7 +206,8 @@ fn hold(text: &[u8], number: i64, margin: i64, policy: &[u8], place: &str) -> [u
         code(&table),
         code(&table),
         ask(&|table| second::judge(table, number).map(|_| ())),
-        ask(&|table| found(table, margin).map(|_| ())),
+        ask(&|table| found(table, margin, None).map(|_| ())),
+        ask(&|table| within(table).map(|_| ())),
         code(&turned(text)),
         ask(&|table| rolled(table, policy).map(|_| ())),
     ]
@@ -201,10 +233,27 @@ fn typed_calls() {
             _ => random.between(0, children + 1),
         };
         let margin = random.pick(&[-1, 0, 1, span / 10, span / 2, span]);
-        let policy: Vec<u8> = (0..random.below(40)).map(|_| random.bits() as u8).collect();
-        let codes = hold(&text, number, margin, &policy, &tally.place());
+        let leaves = table.as_ref().map_or(0, |table| table.leaves) as i64;
+        let budget = match random.below(8) {
+            0 => no_budget(&mut random),
+            1 => random.pick(&[0, 1, GREATEST_BUDGET]),
+            _ => random.between(0, leaves + 1),
+        };
+        let policy = (0..random.below(40)).map(|_| random.bits() as u8).collect();
+        let questions = Questions {
+            number,
+            margin,
+            budget,
+            policy,
+        };
+        let codes = hold(&text, &questions, &tally.place());
         tally.add(&codes);
         if let Some(table) = &table {
+            let within = found(table, margin, Some(budget));
+            for (sort, spent) in [("spent", true), ("not spent", false)] {
+                let here = within.as_ref().is_ok_and(|found| found.3 == spent);
+                seen.count(&format!("a budget {sort}"), here);
+            }
             seen.count_root(&ROOTS, table);
             seen.count_table(table);
             seen.count_chances(table);
@@ -216,7 +265,7 @@ fn typed_calls() {
     tally.report();
     seen.demand(20);
     tally.demand_refusals(&OF_TABLES);
-    tally.demand_refusals(&[12, 13, 14]);
+    tally.demand_refusals(&[12, 13, 14, 17]);
 }
 
 // ---------------------------------------------------------------------------
@@ -384,6 +433,23 @@ fn words_of_refused_scales() {
             let (number, line, position) = (refusal.number, refusal.line, refusal.position);
             assert_eq!((number, line, position), (20, 0, 0), "{scale}");
             let shown = format!("refused 20: {}", refusal.reason());
+            assert_eq!(refusal.to_string(), shown);
+            one_line_each(refusal);
+        }
+    }
+}
+
+/// A refused margin or budget is at no line, and the margin comes first.
+#[test]
+fn words_of_refused_searches() {
+    let text = dotted(TABLE_A);
+    for budget in [-1, GREATEST_BUDGET + 1, i64::MIN, i64::MAX] {
+        for (margin, number) in [(0, 17), (-1, 12)] {
+            let refusal = package::search_within(&text, margin, budget);
+            let refusal = refusal.expect_err("no budget");
+            let (line, position) = (refusal.line, refusal.position);
+            assert_eq!((refusal.number, line, position), (number, 0, 0));
+            let shown = format!("refused {number}: {}", refusal.reason());
             assert_eq!(refusal.to_string(), shown);
             one_line_each(refusal);
         }

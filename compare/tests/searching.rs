@@ -11,7 +11,7 @@ use compare::hold::seen::Seen;
 use compare::hold::span;
 use compare::hold::tally::{Tally, OF_TABLES};
 use compare::random::{number_from_environment, seed, Random};
-use compare::second::{self, Found, Kind, Refusal, Scale, Table, GREATEST_MARGIN, MOST_NODES};
+use compare::second::{self, Kind, Refusal, Rounding, Scale, Table, GREATEST_MARGIN, MOST_NODES};
 use compare::texts::examples::*;
 use compare::texts::knobs::Knobs;
 use compare::texts::small::{for_each, six_nodes};
@@ -214,13 +214,9 @@ fn second_engine_searches_a_turned_table_alike() {
         for margin in margins(&mut random, &table) {
             let one = Expected::of(&Ok(table.clone()), margin, table.leaves);
             let other = Expected::of(&Ok(turned(&table)), margin, table.leaves);
-            let negated = one.answer.map(|(found, grains)| {
-                cut += u64::from(found.read < table.leaves);
-                let (low, high) = (-found.high, -found.low);
-                (Found { low, high, ..found }, grains)
-            });
-            assert_eq!(other.answer, negated);
-            assert_eq!(other.leaves, one.leaves);
+            assert_eq!(other, one.turned());
+            let read = one.leaves.len();
+            cut += u64::from(one.answer.is_ok() && read < table.leaves);
         }
     }
     assert!(cut >= 5_000, "only {cut} searches were cut");
@@ -234,6 +230,7 @@ fn second_engine_rounds_windows_outward() {
         least,
         greatest,
         total: 4,
+        rounding: Rounding::Outward,
     };
     assert_eq!(scale(0, 32).alpha_below(3, 21, 32), 17);
     assert_eq!(scale(0, 32).beta_below(3, 20, 0), 27);
@@ -287,8 +284,7 @@ fn second_engine_has_the_known_answers() {
         let table = second::read(&text);
         let room = table.as_ref().map_or(0, |table| table.leaves);
         let got = Expected::of(&table, margin, room);
-        assert_eq!(got.answer, expected.answer, "margin {margin}");
-        assert_eq!(got.leaves, expected.leaves, "margin {margin}");
+        assert_eq!(got, expected, "margin {margin}");
     }
 }
 

@@ -31,10 +31,11 @@ struct Answer {
 impl Answer {
     fn of(text: &[u8], margin: i64, room: usize) -> Answer {
         let mut leaves = vec![0; room];
-        let mut numbers = [0; 5];
+        let mut numbers = [0; 7];
         let returned = engine::search(text, margin, &mut leaves, &mut numbers);
         assert_eq!(returned, 0, "a valid table");
-        let [low, high, play, read, grains] = numbers;
+        let [low, high, play, read, grains, apart, spent] = numbers;
+        assert_eq!((apart, spent), (high - low, 0), "without a budget");
         leaves.truncate(read as usize);
         Answer {
             low,

@@ -7,9 +7,9 @@ use std::hint::black_box;
 use std::time::{Duration, Instant};
 
 use compare::engine::{self, Lent, Record};
-use compare::hold::{kind_number, mark_number, reporting};
+use compare::hold::{kind_number, mark_number, reporting, searching};
 use compare::random::{seed, Random};
-use compare::second::{self, root_children, Bounds, Judgement, LINE, MOST_NODES};
+use compare::second::{self, root_children, Bounds, Judgement, Terms, LINE, MOST_NODES};
 use compare::texts::bench::{bushy, bushy_plain, deep, flat, Shape};
 use compare::texts::knobs::Knobs;
 use compare::texts::matches::{self, Position};
@@ -69,6 +69,7 @@ fn main() {
     worth(&sorts);
     judging(&sorts);
     search(&sorts);
+    budgets(&sorts);
     turning(&sorts);
 
     let plain = self::sorts(
@@ -141,7 +142,7 @@ fn search(sorts: &[Sort]) {
     println!("The leaf lists are allocated once, outside of the timing.");
     let mut leaves = Box::new([0; MOST_NODES]);
     let mut second_leaves = Box::new([0; MOST_NODES]);
-    let mut numbers = [0; 5];
+    let mut numbers = [0; 7];
     for (name, margin) in MARGINS {
         println!();
         println!("Margin {name}:");
@@ -159,10 +160,86 @@ fn search(sorts: &[Sort]) {
             },
             |sort, text| {
                 let leaves = black_box(&mut *second_leaves);
-                let _ = black_box(second_search(black_box(text), margin(sort), leaves));
+                let terms = Terms::of(margin(sort));
+                let _ = black_box(second_search(black_box(text), terms, leaves));
             },
         );
     }
+}
+
+/// Budgets of a search, in leaves.
+const BUDGETS: [i64; 4] = [0, 16, 256, 1_024];
+
+fn budgets(sorts: &[Sort]) {
+    println!();
+    println!(
+        "The search within a leaf budget, margin 0, of the tables with {MOST_NODES} lines. The"
+    );
+    println!("leaves read are those of all {TEXTS} texts.");
+    println!();
+    let mut leaves = Box::new([0; MOST_NODES]);
+    let mut second_leaves = Box::new([0; MOST_NODES]);
+    let mut numbers = [0; 7];
+    let mut proved = |budget, text: &[u8]| {
+        let (leaves, numbers) = (black_box(&mut *leaves), black_box(&mut numbers));
+        let text = black_box(text);
+        black_box(engine::search_within(text, 0, budget, leaves, numbers));
+    };
+    let mut second = |budget, text: &[u8]| {
+        let leaves = black_box(&mut *second_leaves);
+        let terms = Terms::within(0, budget);
+        let _ = black_box(second_search(black_box(text), terms, leaves));
+    };
+    let largest = || sorts.iter().filter(|sort| sort.size == MOST_NODES);
+    let mut cases = Vec::new();
+    for (sort, budget) in largest().flat_map(|sort| BUDGETS.map(|budget| (sort, budget))) {
+        let case = Case::new(sort, &mut |_, text| proved(budget, text), &mut |_, text| {
+            second(budget, text)
+        });
+        cases.push((budget, case));
+    }
+    for _ in 0..ROUNDS {
+        for (budget, case) in &mut cases {
+            case.round(&mut |_, text| proved(*budget, text), &mut |_, text| {
+                second(*budget, text)
+            });
+        }
+    }
+    println!(
+        "{:<8}{:>8}{:>8}  {:>10}{:>10}  {:>8}",
+        "", "", "leaves", "proved", "second", "proved/"
+    );
+    println!(
+        "{:<8}{:>8}{:>8}  {:>10}{:>10}  {:>8}",
+        "shape", "budget", "read", "ns/call", "ns/call", "second"
+    );
+    for (budget, case) in cases {
+        println!(
+            "{:<8}{budget:>8}{:>8}  {:>10.0}{:>10.0}  {:>8.2}",
+            case.sort.shape,
+            leaves_read(case.sort, budget),
+            case.proved,
+            case.second,
+            case.proved / case.second,
+        );
+    }
+}
+
+/// The leaves that both engines read of all texts within this budget.
+fn leaves_read(sort: &Sort, budget: i64) -> i64 {
+    let mut read = 0;
+    for text in &sort.texts {
+        let mut numbers = [0; 7];
+        let mut lists = [[0; MOST_NODES]; 2];
+        let [list, second_list] = &mut lists;
+        let returned = engine::search_within(text, 0, budget, list, &mut numbers);
+        assert_eq!(returned, 0, "a valid table");
+        let found = second_search(text, Terms::within(0, budget), second_list);
+        assert_eq!(Ok(numbers), found, "budget {budget}");
+        assert_eq!(list, second_list, "budget {budget}");
+        read += numbers[3];
+    }
+    read
 }
 
 fn turning(sorts: &[Sort]) {
@@ -283,18 +360,12 @@ fn second_rollout(
 /// What the second engine's search finds, as the proved engine writes it.
 fn second_search(
     text: &[u8],
-    margin: i64,
+    terms: Terms,
     leaves: &mut [u16],
-) -> Result<[i64; 5], second::Refusal> {
+) -> Result<[i64; 7], second::Refusal> {
     let table = second::read(text)?;
-    let found = second::search(&table, margin, leaves)?;
-    Ok([
-        found.low,
-        found.high,
-        found.play.unwrap_or(0) as i64,
-        found.read as i64,
-        table.grains,
-    ])
+    let found = second::search_watched(&table, terms, leaves, |_| {})?;
+    Ok(searching::numbers(found, table.grains))
 }
 
 /// All texts are valid tables of the size that they should have, and the
@@ -324,12 +395,12 @@ fn check(sorts: &[Sort]) {
             assert_eq!(buffer, second_buffer);
 
             for (name, margin) in MARGINS {
-                let mut numbers = [0; 5];
+                let mut numbers = [0; 7];
                 let mut lists = [[0; MOST_NODES]; 2];
                 let [list, second_list] = &mut lists;
                 let returned = engine::search(text, margin(sort), list, &mut numbers);
                 assert_eq!(returned, 0, "a valid table");
-                let found = second_search(text, margin(sort), second_list);
+                let found = second_search(text, Terms::of(margin(sort)), second_list);
                 assert_eq!(Ok(numbers), found, "margin {name}");
                 assert_eq!(list, second_list, "margin {name}");
             }

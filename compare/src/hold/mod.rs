@@ -2,6 +2,7 @@
 //! second one, or to an answer that is known; and the count of what came of the
 //! texts. Everything here fails the test where something differs.
 
+pub mod budget;
 pub mod desk;
 pub mod judging;
 pub mod numbers;

@@ -9,7 +9,7 @@ use crate::texts::examples::escaped;
 const PATTERN: i64 = -0x5a5a_5a5a_5a5a_5a5a;
 
 /// The most numbers lent to a call; one more is kept as a guard after them.
-pub const ROOM: usize = 6;
+pub const ROOM: usize = 9;
 
 /// Makes the call with room for so many numbers; `asked` names it. Fails the test unless it
 /// returns and writes what is expected, and leaves all other numbers alone.

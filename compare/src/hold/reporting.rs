@@ -223,7 +223,7 @@ impl Comparison {
 
     /// The lengths to lend for a file of so many positions: once lists that are
     /// long enough, once any; for a file that is refused any, once. Each length is
-    /// drawn for itself, and so is the room for 0 to 6 numbers.
+    /// drawn for itself, and so is the room for numbers.
     fn lengths(&mut self, positions: Option<usize>) -> Vec<Lent> {
         self.turn += 1;
         // Not the numbers that the file was made with.

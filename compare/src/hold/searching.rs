@@ -1,7 +1,10 @@
 //! The search: the refusal and its line, or the bounds, the play, the number of
-//! leaves read, G and every entry of the leaf list; and that all else in what was
-//! lent is left as it was. What the search promises of the exact worth is held to
-//! the answers too.
+//! leaves read, G, the difference of the bounds, whether the budget was spent, and
+//! every entry of the leaf list; and that all else in what was lent is left as it was.
+//! What the search promises of the exact worth is held to the answers too. The search
+//! with a budget has more to it in `budget`.
+
+use std::fmt::Arguments;
 
 use super::numbers::{agree, ROOM};
 use super::seen::{Seen, ROOTS};
@@ -10,7 +13,7 @@ use super::{best_plays, code, span};
 use crate::engine;
 use crate::random::Random;
 use crate::second::{
-    self, root_children, Found, Kind, Refusal, Table, GREATEST_MARGIN, MOST_NODES,
+    self, root_children, Found, Kind, Refusal, Step, Table, Terms, GREATEST_MARGIN, MOST_NODES,
 };
 use crate::texts::examples::escaped;
 use crate::texts::knobs::{ROLLS, WAYS};
@@ -28,20 +31,26 @@ const GUARD: usize = 2;
 
 /// What a call must return and write: the answer with G, and the leaves read, in
 /// reading sequence.
+#[derive(Clone, Debug, PartialEq, Eq)]
 pub struct Expected {
     pub answer: Result<(Found, i64), Refusal>,
     pub leaves: Vec<u16>,
 }
 
 impl Expected {
-    /// What the second engine says of a table that was read.
+    /// What the second engine says of a table that was read, without a budget.
     pub fn of(table: &Result<Table, Refusal>, margin: i64, room: usize) -> Expected {
+        Expected::by(table.as_ref(), Terms::of(margin), room)
+    }
+
+    /// The same by any terms.
+    pub fn by(table: Result<&Table, &Refusal>, terms: Terms, room: usize) -> Expected {
         let table = match table {
             Ok(table) => table,
             Err(refusal) => return Expected::refused(*refusal),
         };
         let mut leaves = vec![PATTERN; room];
-        match second::search(table, margin, &mut leaves) {
+        match second::search_watched(table, terms, &mut leaves, |_| {}) {
             Ok(found) => {
                 leaves.truncate(found.read);
                 let answer = Ok((found, table.grains));
@@ -51,13 +60,14 @@ impl Expected {
         }
     }
 
-    /// An answer that is known; play 0 is none.
+    /// An answer that is known; play 0 is none. No budget was spent.
     pub fn known(low: i64, high: i64, play: usize, leaves: &[u16], grains: i64) -> Expected {
         let found = Found {
             low,
             high,
             play: (play > 0).then_some(play),
             read: leaves.len(),
+            spent: false,
         };
         Expected {
             answer: Ok((found, grains)),
@@ -71,6 +81,31 @@ impl Expected {
             leaves: Vec::new(),
         }
     }
+
+    /// What must come of the turned table: the bounds negated and exchanged.
+    pub fn turned(&self) -> Expected {
+        let negated = self.answer.map(|(found, grains)| {
+            let (low, high) = (-found.high, -found.low);
+            (Found { low, high, ..found }, grains)
+        });
+        Expected {
+            answer: negated,
+            leaves: self.leaves.clone(),
+        }
+    }
+}
+
+/// What the proved engine writes of an answer.
+pub fn numbers(found: Found, grains: i64) -> [i64; 7] {
+    [
+        found.low,
+        found.high,
+        found.play.unwrap_or(0) as i64,
+        found.read as i64,
+        grains,
+        found.high - found.low,
+        i64::from(found.spent),
+    ]
 }
 
 /// Holds the proved engine to this, with a leaf list of `room` entries and so
@@ -83,21 +118,33 @@ pub fn hold_to(
     numbers: usize,
     expected: &Expected,
 ) {
-    let written = match expected.answer {
-        Ok((found, grains)) => &[
-            found.low,
-            found.high,
-            found.play.unwrap_or(0) as i64,
-            found.read as i64,
-            grains,
-        ][..],
-        Err(_) => &[],
-    };
-    let mut list = vec![PATTERN; room + GUARD];
     let asked = format_args!("the search with margin {margin} and a list of {room}");
+    hold_call(
+        tally,
+        text,
+        asked,
+        (room, numbers),
+        expected,
+        |list, lent| engine::search(text, margin, list, lent),
+    );
+}
+
+/// Holds a call to this, with a leaf list and numbers of these lengths; `asked` names
+/// it.
+pub fn hold_call(
+    tally: &Tally,
+    text: &[u8],
+    asked: Arguments,
+    (room, numbers): (usize, usize),
+    expected: &Expected,
+    call: impl FnOnce(&mut [u16], &mut [i64]) -> u64,
+) {
+    let written = expected.answer.map(|(found, g)| self::numbers(found, g));
+    let written = written.as_ref().map_or(&[][..], |written| written);
+    let mut list = vec![PATTERN; room + GUARD];
     let returned = (code(&expected.answer), written);
     agree(tally, text, asked, numbers, returned, |lent| {
-        engine::search(text, margin, &mut list[..room], lent)
+        call(&mut list[..room], lent)
     });
     let (read, rest) = list.split_at(expected.leaves.len());
     if read != expected.leaves || rest.iter().any(|&entry| entry != PATTERN) {
@@ -121,8 +168,7 @@ pub struct Comparison {
     pub tables: Seen,
     pub answers: Seen,
     pub tests: Seen,
-    /// Margins compared so far; it sets the lengths lent next.
-    turn: usize,
+    lengths: Lengths,
 }
 
 impl Comparison {
@@ -132,7 +178,7 @@ impl Comparison {
             tables: Seen::default(),
             answers: Seen::default(),
             tests: Seen::default(),
-            turn: 0,
+            lengths: Lengths::default(),
         }
     }
 
@@ -149,7 +195,7 @@ impl Comparison {
         let margins = margins(table.as_ref().ok());
         let mut codes = Vec::with_capacity(2 * margins.len());
         for margin in margins {
-            for (room, numbers) in self.lengths(table.as_ref().ok()) {
+            for (room, numbers) in self.lengths.next(table.as_ref().ok()) {
                 let expected = Expected::of(&table, margin, room);
                 hold_to(&self.tally, text, margin, room, numbers, &expected);
                 codes.push(code(&expected.answer));
@@ -186,11 +232,19 @@ impl Comparison {
             add("just not cut", not);
         }
     }
+}
 
-    /// The lengths of the lists and the numbers to lend, by turns: a list for
-    /// exactly the leaves or a longer one, with all numbers and one to spare;
-    /// and in some turns one that is too short, or fewer numbers.
-    fn lengths(&mut self, table: Option<&Table>) -> Vec<(usize, usize)> {
+/// What is lent to a call, by turns.
+#[derive(Default)]
+pub struct Lengths {
+    turn: usize,
+}
+
+impl Lengths {
+    /// The lengths of the leaf lists and the numbers to lend next: a list for exactly
+    /// the leaves or a longer one, with all numbers and some to spare; and in some
+    /// turns one that is too short, or fewer numbers.
+    pub fn next(&mut self, table: Option<&Table>) -> Vec<(usize, usize)> {
         self.turn += 1;
         let Some(table) = table else {
             return vec![([0, 1, MOST_NODES][self.turn % 3], self.turn % (ROOM + 1))];
@@ -202,7 +256,7 @@ impl Comparison {
             1 => vec![(leaves + 1, ROOM)],
             2 => vec![(leaves + 1 + self.turn % SPARE, ROOM)],
             3 => vec![(leaves, fewer), (leaves / 2, fewer)],
-            4 => vec![(MOST_NODES, ROOM)],
+            4 => vec![(MOST_NODES, ROOM), (0, ROOM)],
             5 => vec![(leaves + 2, fewer)],
             _ => vec![(leaves, ROOM)],
         }
@@ -266,10 +320,11 @@ fn rolls_only(table: &Table) -> bool {
     nodes.all(|(node, children)| node.kind != Kind::Chance || children == ROLLS)
 }
 
-fn count_list(seen: &mut Seen, room: usize, leaves: usize) {
+pub fn count_list(seen: &mut Seen, room: usize, leaves: usize) {
     seen.count("list exact", room == leaves);
     seen.count("list longer", room > leaves);
     seen.count("list too short", room < leaves);
+    seen.count("no list", room == 0);
 }
 
 fn count_answer(seen: &mut Seen, table: &Table, margin: i64, found: Found) {
@@ -295,8 +350,10 @@ fn count_answer(seen: &mut Seen, table: &Table, margin: i64, found: Found) {
 fn gaps(table: &Table, margin: i64) -> Vec<(Kind, i64)> {
     let mut gaps = Vec::new();
     let mut list = [PATTERN; MOST_NODES];
-    let _ = second::search_watched(table, margin, &mut list, |node, window| {
-        gaps.push((table.nodes[node].kind, window.beta - window.alpha));
+    let _ = second::search_watched(table, Terms::of(margin), &mut list, |step| {
+        if let Step::Test(node, window) = step {
+            gaps.push((table.nodes[node].kind, window.beta - window.alpha));
+        }
     });
     gaps
 }

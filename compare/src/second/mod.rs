@@ -23,7 +23,10 @@ pub use report::{
     positions, report, Entry, Position, Report, Stop, Total, MOST_POSITIONS, PLAY_LINE,
 };
 pub use rollout::{rollout, Rolled};
-pub use search::{search, search_watched, Bounds, Found, Scale, Window, GREATEST_MARGIN};
+pub use search::{
+    search, search_watched, search_within, Bounds, Found, Rounding, Scale, Step, Terms, Window,
+    GREATEST_BUDGET, GREATEST_MARGIN,
+};
 pub use table::*;
 pub use turn::turn;
 pub use worth::{worth, worths};

@@ -1,44 +1,116 @@
-//! The bounded search, Algorithm 1 of document 000 in grains: refusals 12 and 11.
+//! The bounded search, Algorithm 1 of document 000 in grains, and its leaf budget
+//! (document 02, Item 3): refusals 12, 17 and 11.
 
 use super::table::*;
 
 /// The greatest margin, in grains.
 pub const GREATEST_MARGIN: i64 = 40_000_000_000_000;
 
+/// The greatest budget, in leaves.
+pub const GREATEST_BUDGET: i64 = 1_024;
+
 /// What the search found.
 #[derive(Clone, Copy, Debug, PartialEq, Eq)]
 pub struct Found {
     pub low: i64,
     pub high: i64,
-    /// The root child to play, the only one too; none at a root C or L.
+    /// The root child to play, the only one too; none at a root C or L, or where no
+    /// leaf may be read.
     pub play: Option<usize>,
     /// How many leaves were read. Their node numbers stand first in the list.
     pub read: usize,
+    /// Whether a node was met when no read was left.
+    pub spent: bool,
 }
 
 /// Searches a table to within a margin. The list must have room for all leaves
 /// of the table; it gets the node number of each leaf as it is read.
 pub fn search(table: &Table, margin: i64, leaves: &mut [u16]) -> Result<Found, Refusal> {
-    search_watched(table, margin, leaves, |_, _| {})
+    search_watched(table, Terms::of(margin), leaves, |_| {})
 }
 
-/// The search, where each cut test is shown to `watch`: its node and that
-/// node's window. The node is cut if the window is not wider than the margin.
-pub fn search_watched(
+/// The same search, which reads no more leaves than the budget. The list must have
+/// room for all leaves all the same.
+pub fn search_within(
     table: &Table,
     margin: i64,
+    budget: i64,
     leaves: &mut [u16],
-    watch: impl FnMut(usize, Window),
+) -> Result<Found, Refusal> {
+    search_watched(table, Terms::within(margin, budget), leaves, |_| {})
+}
+
+/// What a search is asked for.
+#[derive(Clone, Copy, Debug)]
+pub struct Terms {
+    /// In grains.
+    pub margin: i64,
+    /// In leaves; none where the search never ends for it.
+    pub budget: Option<i64>,
+    pub rounding: Rounding,
+}
+
+impl Terms {
+    /// Without a budget.
+    pub fn of(margin: i64) -> Terms {
+        Terms {
+            margin,
+            budget: None,
+            rounding: Rounding::Outward,
+        }
+    }
+
+    pub fn within(margin: i64, budget: i64) -> Terms {
+        Terms {
+            budget: Some(budget),
+            ..Terms::of(margin)
+        }
+    }
+}
+
+/// How the quotients of lines 9 and 10 are rounded. Document 01 wants them outward,
+/// alpha down and beta up; the other ways are there for tests to count where one
+/// would have changed an answer.
+#[derive(Clone, Copy, Debug, PartialEq, Eq)]
+pub enum Rounding {
+    Outward,
+    /// Alpha inward, beta outward.
+    AlphaUp,
+    /// Beta inward, alpha outward.
+    BetaDown,
+}
+
+/// What is shown of a search on its way.
+#[derive(Clone, Copy, Debug)]
+pub enum Step {
+    /// A cut test: its node, and that node's window. The node is cut if the window
+    /// is not wider than the margin.
+    Test(usize, Window),
+    /// A node met when no read is left.
+    Unread(usize),
+}
+
+/// The search, where each step is shown to `watch`.
+pub fn search_watched(
+    table: &Table,
+    terms: Terms,
+    leaves: &mut [u16],
+    watch: impl FnMut(Step),
 ) -> Result<Found, Refusal> {
     let refused = |number| Err(Refusal { number, line: 0 });
-    if !(0..=GREATEST_MARGIN).contains(&margin) {
+    if !(0..=GREATEST_MARGIN).contains(&terms.margin) {
         return refused(12);
     }
+    let most = match terms.budget {
+        None => usize::MAX,
+        Some(budget @ 0..=GREATEST_BUDGET) => budget as usize,
+        Some(_) => return refused(17),
+    };
     if leaves.len() < table.leaves {
         return refused(11);
     }
 
-    let scale = Scale::of(table);
+    let scale = Scale::of(table, terms.rounding);
     let whole = Window {
         alpha: scale.least,
         beta: scale.greatest,
@@ -47,12 +119,15 @@ pub fn search_watched(
         nodes: &table.nodes,
         grains: table.grains,
         scale,
-        margin,
+        margin: terms.margin,
         leaves,
         read: 0,
+        most,
+        spent: false,
         watch,
     };
     let (bounds, play) = match table.nodes[0].kind {
+        _ if most == 0 => (search.unread(0), None),
         Kind::Leaf => (search.leaf(0), None),
         Kind::Max => search.max(0, whole).playing(),
         Kind::Min => search.min(0, whole).playing(),
@@ -63,38 +138,50 @@ pub fn search_watched(
         high: bounds.high,
         play,
         read: search.read,
+        spent: search.spent,
     })
 }
 
-/// The least and the greatest value there is, in grains, and T.
+/// The least and the greatest value there is, in grains, T, and how a window under a
+/// C is rounded.
 #[derive(Clone, Copy, Debug)]
 pub struct Scale {
     pub least: i64,
     pub greatest: i64,
     pub total: i64,
+    pub rounding: Rounding,
 }
 
 /// No product here leaves the range of i64: a difference of two values is at
 /// most 2,000,000 times 64 to the 4th, and it is multiplied by 64 at most.
 impl Scale {
-    fn of(table: &Table) -> Scale {
+    fn of(table: &Table, rounding: Rounding) -> Scale {
         Scale {
             least: table.lowest * table.grains,
             greatest: table.highest * table.grains,
             total: table.total,
+            rounding,
         }
     }
 
     /// Line 9: alpha for a child of this weight, from the alpha and the high of
     /// the chance node above it. The quotient is rounded down.
     pub fn alpha_below(&self, weight: i64, alpha: i64, high: i64) -> i64 {
-        let quotient = floor((alpha - high) * self.total, weight);
+        let dividend = (alpha - high) * self.total;
+        let quotient = match self.rounding {
+            Rounding::AlphaUp => ceiling(dividend, weight),
+            _ => floor(dividend, weight),
+        };
         self.least.max(quotient + self.greatest)
     }
 
     /// Line 10: beta likewise, from beta and low. The quotient is rounded up.
     pub fn beta_below(&self, weight: i64, beta: i64, low: i64) -> i64 {
-        let quotient = -floor((low - beta) * self.total, weight);
+        let dividend = (beta - low) * self.total;
+        let quotient = match self.rounding {
+            Rounding::BetaDown => floor(dividend, weight),
+            _ => ceiling(dividend, weight),
+        };
         self.greatest.min(quotient + self.least)
     }
 
@@ -109,6 +196,11 @@ impl Scale {
 /// The quotient rounded down, also below zero; the divisor is above zero.
 fn floor(dividend: i64, divisor: i64) -> i64 {
     dividend.div_euclid(divisor)
+}
+
+/// The quotient rounded up likewise.
+fn ceiling(dividend: i64, divisor: i64) -> i64 {
+    -floor(-dividend, divisor)
 }
 
 /// L and U of a node.
@@ -152,18 +244,32 @@ struct Search<'a, W> {
     margin: i64,
     leaves: &'a mut [u16],
     read: usize,
+    /// The most leaves to read.
+    most: usize,
+    spent: bool,
     watch: W,
 }
 
-impl<W: FnMut(usize, Window)> Search<'_, W> {
-    /// Searches a node by the rule of its kind. A leaf needs no window.
+impl<W: FnMut(Step)> Search<'_, W> {
+    /// Searches a node by the rule of its kind if a read is left. A leaf needs no
+    /// window.
     fn enter(&mut self, node: usize, window: impl FnOnce() -> Window) -> Bounds {
+        if self.read == self.most {
+            return self.unread(node);
+        }
         match self.nodes[node].kind {
             Kind::Leaf => self.leaf(node),
             Kind::Max => self.max(node, window()).bounds,
             Kind::Min => self.min(node, window()).bounds,
             Kind::Chance => self.chance(node, window()),
         }
+    }
+
+    /// A node met when no read is left, of whatever kind.
+    fn unread(&mut self, node: usize) -> Bounds {
+        self.spent = true;
+        (self.watch)(Step::Unread(node));
+        self.ends()
     }
 
     fn leaf(&mut self, node: usize) -> Bounds {
@@ -261,7 +367,7 @@ impl<W: FnMut(usize, Window)> Search<'_, W> {
 
     /// Line 24, for a child that is not the last.
     fn cuts(&mut self, node: usize, window: Window) -> bool {
-        (self.watch)(node, window);
+        (self.watch)(Step::Test(node, window));
         window.beta <= window.alpha + self.margin
     }
 }

@@ -4,8 +4,8 @@
 //! Random tables come from one generator: `knobs` says what can be set, `settings`
 //! sets it, `grow` makes a draft by it, and `draft` writes that out. The damages,
 //! the inputs of the margin program and the matches begin with its tables. Only
-//! those of `level` are made otherwise, by a plan of what their plays lose; some
-//! matches are made of such tables.
+//! those of `level` are made otherwise, by a plan of what their plays lose, and some
+//! matches of such tables; and those of `windows`, whose windows under C are narrow.
 
 pub mod bench;
 pub mod broken;
@@ -20,6 +20,7 @@ pub mod level;
 pub mod matches;
 mod settings;
 pub mod small;
+pub mod windows;
 
 use crate::random::Random;
 use crate::second::LINE;

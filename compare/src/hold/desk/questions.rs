@@ -5,9 +5,9 @@ use crate::hold;
 use crate::hold::tally::Tally;
 use crate::second::desk::{self, Form, FORMS};
 use crate::second::{self, Refusal};
-use Question::{Judge, Rollout, Search, Show, ShowTo, Turn, Worth};
+use Question::{Judge, Rollout, Search, SearchWithin, Show, ShowTo, Turn, Worth};
 
-/// A verb and what it is given; margins as they are written.
+/// A verb and what it is given; margins and budgets as they are written.
 #[derive(Clone, Debug)]
 pub enum Question {
     Show,
@@ -15,6 +15,8 @@ pub enum Question {
     Worth,
     Judge(i64),
     Search(String),
+    /// A margin and a budget.
+    SearchWithin(String, String),
     Turn,
     Rollout(Vec<u8>),
 }
@@ -32,6 +34,7 @@ impl Question {
             Worth => words(&["worth"]),
             Judge(number) => words(&["judge", &number.to_string()]),
             Search(margin) => words(&["search", margin]),
+            SearchWithin(margin, budget) => words(&["search", "--budget", budget, margin]),
             Turn => words(&["turn"]),
             Rollout(policy) if policy.is_empty() => words(&["rollout"]),
             Rollout(policy) => {
@@ -49,7 +52,11 @@ impl Question {
             ShowTo(margin) => desk::show(table, Some(grains(margin)), form),
             Worth => Ok(desk::worth(table, form)),
             Judge(number) => desk::judge(table, *number, form),
-            Search(margin) => desk::search(table, grains(margin), form),
+            Search(margin) => desk::search(table, grains(margin), None, form),
+            SearchWithin(margin, budget) => {
+                let budget = whole_number(budget);
+                desk::search(table, grains(margin), Some(budget), form)
+            }
             Turn => desk::turn(text, form),
             Rollout(policy) => desk::rollout(table, policy, form),
         }
@@ -93,6 +100,12 @@ pub fn grains_of(written: &str, grain: i64) -> i64 {
         true => -grains - i64::from(part),
         false => grains,
     }
+}
+
+/// A whole number as it is written; the nearest there is where it is too great for an
+/// i64.
+fn whole_number(written: &str) -> i64 {
+    grains_of(&format!("{written}g"), 1)
 }
 
 /// Where the table comes from.

@@ -16,7 +16,7 @@ pub struct Refused {
 }
 
 /// The refusals that have no line of their own.
-const WITHOUT_LINE: [u8; 7] = [1, 12, 13, 14, 15, 16, 20];
+const WITHOUT_LINE: [u8; 8] = [1, 12, 13, 14, 15, 16, 17, 20];
 
 /// The refusal of the command line, not of a file, so that none is named.
 const OF_NO_FILE: u8 = 20;

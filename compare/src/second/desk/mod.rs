@@ -45,6 +45,8 @@ struct Play {
 /// What the search to a margin found.
 struct Searched {
     margin: i64,
+    /// None where it is not limited.
+    budget: Option<i64>,
     found: Found,
     /// The leaves read, in reading sequence.
     read: Vec<u16>,
@@ -88,9 +90,14 @@ pub fn judge(table: &Table, number: i64, form: Form) -> Result<String, Refusal> 
     })
 }
 
-/// Searches to a margin in grains.
-pub fn search(table: &Table, margin: i64, form: Form) -> Result<String, Refusal> {
-    let searched = searched(table, margin)?;
+/// Searches to a margin in grains, within a budget of leaves if there is one.
+pub fn search(
+    table: &Table,
+    margin: i64,
+    budget: Option<i64>,
+    form: Form,
+) -> Result<String, Refusal> {
+    let searched = searched(table, margin, budget)?;
     Ok(match form {
         Form::People => people::search(table, &searched),
         Form::Tsv => tsv::search(table, &searched),
@@ -125,7 +132,7 @@ pub fn rollout(table: &Table, policy: &[u8], form: Form) -> Result<String, Refus
 /// Draws the tree; with a margin, in grains, also what the search makes of it.
 pub fn show(table: &Table, margin: Option<i64>, form: Form) -> Result<String, Refusal> {
     let searched = match margin {
-        Some(margin) => Some(searched(table, margin)?),
+        Some(margin) => Some(searched(table, margin, None)?),
         None => None,
     };
     Ok(match form {
@@ -134,12 +141,16 @@ pub fn show(table: &Table, margin: Option<i64>, form: Form) -> Result<String, Re
     })
 }
 
-fn searched(table: &Table, margin: i64) -> Result<Searched, Refusal> {
+fn searched(table: &Table, margin: i64, budget: Option<i64>) -> Result<Searched, Refusal> {
     let mut read = vec![0; table.leaves];
-    let found = second::search(table, margin, &mut read)?;
+    let found = match budget {
+        None => second::search(table, margin, &mut read)?,
+        Some(budget) => second::search_within(table, margin, budget, &mut read)?,
+    };
     read.truncate(found.read);
     Ok(Searched {
         margin,
+        budget,
         found,
         read,
     })
@@ -173,6 +184,11 @@ impl Searched {
         let plays = plays(table);
         let play = plays.iter().find(|play| play.node == node);
         Some((play.expect("a child of the root").number, node))
+    }
+
+    /// High minus low.
+    fn apart(&self) -> i64 {
+        self.found.high - self.found.low
     }
 
     fn within(&self, play: &Play) -> bool {

@@ -191,13 +191,25 @@ fn counted(number: i64, noun: &str) -> String {
 
 // The lines of several answers
 
-/// The margin, and what the search found.
+/// The margin and the budget, and what the search found.
 fn found(table: &Table, searched: &Searched) -> String {
     let mut answer = amount("margin", table, searched.margin);
+    if let Some(budget) = searched.budget {
+        answer += &line("budget", self::budget(budget, searched.found.spent));
+    }
     answer += &amount("low", table, searched.found.low);
     answer += &amount("high", table, searched.found.high);
+    if searched.budget.is_some() {
+        answer += &amount("apart", table, searched.apart());
+    }
     answer += &play(table, searched.play(table));
     answer + &leaves(table, searched.read.len())
+}
+
+fn budget(budget: i64, spent: bool) -> String {
+    let leaves = if budget == 1 { "leaf" } else { "leaves" };
+    let not = if spent { "" } else { "not " };
+    format!("{budget} {leaves}, {not}spent")
 }
 
 fn header(table: &Table) -> String {
@@ -218,11 +230,13 @@ fn header(table: &Table) -> String {
 fn play(table: &Table, play: Option<(usize, usize)>) -> String {
     let written = match play {
         Some((number, node)) => format!("{number}, node {node}"),
-        None => {
-            let kind = table.nodes[0].kind;
-            let article = if kind == Kind::Leaf { "an" } else { "a" };
-            format!("none: nobody chooses at {article} {} root", letter(kind))
-        }
+        None => match table.nodes[0].kind {
+            Kind::Max | Kind::Min => "none: a budget of 0 reads no leaf".to_string(),
+            kind => {
+                let article = if kind == Kind::Leaf { "an" } else { "a" };
+                format!("none: nobody chooses at {article} {} root", letter(kind))
+            }
+        },
     };
     line("play", written)
 }

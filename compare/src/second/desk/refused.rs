@@ -65,7 +65,7 @@ fn line_at_fault(text: &[u8], refusal: Refusal) -> Option<(usize, &[u8])> {
             let mut lines = lines.enumerate();
             lines.find(|(_, line)| line.len() != LINE || !line.ends_with(b"\n"))
         }
-        12 | 14 => None,
+        12 | 14 | 17 => None,
         13 => lines.skip(1).find(|(_, line)| kind(line) == b'C'),
         _ => lines.nth(refusal.line),
     }

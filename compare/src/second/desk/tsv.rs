@@ -139,11 +139,17 @@ fn marks(side: &Side) -> String {
 
 // The lines of several answers
 
-/// The margin, the bounds and the play.
+/// The margin and the budget, the bounds and the play.
 fn found(table: &Table, searched: &Searched) -> String {
     let mut answer = row("margin", &[&amount(table, searched.margin)]);
+    if let Some(budget) = searched.budget {
+        answer += &row("budget", &[&budget, &bit(searched.found.spent)]);
+    }
     answer += &row("low", &[&amount(table, searched.found.low)]);
     answer += &row("high", &[&amount(table, searched.found.high)]);
+    if searched.budget.is_some() {
+        answer += &row("apart", &[&amount(table, searched.apart())]);
+    }
     answer + &play(searched.play(table))
 }
 

@@ -1,0 +1,411 @@
+//! The search with a leaf budget (document 02, Item 3): all that is held of a search
+//! without one, and what it promises beside that search.
+
+use super::numbers::ROOM;
+use super::searching::{change_unread, count_list, hold_call, margins, Expected, Lengths, PATTERN};
+use super::seen::{Seen, ROOTS, SIDES};
+use super::tally::Tally;
+use super::{code, span};
+use crate::engine;
+use crate::random::Random;
+use crate::second::{
+    self, Found, Kind, Refusal, Step, Table, Terms, GREATEST_BUDGET, GREATEST_MARGIN, MOST_NODES,
+};
+
+/// What a call is asked for.
+#[derive(Clone, Copy, Debug)]
+pub struct Asked {
+    pub margin: i64,
+    pub budget: i64,
+}
+
+impl Asked {
+    pub fn terms(self) -> Terms {
+        Terms::within(self.margin, self.budget)
+    }
+
+    fn is_no_margin(self) -> bool {
+        !(0..=GREATEST_MARGIN).contains(&self.margin)
+    }
+
+    fn is_no_budget(self) -> bool {
+        !(0..=GREATEST_BUDGET).contains(&self.budget)
+    }
+}
+
+/// Holds the proved engine to this, with a leaf list and numbers of these lengths.
+pub fn hold_to(
+    tally: &Tally,
+    text: &[u8],
+    asked: Asked,
+    (room, numbers): (usize, usize),
+    expected: &Expected,
+) {
+    let Asked { margin, budget } = asked;
+    let asked =
+        format_args!("the search with margin {margin}, budget {budget} and a list of {room}");
+    hold_call(
+        tally,
+        text,
+        asked,
+        (room, numbers),
+        expected,
+        |list, lent| engine::search_within(text, margin, budget, list, lent),
+    );
+}
+
+/// Compares the two engines on texts, margins and budgets.
+pub struct Comparison {
+    pub tally: Tally,
+    /// What the calls on accepted tables, the calls on refused ones and the answers
+    /// were like.
+    pub calls: Seen,
+    pub of_refused: Seen,
+    pub answers: Seen,
+    lengths: Lengths,
+}
+
+impl Comparison {
+    pub fn new(name: &'static str) -> Comparison {
+        Comparison {
+            tally: Tally::new(name),
+            calls: Seen::default(),
+            of_refused: Seen::default(),
+            answers: Seen::default(),
+            lengths: Lengths::default(),
+        }
+    }
+
+    /// Gives a text to both engines with all that `asked` chooses; it is told the
+    /// table, or nothing where the text is refused. Fails the test unless the engines
+    /// agree and the answers keep what the search promises.
+    pub fn hold(
+        &mut self,
+        text: &[u8],
+        random: &mut Random,
+        asked: impl FnOnce(Option<&Table>, &mut Random) -> Vec<Asked>,
+    ) -> Result<Table, Refusal> {
+        let table = second::read(text);
+        let subject = table.as_ref().ok().map(|table| Subject::new(text, table));
+        let mut codes = Vec::new();
+        for asked in asked(table.as_ref().ok(), random) {
+            for (room, numbers) in self.lengths.next(table.as_ref().ok()) {
+                let expected = Expected::by(table.as_ref(), asked.terms(), room);
+                hold_to(&self.tally, text, asked, (room, numbers), &expected);
+                codes.push(code(&expected.answer));
+                match &table {
+                    Ok(table) => self.count_call(asked, room, numbers, table),
+                    Err(_) => {
+                        let both = asked.is_no_margin() && asked.is_no_budget();
+                        let sort = "refused before 12 and 17 could be";
+                        self.of_refused.count(sort, both);
+                    }
+                }
+            }
+            if let Some(subject) = &subject {
+                subject.hold(&self.tally, asked, random, &mut self.answers);
+            }
+        }
+        self.tally.add(&codes);
+        table
+    }
+
+    /// Counts the lengths lent, and what else would have been refused: 12 comes before
+    /// 17, and 17 before 11.
+    fn count_call(&mut self, asked: Asked, room: usize, numbers: usize, table: &Table) {
+        let seen = &mut self.calls;
+        count_list(seen, room, table.leaves);
+        for length in 0..=ROOM {
+            seen.count(&format!("room for {length} numbers"), numbers == length);
+        }
+        let (margin, budget) = (asked.is_no_margin(), asked.is_no_budget());
+        let short = room < table.leaves;
+        seen.count("12 alone", margin && !budget && !short);
+        seen.count("12, and 17 could be", margin && budget && !short);
+        seen.count("12, and 11 could be", margin && !budget && short);
+        seen.count("12, and 17 and 11 could be", margin && budget && short);
+        seen.count("17 alone", !margin && budget && !short);
+        seen.count("17, and 11 could be", !margin && budget && short);
+        let eleven = !margin && !budget && short;
+        let enough = eleven && asked.budget <= room as i64;
+        seen.count("11, and the list had room for the budget", enough);
+        seen.count("11 with budget 0", eleven && asked.budget == 0);
+        for (sort, number) in [
+            ("budget -1", -1),
+            ("budget 1,025", GREATEST_BUDGET + 1),
+            ("the least budget", i64::MIN),
+            ("the greatest budget", i64::MAX),
+        ] {
+            seen.count(sort, asked.budget == number);
+        }
+        seen.count("budget 0", !margin && asked.budget == 0);
+        let greatest = asked.budget == GREATEST_BUDGET;
+        seen.count("budget 1,024", !margin && greatest);
+    }
+}
+
+/// An accepted table, its worths and the same turned.
+struct Subject<'a> {
+    text: &'a [u8],
+    table: &'a Table,
+    worths: Vec<i64>,
+    turned_text: Vec<u8>,
+    turned: Table,
+}
+
+impl Subject<'_> {
+    fn new<'a>(text: &'a [u8], table: &'a Table) -> Subject<'a> {
+        let mut turned_text = vec![0; text.len()];
+        second::turn(text, &mut turned_text).expect("a buffer of its length");
+        Subject {
+            text,
+            table,
+            worths: second::worths(table),
+            turned: second::read(&turned_text).expect("valid too"),
+            turned_text,
+        }
+    }
+
+    /// Holds the answer to what it promises, and both engines to the same answer with
+    /// other utilities in the leaves that were not read, and to that in a mirror on
+    /// the turned table.
+    fn hold(&self, tally: &Tally, asked: Asked, random: &mut Random, seen: &mut Seen) {
+        let table = self.table;
+        let by = |table, terms| Expected::by(Ok(table), terms, self.table.leaves);
+        let expected = by(table, asked.terms());
+        let Ok((found, _)) = expected.answer else {
+            return;
+        };
+        let plain = by(table, Terms::of(asked.margin));
+        keeps_to_the_plain_search(asked, &expected, &plain);
+        keeps_its_bounds(table, &self.worths, found);
+
+        let room = (table.leaves, ROOM);
+        let mut text = self.text.to_vec();
+        change_unread(&mut text, table, &expected.leaves, random);
+        let other = second::read(&text).expect("valid still");
+        hold_to(tally, &text, asked, room, &expected);
+        assert_eq!(by(&other, asked.terms()), expected);
+        let worths = second::worths(&other);
+        keeps_its_bounds(&other, &worths, found);
+
+        let mirrored = expected.turned();
+        hold_to(tally, &self.turned_text, asked, room, &mirrored);
+        assert_eq!(by(&self.turned, asked.terms()), mirrored);
+
+        seen.count("other unread leaves", other != *table);
+        let moved = worths[0] != self.worths[0];
+        seen.count("another worth by unread leaves", moved);
+        count_budget(seen, asked, found, &plain);
+        count_unread(seen, table, asked, found);
+        count_answer(seen, table, &self.worths, asked, found);
+    }
+}
+
+/// Where the search without a budget reads no more leaves, the answer is the same in
+/// every part; otherwise the budget is spent, and the leaves read are the first of
+/// that search's.
+fn keeps_to_the_plain_search(asked: Asked, expected: &Expected, plain: &Expected) {
+    let (found, _) = expected.answer.expect("an answer");
+    let budget = asked.budget as usize;
+    assert_eq!(found.spent, plain.leaves.len() > budget, "{asked:?}");
+    if found.spent {
+        assert_eq!(expected.leaves, plain.leaves[..budget], "{asked:?}");
+    } else {
+        assert_eq!(expected, plain, "{asked:?}");
+    }
+}
+
+/// The exact worth lies within the bounds, and a named play, which is a child of the
+/// root, is worth at least low at M and at most high at N. One is named at every M or
+/// N where a leaf was read.
+fn keeps_its_bounds(table: &Table, worths: &[i64], found: Found) {
+    let bounds = found.low..=found.high;
+    assert!(bounds.contains(&worths[0]), "{found:?}, {}", worths[0]);
+    let root = table.nodes[0].kind;
+    let names = SIDES.contains(&root) && found.read > 0;
+    assert_eq!(found.play.is_some(), names, "{found:?}");
+    if let Some(play) = found.play {
+        assert_eq!(table.nodes[play].parent, Some(0), "{found:?}");
+        match root {
+            Kind::Max => assert!(worths[play] >= found.low, "{found:?}"),
+            _ => assert!(worths[play] <= found.high, "{found:?}"),
+        }
+    }
+}
+
+fn count_budget(seen: &mut Seen, asked: Asked, found: Found, plain: &Expected) {
+    let (without, _) = plain.answer.expect("an answer");
+    let (budget, read) = (asked.budget, without.read as i64);
+    seen.count("spent", found.spent);
+    seen.count("not spent", !found.spent);
+    seen.count("as many as are read, not spent", budget == read);
+    seen.count("one fewer, spent", budget + 1 == read && found.spent);
+    seen.count("one more, not spent", budget == read + 1);
+    let other = found.play.is_some() && found.play != without.play;
+    seen.count("another play than without a budget", other);
+}
+
+/// Counts where nodes were met with no read left, and what came after them.
+fn count_unread(seen: &mut Seen, table: &Table, asked: Asked, found: Found) {
+    let steps = Steps::of(table, asked.terms());
+    let (root, nodes) = (table.nodes[0].kind, &table.nodes);
+    assert_eq!(found.spent, !steps.unread.is_empty());
+    for kind in ROOTS {
+        let here = root == kind && steps.unread == [0];
+        seen.count(&format!("root {kind:?} met unread"), here);
+    }
+    let below = || steps.unread.iter().filter(|node| **node > 0);
+    let is_leaf = |node: &usize| nodes[*node].kind == Kind::Leaf;
+    seen.count("a leaf met unread", below().any(is_leaf));
+    seen.count("an inner node met unread", !below().all(is_leaf));
+    for kind in INNER {
+        let under = |node: &usize| nodes[*node].parent.is_some_and(|p| nodes[p].kind == kind);
+        let sort = format!("a node met unread under {kind:?}");
+        seen.count(&sort, below().any(under));
+        // A cut after such a child changes no answer, as what it leaves out would be met
+        // unread; those before count for more.
+        for (when, unread) in [(" while reads are left", false), (AFTER_UNREAD, true)] {
+            let tests = || steps.tests.iter().filter(|test| test.unread == unread);
+            let mut count = |sort: &str, is_one: &dyn Fn(i64) -> bool| {
+                let here = tests().any(|test| test.kind == kind && is_one(test.gap));
+                let sort = format!("{kind:?} {sort}{when}");
+                seen.count(&sort, found.spent && here);
+            };
+            count("cut", &|gap| gap <= asked.margin);
+            count("just cut", &|gap| gap == asked.margin);
+            count("just not cut", &|gap| gap == asked.margin + 1);
+        }
+    }
+    for side in SIDES {
+        let here = |is_one: bool| root == side && is_one;
+        let within = |node: &usize| {
+            found
+                .play
+                .is_some_and(|p| (p..nodes[p].stop).contains(node))
+        };
+        let sort = format!("a node met unread in the play at {side:?}");
+        seen.count(&sort, here(below().any(within)));
+        let play = |node: &usize| nodes[*node].parent == Some(0);
+        let unread = here(below().any(play));
+        seen.count(&format!("a play met unread at {side:?}"), unread);
+        let level = match side {
+            Kind::Max => found.low == table.lowest * table.grains,
+            _ => found.high == table.highest * table.grains,
+        };
+        let sort = format!("a play met unread as good as the one at {side:?}");
+        seen.count(&sort, unread && level);
+    }
+    // The first play is entered while reads are left, and nothing met unread beats it.
+    let play = found.play.unwrap_or(0);
+    assert!(play == 0 || !steps.unread.contains(&play), "{found:?}");
+}
+
+fn count_answer(seen: &mut Seen, table: &Table, worths: &[i64], asked: Asked, found: Found) {
+    let width = found.high - found.low;
+    seen.count("bounds wider than the margin", width > asked.margin);
+    let within = found.spent && width <= asked.margin && found.read > 0;
+    seen.count("spent, and bounds within the margin", within);
+    let ends = width == span(table) && found.read > 0 && width > 0;
+    seen.count("bounds still at the ends", ends);
+    let loses = |play: usize| (worths[play] - worths[0]).abs() > asked.margin;
+    let past = found.play.is_some_and(loses);
+    seen.count("a play past the margin", past);
+}
+
+/// How the sorts end that count cut tests after a child with a node met unread.
+pub const AFTER_UNREAD: &str = " after a child with a node met unread";
+
+/// The kinds of nodes with children.
+const INNER: [Kind; 3] = [Kind::Max, Kind::Min, Kind::Chance];
+
+/// The steps of a search.
+pub struct Steps {
+    /// The nodes met when no read was left.
+    pub unread: Vec<usize>,
+    pub tests: Vec<Test>,
+}
+
+/// A cut test.
+#[derive(Clone, Copy, Debug)]
+pub struct Test {
+    /// Of the node.
+    pub kind: Kind,
+    /// Beta minus alpha.
+    pub gap: i64,
+    /// Whether the child before it has a node in it that was met unread.
+    pub unread: bool,
+}
+
+impl Steps {
+    pub fn of(table: &Table, terms: Terms) -> Steps {
+        let (mut unread, mut tests) = (Vec::new(), Vec::new());
+        let mut list = [PATTERN; MOST_NODES];
+        let searched = second::search_watched(table, terms, &mut list, |step| match step {
+            Step::Unread(node) => {
+                let parent = table.nodes[node].parent;
+                assert!(parent.is_none_or(|p| p + 1 < node), "a first child");
+                unread.push(node);
+            }
+            Step::Test(node, window) => {
+                let gap = window.beta - window.alpha;
+                // Once a node was met unread, all later ones are.
+                let last = unread.last();
+                if last.is_some_and(|&child| table.nodes[child].parent == Some(node)) {
+                    // The child has left the window as it was at the test before.
+                    assert!(gap > terms.margin, "cut by a child met unread");
+                }
+                tests.push(Test {
+                    kind: table.nodes[node].kind,
+                    gap,
+                    unread: last.is_some(),
+                });
+            }
+        });
+        searched.expect("an answer");
+        Steps { unread, tests }
+    }
+}
+
+/// Margins with budgets for a table: fewer leaves than the search reads, as many or
+/// more, and some that are refused.
+pub fn questions(random: &mut Random, table: &Table, count: usize) -> Vec<Asked> {
+    let margins = margins(random, table);
+    let mut questions = Vec::with_capacity(count);
+    for _ in 0..count {
+        let margin = random.pick(&margins);
+        let plain = Expected::by(Ok(table), Terms::of(margin), table.leaves);
+        let budget = budget(random, plain.leaves.len() as i64);
+        questions.push(Asked { margin, budget });
+    }
+    questions
+}
+
+/// A budget where the search without one reads so many leaves.
+fn budget(random: &mut Random, read: i64) -> i64 {
+    match random.below(8) {
+        0 => random.pick(&[0, 1, GREATEST_BUDGET]),
+        1 => read,
+        2 => (read - 1).max(0),
+        3 => read + 1,
+        4 => no_budget(random),
+        5 => random.between(0, GREATEST_BUDGET),
+        _ => random.between(0, read),
+    }
+}
+
+/// A budget that is refused.
+pub fn no_budget(random: &mut Random) -> i64 {
+    let any = random.between(0, GREATEST_BUDGET);
+    match random.below(7) {
+        0 => -1,
+        1 => GREATEST_BUDGET + 1,
+        2 => i64::MIN,
+        3 => i64::MAX,
+        // Two that would be allowed if bits were lost.
+        4 => any ^ (-1 << random.pick(&[11, 16, 31, 32, 63])),
+        5 => any + (1 << random.pick(&[11, 16, 31, 32, 62])),
+        // No budget has this bit.
+        _ => random.bits() as i64 | (1 << 11),
+    }
+}
