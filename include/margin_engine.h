@@ -89,7 +89,7 @@ uint64_t margin_search(const uint8_t *text, size_t text_len, int64_t margin, uin
                        size_t numbers_len);
 
 /*
- * The same search with at most `budget` leaves read, 0 to MARGIN_GREATEST_BUDGET; margin_search is the one with that. Refuses 1 to 10, 12, 17
+ * The same search with at most `budget` leaves read, 0 to MARGIN_GREATEST_BUDGET; margin_search is this one with the greatest. Refuses 1 to 10, 12, 17
  * for another budget, and 11 where `leaves` has fewer entries than the table has leaves, whatever the budget.
  *
  * leaves and numbers as in margin_search, but that the last number is 1 where the budget was spent: where margin_search reads more leaves than
@@ -97,7 +97,7 @@ uint64_t margin_search(const uint8_t *text, size_t text_len, int64_t margin, uin
  *
  * A budget that is not spent changes nothing in the answer. Where it is spent, the leaves are the first that margin_search reads, as many as
  * the budget; the exact worth still lies from low to high, and the play is worth at least low at an M root, at most high at an N root, but the
- * margin need not be kept. With a budget of 0 there is no play, and low and high are the table's two ends.
+ * margin need not be kept. With a budget of 0 there is no play, and low and high are the table's two ends times G.
  */
 uint64_t margin_search_within(const uint8_t *text, size_t text_len, int64_t margin, int64_t budget, uint16_t *leaves, size_t leaves_len,
                               int64_t *numbers, size_t numbers_len);

@@ -101,6 +101,8 @@ fn every_small_table() {
     comparison.tally.report();
     let answers = &comparison.answers;
     answers.demand_but(10, |sort| sort.ends_with(AFTER_UNREAD));
+    let answers = comparison.tally.counts[0];
+    assert!(answers >= 100_000, "only {answers} answers");
 }
 
 /// Tables of 1,024 lines, T 64 and the widest ends.
@@ -130,6 +132,8 @@ fn largest_tables() {
         let count = comparison.answers.of(sort);
         assert!(count >= 100, "{sort} came only {count} times");
     }
+    let answers = comparison.tally.counts[0];
+    assert!(answers >= 1_000, "only {answers} answers");
 }
 
 // ---------------------------------------------------------------------------

@@ -1,5 +1,6 @@
 //! Holds the README's figures and examples to what both engines answer.
 
+use compare::hold::budget::{self, Asked};
 use compare::hold::desk::{block, root, run};
 use compare::hold::numbers::ROOM;
 use compare::hold::searching::{hold_to, Expected};
@@ -105,4 +106,31 @@ fn readme_rows() {
         assert!(readme.contains(&row), "README.md has no row with {row}");
     }
     tally.report();
+}
+
+/// The search within a budget that the README speaks of, and the one with a leaf more.
+#[test]
+fn within_a_budget() {
+    let file = "examples/opening.txt";
+    let text = example(file);
+    let table = second::read(&text).expect("accepted");
+    let tally = Tally::new("the README's budget");
+    let points = |grains: i64| format!("{:.3}", grains as f64 / table.grains as f64);
+    let answer = |budget: i64| {
+        let asked = Asked { margin: 0, budget };
+        let expected = Expected::by(Ok(&table), asked.terms(), table.leaves);
+        budget::hold_to(&tally, &text, asked, (table.leaves, ROOM), &expected);
+        expected.answer.expect("an answer").0
+    };
+    let spent = answer(340);
+    let exact = answer(341);
+    assert!(spent.spent && !exact.spent && exact.low == exact.high);
+    let (low, high, worth) = (points(spent.low), points(spent.high), points(exact.low));
+    let said = format!(
+        "`./desk search --budget 340 0 {file}` reads all but one of the 341 leaves that margin 0 \
+         needs there, and has the worth from {low} to {high} points; with one leaf more it is \
+         exactly {worth}."
+    );
+    let readme = readme().split_whitespace().collect::<Vec<_>>().join(" ");
+    assert!(readme.contains(&said), "{said}");
 }

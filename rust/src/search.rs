@@ -69,7 +69,7 @@ pub fn search(text: &[u8], margin: i64) -> Result<Found, Refusal> {
 /// Refuses as [`search`] does, and 17 for a budget that is not 0 to
 /// [`GREATEST_BUDGET`](crate::GREATEST_BUDGET).
 ///
-/// A budget that is spent keeps neither the margin between the bounds nor that of the
+/// A budget that is spent need keep the margin neither between the bounds nor for the
 /// play; the worth still lies between them. One that is not spent changes nothing.
 ///
 /// ```

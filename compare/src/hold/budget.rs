@@ -193,6 +193,8 @@ impl Subject<'_> {
         hold_to(tally, &self.turned_text, asked, room, &mirrored);
         assert_eq!(by(&self.turned, asked.terms()), mirrored);
 
+        hold_default(tally, self.text, asked.margin, table.leaves);
+
         seen.count("other unread leaves", other != *table);
         let moved = worths[0] != self.worths[0];
         seen.count("another worth by unread leaves", moved);
@@ -200,6 +202,19 @@ impl Subject<'_> {
         count_unread(seen, table, asked, found);
         count_answer(seen, table, &self.worths, asked, found);
     }
+}
+
+/// The proved search without a budget gives what it gives with the greatest.
+fn hold_default(tally: &Tally, text: &[u8], margin: i64, room: usize) {
+    let mut plain = (vec![PATTERN; room], vec![-1; ROOM]);
+    let mut within = plain.clone();
+    let codes = [
+        engine::search(text, margin, &mut plain.0, &mut plain.1),
+        engine::search_within(text, margin, GREATEST_BUDGET, &mut within.0, &mut within.1),
+    ];
+    let seed = tally.seed;
+    assert_eq!(codes[0], codes[1], "seed {seed}, margin {margin}");
+    assert_eq!(plain, within, "seed {seed}, margin {margin}");
 }
 
 /// Where the search without a budget reads no more leaves, the answer is the same in
@@ -216,9 +231,8 @@ fn keeps_to_the_plain_search(asked: Asked, expected: &Expected, plain: &Expected
     }
 }
 
-/// The exact worth lies within the bounds, and a named play, which is a child of the
-/// root, is worth at least low at M and at most high at N. One is named at every M or
-/// N where a leaf was read.
+/// No bound is past the exact worth, nor past the worth of the play on its side: low at
+/// M, high at N. A child of the root is named at every M or N where a leaf was read.
 fn keeps_its_bounds(table: &Table, worths: &[i64], found: Found) {
     let bounds = found.low..=found.high;
     assert!(bounds.contains(&worths[0]), "{found:?}, {}", worths[0]);

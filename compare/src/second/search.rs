@@ -45,7 +45,7 @@ pub fn search_within(
 pub struct Terms {
     /// In grains.
     pub margin: i64,
-    /// In leaves; none where the search never ends for it.
+    /// In leaves; none where there is no budget.
     pub budget: Option<i64>,
     pub rounding: Rounding,
 }
@@ -165,7 +165,7 @@ impl Scale {
     }
 
     /// Line 9: alpha for a child of this weight, from the alpha and the high of
-    /// the chance node above it. The quotient is rounded down.
+    /// the chance node above it. Document 01 has the quotient rounded down.
     pub fn alpha_below(&self, weight: i64, alpha: i64, high: i64) -> i64 {
         let dividend = (alpha - high) * self.total;
         let quotient = match self.rounding {
@@ -175,7 +175,8 @@ impl Scale {
         self.least.max(quotient + self.greatest)
     }
 
-    /// Line 10: beta likewise, from beta and low. The quotient is rounded up.
+    /// Line 10: beta likewise, from beta and low. Document 01 has the quotient rounded
+    /// up.
     pub fn beta_below(&self, weight: i64, beta: i64, low: i64) -> i64 {
         let dividend = (beta - low) * self.total;
         let quotient = match self.rounding {

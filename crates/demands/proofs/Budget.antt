@@ -11,8 +11,9 @@ use lib.IntN.{ℤ, pos, negsuc, _*ℤ_}
 use lib.Signed.{ltZ}
 use Rattle.field.specs.Field.{strip, digits, whole as wholeField, signed, leading}
 use Rattle.numbers.specs.Integers.{maxZ, minZ, floorZ, ceilZ}
-use Rattle.line.specs.declared.Refusal.the-variants.{NoRoom, BadBudget}
-use Rattle.line.specs.Refusal.{Verdict, fine, numberOf, unless, unlessAt}
+use Rattle.line.specs.declared.Refusal.the-variants.{NoRoom, BadMargin, BadBudget}
+use Rattle.line.specs.declared.Refusal.{Refusal}
+use Rattle.line.specs.Refusal.{Verdict, refused, fine, numberOf, unless, unlessAt}
 use Rattle.line.specs.Line.{toNat, climb}
 use Rattle.line.proofs.Checks.{or-left, or-right}
 use Rattle.line.proofs.Signs.{true-ne-false}
@@ -20,15 +21,16 @@ use Rattle.table.specs.Tree.{Forest, end, leaf, inner, run, after as afterRun, 
 use Rattle.table.specs.Table.{Table, tree, nodeLines, complete, readText, greatest, grain}
 use Rattle.table.specs.Accepted.{Rooted}
 use Rattle.table.specs.Root.{playOf}
+use Rattle.table.proofs.Places.{refused-number}
 use Rattle.table.proofs.Accepted.{accepted-rooted}
-use Rattle.search.specs.Search.{Seen, noPlay, limited, nodeOf, begin, finish, cut, point, unmet, lower, upper, beats, update, stop, scan, search, searchRoot}
+use Rattle.search.specs.Search.{Seen, noPlay, limited, nodeOf, begin, finish, cut, point, metSpent, lower, upper, beats, update, stop, scan, search, searchRoot}
 use Rattle.search.specs.Whole.{whole, rules, searched, searchedWithin, downZ, upZ, gainZ, lossZ, inGrains}
 use Rattle.search.proofs.Within.{spent-where, unspent-same, first-reads}
 use Rattle.search_call.specs.declared.Bounds.{Bounds}
 use Rattle.search_call.specs.declared.Bounded.the-variants.{Found, Refused}
-use Rattle.search_call.specs.Call.{badBudget, boundsOf, searchAnswer, withinCall}
-use Rattle.search_call.proofs.Call.{sought-budget, sought-room, sought-fine}
-use Rattle.search_call.proofs.Answered.{answered, answers, reads, answered-within, answers-within, reads-within, default-call, default-reads, unspent-answer}
+use Rattle.search_call.specs.Call.{badMargin, badBudget, boundsOf, searchAnswer, withinCall}
+use Rattle.search_call.proofs.Call.{default-budget, sought-margin, sought-budget, sought-room, sought-fine}
+use Rattle.search_call.proofs.Answered.{answered, answers, reads, answered-within, answers-within, reads-within, unspent-answer}
 use Rattle.demands.specs.Budget.{DefaultBudget, NeverSpent, SpentWhere, UnspentSame, SpentFirst, Unread, RootUnread, SeventeenIs, Budgets, AnswersWithin, Within1, Within2, Within3, budgets, AllKnown}
 use Rattle.demands.proofs.Within.{fine-same, within-kept, within-same, within-turned}
 
@@ -49,7 +51,7 @@ in-range = (λ n l. rw (le-ltb n 0 (omega arith), le-ltb 1024 n l) refl, λ b x.
 -- ---- against document 01's search
 
 pub default-same : DefaultBudget
-default-same s m room = (sym (default-call s m room), sym (default-reads s m room))
+default-same s m room = sym (default-budget s m room)
 
 pub never-spent : NeverSpent
 never-spent = unspent-answer
@@ -105,7 +107,7 @@ spent-first s m b room a e z =
 unread-seen : (t : Table) (ε : ℕ) (f : Forest ℤ) → Rooted f
     → searchRoot whole (rules t ε (limited 0)) (inGrains (grain t) f)
     ≡ record { low = t .head .lowest *ℤ pos (grain t); high = t .head .highest *ℤ pos (grain t); play = noPlay; read = []; spent = true }
-unfolding searchRoot search unmet inGrains
+unfolding searchRoot search metSpent inGrains
 unread-seen t ε end r = absurd r
 unread-seen t ε (leaf n w v rest) r = refl
 unread-seen t ε (inner n w k under rest) r = refl
@@ -130,19 +132,35 @@ root-unread s t m room a p e =
 no-seventeen : {P : Type 0} (a : Bounds) → Found a ≡ Refused BadBudget → P
 no-seventeen a e = let z : _≡_ {A = ℕ} 0 1 = cc in absurd (omega arith)
 
+twelve : {P : Type 0} → Refused BadMargin ≡ Refused BadBudget → P
+twelve e = let q : BadMargin ≡ BadBudget = cc in let z : _≡_ {A = ℕ} 12 17 = ap numberOf q in absurd (omega arith)
+
 eleven : {P : Type 0} → Refused NoRoom ≡ Refused BadBudget → P
 eleven e = let q : NoRoom ≡ BadBudget = cc in let z : _≡_ {A = ℕ} 11 17 = ap numberOf q in absurd (omega arith)
 
+-- no table is refused 17
+table-seventeen : {P : Type 0} (s : List ℕ) (r : Refusal) → readText s ≡ refused r → Refused r ≡ Refused BadBudget → P
+table-seventeen s r p e = let q : r ≡ BadBudget = cc in absurd (omega (arith, refused-number s r p, ap numberOf q))
+
 pub seventeen : SeventeenIs
-seventeen s t m b room p good = (
-  λ bad. ap (λ (v : Verdict Table). withinCall v m b room) p ∙ ap searchAnswer (sought-budget t m b room good bad),
-  λ e. back (badBudget b) (ltb room (leaves (tree t))) refl refl (sym (ap (λ (v : Verdict Table). withinCall v m b room) p) ∙ e),
+seventeen s m b room = (
+  λ t p good bad. ap (λ (v : Verdict Table). withinCall v m b room) p ∙ ap searchAnswer (sought-budget t m b room good bad),
+  λ e. at (readText s) refl e,
 )
   where
-    back : (x y : Bool) → badBudget b ≡ x → ltb room (leaves (tree t)) ≡ y → withinCall (fine t) m b room ≡ Refused BadBudget → x ≡ true
-    back true y bad short e = refl
-    back false true bad short e = eleven (sym (ap searchAnswer (sought-room t m b room good bad (ltb-true room (leaves (tree t)) short))) ∙ e)
-    back false false bad short e = no-seventeen _ (sym (ap searchAnswer (sought-fine t m b room good bad (ltb-false room (leaves (tree t)) short))) ∙ e)
+    back : (t : Table) → readText s ≡ fine t → (x y z : Bool) → badMargin m ≡ x → badBudget b ≡ y → ltb room (leaves (tree t)) ≡ z
+        → withinCall (fine t) m b room ≡ Refused BadBudget → (t : Table) × (readText s ≡ fine t) × (badMargin m ≡ false) × (badBudget b ≡ true)
+    back t p true y z bad over short e = twelve (sym (ap searchAnswer (sought-margin t m b room bad)) ∙ e)
+    back t p false true z bad over short e = (t, p, bad, over)
+    back t p false false true bad over short e =
+        eleven (sym (ap searchAnswer (sought-room t m b room bad over (ltb-true room (leaves (tree t)) short))) ∙ e)
+    back t p false false false bad over short e =
+        no-seventeen _ (sym (ap searchAnswer (sought-fine t m b room bad over (ltb-false room (leaves (tree t)) short))) ∙ e)
+
+    at : (v : Verdict Table) → readText s ≡ v → withinCall v m b room ≡ Refused BadBudget
+        → (t : Table) × (readText s ≡ fine t) × (badMargin m ≡ false) × (badBudget b ≡ true)
+    at (refused r) p e = table-seventeen s r p e
+    at (fine t) p e = back t p (badMargin m) (badBudget b) (ltb room (leaves (tree t))) refl refl refl e
 
 -- ---- demand 3
 
@@ -162,5 +180,5 @@ within-sentence3 = within-turned
 -- ---- known answers
 
 pub all-budgets : AllKnown budgets
-unfolding strip digits wholeField signed leading unless unlessAt climb run afterRun forest weigh nodesWhere leaves nodeLines complete readText greatest maxZ minZ floorZ ceilZ begin finish cut point unmet lower upper beats update stop scan search searchRoot downZ upZ gainZ lossZ inGrains
-all-budgets = (refl, refl, (refl, refl, (refl, refl, (refl, refl, (refl, refl, (refl, refl, (refl, refl, (refl, refl, (refl, refl, tt)))))))))
+unfolding strip digits wholeField signed leading unless unlessAt climb run afterRun forest weigh nodesWhere leaves nodeLines complete readText greatest maxZ minZ floorZ ceilZ begin finish cut point metSpent lower upper beats update stop scan search searchRoot downZ upZ gainZ lossZ inGrains
+all-budgets = (refl, refl, (refl, refl, (refl, refl, (refl, refl, (refl, refl, (refl, refl, (refl, refl, (refl, refl, (refl, refl, (refl, refl, (refl, refl, (refl, refl, tt))))))))))))

@@ -20,17 +20,15 @@ use Rattle.worth.specs.Call.{exactCall}
 use Rattle.turn_call.specs.Call.{turnOf}
 use Rattle.search_call.specs.declared.Bounds.{Bounds}
 use Rattle.search_call.specs.declared.Bounded.the-variants.{Found, Refused}
-use Rattle.search_call.specs.Call.{badMargin, badBudget, searchCall, searchReads, withinCall, withinReads}
+use Rattle.search_call.specs.Call.{badMargin, badBudget, sought, soughtWithin, searchCall, searchReads, withinCall, withinReads}
 use Rattle.demands.specs.Demands.{childWorth, Promised, LongEnough, Differ, Mirrors}
 
 -- ---- the budget, for a text s, a margin m, a budget b and a leaf list of `room` entries
 
--- "where none is named, .. it is 1,024": the call without a budget gives the answer and the leaves of the one with 1,024
+-- "where none is named, as in the margin program, which prints as before, it is 1,024": the answer and the leaves of the call without a budget, and
+-- what the program prints, go by `sought`
 abbrev pub DefaultBudget : Type 0
-DefaultBudget =
-    (s : List ℕ) (m : ℤ) (room : ℕ)
-    → (searchCall (readText s) m room ≡ withinCall (readText s) m (pos 1024) room)
-    × (searchReads (readText s) m room ≡ withinReads (readText s) m (pos 1024) room)
+DefaultBudget = (s : List ℕ) (m : ℤ) (room : ℕ) → sought (readText s) m room ≡ soughtWithin (readText s) m (pos 1024) room
 
 -- and it is never spent
 abbrev pub NeverSpent : Type 0
@@ -70,12 +68,12 @@ RootUnread =
 
 -- ---- 17
 
--- "Refused: 17, any other budget, after 12": where the table and the margin are accepted, whatever the list
+-- "Refused: 17, any other budget, after 12": whatever the list, where the table and the margin are accepted, and only there
 abbrev pub SeventeenIs : Type 0
 SeventeenIs =
-    (s : List ℕ) (t : Table) (m b : ℤ) (room : ℕ) → readText s ≡ fine t → badMargin m ≡ false
-    → (badBudget b ≡ true → withinCall (readText s) m b room ≡ Refused BadBudget)
-    × (withinCall (readText s) m b room ≡ Refused BadBudget → badBudget b ≡ true)
+    (s : List ℕ) (m b : ℤ) (room : ℕ)
+    → ((t : Table) → readText s ≡ fine t → badMargin m ≡ false → badBudget b ≡ true → withinCall (readText s) m b room ≡ Refused BadBudget)
+    × (withinCall (readText s) m b room ≡ Refused BadBudget → (t : Table) × (readText s ≡ fine t) × (badMargin m ≡ false) × (badBudget b ≡ true))
 
 -- "a number of leaf reads, 0 to 1,024"
 abbrev pub Budgets : Type 0
@@ -131,7 +129,7 @@ Within3 =
     × ((z : ℤ) → exactCall (readText s) ≡ Grains z (a .grain) → exactCall (readText u) ≡ Grains (negℤ z) (a .grain))
     × KeptWithin u m c
 
--- ---- tables A and B of document 01 at every budget, up to one more than document 01's search reads
+-- ---- tables A and B of document 01 at a margin and every budget, up to one more than document 01's search reads
 
 pub record Known : Type 0 where
   pub text : List ℕ
@@ -161,7 +159,10 @@ budgets =
     ∷ known table-b (pos 0) (pos 0) (pos 0) (pos 32) 4 NoPlay true []
     ∷ known table-b (pos 0) (pos 1) (pos 20) (pos 32) 4 (Child 1) true (1 ∷ [])
     ∷ known table-b (pos 0) (pos 2) (pos 20) (pos 20) 4 (Child 1) false (1 ∷ 3 ∷ [])
+    ∷ known table-b (pos 0) (pos 3) (pos 20) (pos 20) 4 (Child 1) false (1 ∷ 3 ∷ [])
+    ∷ known table-b (pos 12) (pos 0) (pos 0) (pos 32) 4 NoPlay true []
     ∷ known table-b (pos 12) (pos 1) (pos 20) (pos 32) 4 (Child 1) false (1 ∷ [])
+    ∷ known table-b (pos 12) (pos 2) (pos 20) (pos 32) 4 (Child 1) false (1 ∷ [])
     ∷ []
 
 abbrev pub AllKnown : List Known → Type 0

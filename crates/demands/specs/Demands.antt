@@ -77,7 +77,7 @@ pub record Differ (read : List ℕ) (s u : List ℕ) : Type 0 where
 
 -- ---- the turned table
 
--- "its low is minus the old high, its high is minus the old low, its play is the same child or again none"
+-- "its low is minus the old high, its high is minus the old low, its play is the same child or again none"; all else in the answer is as it was
 pub record Mirrors (b c : Bounds) : Type 0 where
   pub low : c .low ≡ negℤ (b .high)
   pub high : c .high ≡ negℤ (b .low)

@@ -7,7 +7,7 @@ use native.Mathlib.Decide.{decLe}
 use native.Mathlib.Omega.{arith}
 use Rattle.field.proofs.Small.{choose}
 use Rattle.table.specs.Tree.{Kind, MAX, MIN, CHANCE, Forest, end, leaf, inner}
-use Rattle.search.specs.Search.{Frame, Seen, State, Rules, begin, lower, upper, update, finish, cut, stop, point, unmet, met, scan}
+use Rattle.search.specs.Search.{Frame, Seen, State, Rules, begin, lower, upper, update, finish, cut, stop, point, metSpent, met, scan}
 use Rattle.search.specs.Inside.{natural}
 use Rattle.search.proofs.Steps.{seenUnder, seenAfter}
 use Rattle.search.proofs.Heights.{Paid, Within, total}
@@ -60,7 +60,7 @@ module _ (R : Rules ℕ) where
 
   -- a node met unread has its parent's ends
   pub even-met : (e : Frame ℕ) (l : List ℕ) (r : Seen ℕ) (g : ℕ) → Even g e → EvenR g r → EvenR g (met R e l r)
-  unfolding unmet
+  unfolding metSpent
   even-met e l r g h x = choose (EvenR g) (R .full l) (λ _. h) (λ _. x)
 
   even-after : (e : Frame ℕ) (k : Kind) (rest : Forest ℕ) (t : State ℕ) (g : ℕ) → Even (grade e k g) e → EvenS g t

@@ -16,7 +16,7 @@ use Rattle.line.proofs.Signs.{true-ne-false}
 use Rattle.table.specs.Tree.{Kind, MAX, MIN, CHANCE, Forest, end, leaf, inner, isEnd}
 use Rattle.table.specs.Accepted.{Filled}
 use Rattle.table.specs.Root.{Side, AtM, AtN, Root, nobody, toPlay, sideOf, rootOf, children}
-use Rattle.search.specs.Search.{Frame, Play, noPlay, child, Seen, State, Arith, Rules, begin, finish, cut, point, unmet, met, beats, better, prefer, update, stop, scan, search, searchRoot, nodeOf}
+use Rattle.search.specs.Search.{Frame, Play, noPlay, child, Seen, State, Arith, Rules, begin, finish, cut, point, metSpent, met, beats, better, prefer, update, stop, scan, search, searchRoot, nodeOf}
 use Rattle.search.specs.Whole.{inGrains}
 use Rattle.search.proofs.Steps.{both, seenUnder, seenAfter}
 use Rattle.search.proofs.Grains.{grains-end}
@@ -175,20 +175,20 @@ module _ {A : Type 0} (O : Arith A) (strict : Strict (O .less)) where
         entered-some e k under (begin e k (e .bottom) (e .top) []) x (rw z at q)
 
     -- a node met unread names no play
-    unmet-held : (q : Root) (e : Frame A) (l : List ℕ) → Held O q [] (unmet e l .play)
-    unfolding unmet
-    unmet-held nobody e l = refl
-    unmet-held (toPlay side) e l = refl
+    spent-held : (q : Root) (e : Frame A) (l : List ℕ) → Held O q [] (metSpent e l .play)
+    unfolding metSpent
+    spent-held nobody e l = refl
+    spent-held (toPlay side) e l = refl
 
     pub root-held : (f : Forest A) → Held O (rootOf f) (enteredRoot O R f) (searchRoot O R f .play)
     unfolding searchRoot search point enteredRoot
     root-held end = refl
     root-held (leaf n w v rest) =
-        choose (λ (r : Seen A). nodeOf (r .play) ≡ none) (R .full []) (λ _. unmet-held nobody (R .frame n end) []) (λ _. refl)
+        choose (λ (r : Seen A). nodeOf (r .play) ≡ none) (R .full []) (λ _. spent-held nobody (R .frame n end) []) (λ _. refl)
     root-held (inner n w k under rest) =
         let e : Frame A = R .frame n under in
         let s : State A = begin e k (e .bottom) (e .top) [] in
-        both (λ (l : List (Entered A)) (r : Seen A). Held O (sideOf k) l (r .play)) (R .full []) (unmet-held (sideOf k) e [])
+        both (λ (l : List (Entered A)) (r : Seen A). Held O (sideOf k) l (r .play)) (R .full []) (spent-held (sideOf k) e [])
         (scan-held e k under s [] (begin-held e k (e .bottom) (e .top) []))
 
     -- where the root is not met unread
@@ -201,7 +201,7 @@ module _ {A : Type 0} (O : Arith A) (strict : Strict (O .less)) where
 
     -- where it is
     pub root-unread : (f : Forest A) → R .full [] ≡ true → nodeOf (searchRoot O R f .play) ≡ none
-    unfolding searchRoot search unmet
+    unfolding searchRoot search metSpent
     root-unread end z = refl
     root-unread (leaf n w v rest) z = rw z refl
     root-unread (inner n w k under rest) z = rw z refl

@@ -9,7 +9,7 @@ use lib.Dec.{T as Holds, ltb→lt, nltb→le}
 use Rattle.field.proofs.Small.{choose}
 use Rattle.table.specs.Tree.{Kind, MAX, MIN, CHANCE, Forest, end, leaf, inner}
 use Rattle.table.specs.Inside.{sealed}
-use Rattle.search.specs.Search.{Frame, Play, noPlay, child, Seen, State, Rules, begin, lower, upper, beats, prefer, update, finish, cut, stop, point, unmet, met, scan, search}
+use Rattle.search.specs.Search.{Frame, Play, noPlay, child, Seen, State, Rules, begin, lower, upper, beats, prefer, update, finish, cut, stop, point, metSpent, met, scan, search}
 use Rattle.search.specs.Inside.{natural}
 use Rattle.search.proofs.Steps.{seenUnder, seenAfter}
 use Rattle.search.proofs.Heights.{Within, start, total, worth}
@@ -182,7 +182,7 @@ module _ (frame : ℕ → Forest ℕ → Frame ℕ) where
 -- the play of a search
 pub named : (R : Rules ℕ) (e : Frame ℕ) (k : Kind) (f : Forest ℕ) → Within (R .frame) e f
     → Promise (R .frame) e k f (search natural R e k f .low) (search natural R e k f .high) (search natural R e k f .play)
-unfolding search unmet
+unfolding search metSpent
 named R e k f i =
     choose (λ (r : Seen ℕ). Promise (R .frame) e k f (r .low) (r .high) (r .play)) (R .full []) (λ _. no-promise (R .frame) e k f (e .bottom) (e .top))
     (λ _. promise (R .frame) e k f _ _ _ (mark R f e k f (begin e k (e .bottom) (e .top) []) i (λ m v c. c) (mark-begin R f e k (e .bottom) (e .top) [])))

@@ -12,7 +12,7 @@ use Rattle.table.specs.Accepted.{Filled, Balanced, Proper, Rooted}
 use Rattle.table.specs.Root.{Root, nobody, toPlay, AtM, AtN, rootOf, children}
 use Rattle.worth.specs.Inside.Heights.{heightValue, heightShares, firstHeight, SmallWorths}
 use Rattle.worth.proofs.Bounds.{small}
-use Rattle.search.specs.Search.{Frame, Play, noPlay, child, Seen, Rules, framed, begin, point, unmet, scan, search, searchRoot, nodeOf}
+use Rattle.search.specs.Search.{Frame, Play, noPlay, child, Seen, Rules, framed, begin, point, metSpent, scan, search, searchRoot, nodeOf}
 use Rattle.search.specs.Inside.{natural, grained, heightRules}
 use Rattle.search.proofs.Heights.{worth, Within}
 use Rattle.search.proofs.Contain.{Holding, hold-point, hold-met, contained}
@@ -132,7 +132,7 @@ module _ (T K S ε : ℕ) (full : List ℕ → Bool) (some-total : 0 < T) where
   -- the play's worth is on its side of the worth
   pub plays : (F : Forest ℕ) → Tree F → (m : ℕ) → nodeOf (found F .play) ≡ some m
       → Played top (grained G F) (found F .low) (found F .high) (exact F) m
-  unfolding searchRoot grained heightShares point unmet
+  unfolding searchRoot grained heightShares point metSpent
   plays end t m e = none-some e
   plays (leaf n w h rest) t m e =
       none-some (choose (λ (r : Seen ℕ). nodeOf (r .play) ≡ some m → none ≡ some m) (full []) (λ _ x. x) (λ _ x. x) e)

@@ -9,7 +9,7 @@ use lib.Dec.{leb, ltb, leb→le, le→leb, ltb→lt, lt→ltb}
 use Rattle.numbers.proofs.Signs.{same-test}
 use Rattle.table.specs.Tree.{Kind, MAX, MIN, CHANCE, Forest, end, leaf, inner, isEnd, weigh}
 use Rattle.turn.specs.Turn.{turnKind}
-use Rattle.search.specs.Search.{Frame, Play, noPlay, child, Seen, State, Rules, begin, lower, upper, beats, better, update, finish, cut, stop, point, unmet, met, scan, search, searchRoot}
+use Rattle.search.specs.Search.{Frame, Play, noPlay, child, Seen, State, Rules, begin, lower, upper, beats, better, update, finish, cut, stop, point, metSpent, met, scan, search, searchRoot}
 use Rattle.search.specs.Inside.{natural}
 use Rattle.search.proofs.Steps.{cond-map, seenUnder, seenAfter}
 use Rattle.search.proofs.Heights.{Sound, Within, total}
@@ -164,8 +164,8 @@ module _ (S : ℕ) where
     R2 = reframe R frame
 
     met-turn : (e : Frame ℕ) (l : List ℕ) (r : Seen ℕ) → met R2 (turnFrame S e) l (turnSeen S r) ≡ turnSeen S (met R e l r)
-    unfolding unmet
-    met-turn e l r = cond-map (turnSeen S) (unmet e l) r (R .full l)
+    unfolding metSpent
+    met-turn e l r = cond-map (turnSeen S) (metSpent e l) r (R .full l)
 
     after-turn : (e : Frame ℕ) (k : Kind) (rest : Forest ℕ) (t : State ℕ) → t .alpha ≤ S → t .beta ≤ S
         → scan natural R2 (turnFrame S e) (turnKind k) (turn S rest) (turnState t) ≡ turnSeen S (scan natural R e k rest t)

@@ -5,7 +5,7 @@ use mathlib.Core.Bool.{Bool, true, false, cond}
 use mathlib.Core.List.{List, [], _∷_, _++_, List·Memᴰ, List·Memᴰ·head, List·Memᴰ·tail}
 use Rattle.field.proofs.Small.{choose}
 use Rattle.table.specs.Tree.{Kind, MAX, MIN, CHANCE, Forest, end, leaf, inner}
-use Rattle.search.specs.Search.{Frame, Seen, State, Arith, Rules, begin, finish, cut, point, unmet, met, lower, upper, update, stop, scan, search, searchRoot}
+use Rattle.search.specs.Search.{Frame, Seen, State, Arith, Rules, begin, finish, cut, point, metSpent, met, lower, upper, update, stop, scan, search, searchRoot}
 use Rattle.search.proofs.Steps.{seenUnder, seenAfter}
 use Rattle.promise.specs.Unread.{ReadBy, Alike, alike-end, alike-leaf, alike-inner}
 
@@ -60,7 +60,7 @@ module _ {A : Type 0} (O : Arith A) (R : Rules A) (P : ℕ → Type 0) where
 
   -- a node met unread reads nothing
   back-met : (e : Frame A) (l : List ℕ) (r : Seen A) → (All r → Each P l) → All (met R e l r) → Each P l
-  unfolding unmet
+  unfolding metSpent
   back-met e l r f = choose (λ (r : Seen A). All r → Each P l) (R .full l) (λ _ x. x) (λ _. f)
 
   back-after : (e : Frame A) (k : Kind) (f : Forest A) (t : State A) → (All (scan O R e k f t) → Each P (t .read)) → All (seenAfter O R e k f t)
@@ -92,7 +92,7 @@ module _ {A : Type 0} (O : Arith A) (R : Rules A) (P : ℕ → Type 0) where
         let t : State A = update O e k n w s (met R e (s .read) r) in
         let y : All (met R e (s .read) r) = rw update-read at (back-after e k rest t (back e k rest t) x) in
         let same : met R e (s .read) r ≡ met R e (s .read) (point n v2 (s .read)) =
-        same-cond (unmet e (s .read)) All (R .full (s .read)) (λ z. ap (λ y. point n y (s .read)) (q (back-point n v (s .read) z .1))) y in
+        same-cond (metSpent e (s .read)) All (R .full (s .read)) (λ z. ap (λ y. point n y (s .read)) (q (back-point n v (s .read) z .1))) y in
         same-after e k t a (unread e k t a) x ∙ ap (λ y. seenAfter O R e k rest2 (update O e k n w s y)) same
     unread e k s (alike-inner {n} {w} {k = c} {under} {under2} {rest} {rest2} u a) x =
         let r : Seen A = seenUnder O R e k n w c under s in
@@ -100,7 +100,7 @@ module _ {A : Type 0} (O : Arith A) (R : Rules A) (P : ℕ → Type 0) where
         let y : All (met R e (s .read) r) = rw update-read at (back-after e k rest t (back e k rest t) x) in
         let d : Frame A = R .frame n under in
         let same : met R e (s .read) r ≡ met R e (s .read) (seenUnder O R e k n w c under2 s) =
-        same-cond (unmet e (s .read)) All (R .full (s .read))
+        same-cond (metSpent e (s .read)) All (R .full (s .read))
         (λ z. unread d c _ u z ∙ ap (λ d. scan O R d c under2 (begin d c (lower O e k w s) (upper O e k w s) (s .read))) (frames n under under2 u)) y in
         same-after e k t a (unread e k t a) x ∙ ap (λ v. seenAfter O R e k rest2 (update O e k n w s v)) same
 
@@ -115,7 +115,7 @@ module _ {A : Type 0} (O : Arith A) (R : Rules A) where
       → ((n : ℕ) → List·Memᴰ n (search O R e k f .read) → P n) → search O R e k f ≡ search O R e k g
   unfolding search
   unread-search P e k f g frames a all =
-      same-cond (unmet e []) (All O R P) (R .full []) (unread O R P frames e k (begin e k (e .bottom) (e .top) []) a)
+      same-cond (metSpent e []) (All O R P) (R .full []) (unread O R P frames e k (begin e k (e .bottom) (e .top) []) a)
       (each-self (search O R e k f .read) P all)
 
   -- The root's own frame, like every other, may not depend on leaves that are not read.
@@ -124,7 +124,7 @@ module _ {A : Type 0} (O : Arith A) (R : Rules A) where
   unfolding searchRoot point
   unread-from P f g frames alike-end all = refl
   unread-from P f g frames (alike-leaf {n} {w} {v} {v2} {rest} q a) all =
-      same-cond (unmet (R .frame n end) []) (All O R P) (R .full []) (λ z. ap (λ (x : A). point n x []) (q (back-point O R P n v [] z .1)))
+      same-cond (metSpent (R .frame n end) []) (All O R P) (R .full []) (λ z. ap (λ (x : A). point n x []) (q (back-point O R P n v [] z .1)))
       (each-self (searchRoot O R (leaf n w v rest) .read) P all)
   unread-from P f g frames (alike-inner {n} {w} {k} {under} {under2} u a) all =
       unread-search P (R .frame n under) k under under2 frames u all ∙ ap (λ (e : Frame A). search O R e k under2) (frames n under under2 u)

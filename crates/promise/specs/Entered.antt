@@ -22,8 +22,8 @@ module _ {A : Type 0} where
 
   module _ (O : Arith A) where
     module _ (R : Rules A) where
-      -- the children entered from the state s on, first to last: the walk of `scan`, up to the child after which it stops. A child met unread is
-      -- entered too, and gives the two ends.
+      -- the children entered from the state s on, first to last: the walk of `scan`, up to the child after which it stops. One met with the
+      -- budget spent is among them, with the two ends as its bounds: "the rules go on over it as over any child"; Item 6 says that it "counts as entered".
       unfoldable pub entered : (e : Frame A) (k : Kind) (f : Forest A) (s : State A) → List (Entered A)
       entered e k end s = []
       entered e k (leaf n w v rest) s =

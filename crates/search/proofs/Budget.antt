@@ -12,7 +12,7 @@ use Rattle.field.proofs.Small.{choose}
 use Rattle.line.proofs.Signs.{true-ne-false}
 use Rattle.table.specs.Tree.{Kind, Forest, end, leaf, inner, isEnd}
 use Rattle.table.specs.Accepted.{Filled, Rooted}
-use Rattle.search.specs.Search.{Frame, Seen, State, Arith, Rules, unlimited, limited, begin, finish, cut, point, unmet, met, lower, upper, update, stop, scan, search, searchRoot}
+use Rattle.search.specs.Search.{Frame, Seen, State, Arith, Rules, unlimited, limited, begin, finish, cut, point, metSpent, met, lower, upper, update, stop, scan, search, searchRoot}
 use Rattle.search.proofs.Steps.{seenAfter}
 
 holds-true : (c : Bool) → Holds c → c ≡ true
@@ -93,7 +93,7 @@ module _ {A : Type 0} where
       idle-after e k rest t p g = choose (Idle (t .read)) (stop O ε rest t) (λ _. (refl, p)) (λ _. g)
 
       idle : (e : Frame A) (k : Kind) (f : Forest A) (s : State A) → leb b (length (s .read)) ≡ true → s .spent ≡ true → Idle (s .read) (scan O B e k f s)
-      unfolding scan finish update unmet
+      unfolding scan finish update metSpent
       idle e k end s q p = (refl, p)
       idle e k (leaf n w v rest) s q p = rw q (idle-after e k rest _ refl (idle e k rest _ q refl))
       idle e k (inner n w c under rest) s q p = rw q (idle-after e k rest _ refl (idle e k rest _ q refl))
@@ -135,7 +135,7 @@ module _ {A : Type 0} where
       -- a child that is met, where l is read so far and p reads more
       run-met : (e : Frame A) (l : List ℕ) (p q : Seen A) → length l ≤ b → Grown l p → length l < length (p .read)
           → (Holds (not (leb b (length l))) → Run p q) → Run p (met B e l q)
-      unfolding unmet
+      unfolding metSpent
       run-met e l p q h g m r =
           choose (Run p) (leb b (length l))
           (λ z. ends (omega (arith, leb→le b (length l) z)) (sym (same-start b l p g (leb→le b (length l) z) ∙ take-all b l h)) refl)

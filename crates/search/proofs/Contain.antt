@@ -6,7 +6,7 @@ use native.Mathlib.Omega.{arith}
 use Rattle.field.proofs.Small.{choose}
 use Rattle.table.specs.Tree.{Kind, MAX, MIN, CHANCE, Forest, end, leaf, inner, weigh}
 use Rattle.table.specs.Inside.{taken, sealed}
-use Rattle.search.specs.Search.{Frame, Seen, State, Rules, begin, lower, upper, update, finish, cut, stop, point, unmet, met, scan}
+use Rattle.search.specs.Search.{Frame, Seen, State, Rules, begin, lower, upper, update, finish, cut, stop, point, metSpent, met, scan}
 use Rattle.search.specs.Inside.{natural}
 use Rattle.search.proofs.Steps.{seenUnder, seenAfter}
 use Rattle.search.proofs.Heights.{Paid, Sound, Within, start, total, worth}
@@ -79,9 +79,9 @@ pub hold-point : (e : Frame ℕ) (n h : ℕ) (l : List ℕ) → Inside e h → H
 unfolding point
 hold-point e n h l q = omega arith
 
-hold-unmet : (e : Frame ℕ) (v : ℕ) (l : List ℕ) → Inside e v → Holding e v (unmet e l)
-unfolding unmet
-hold-unmet e v l q = omega arith
+hold-spent : (e : Frame ℕ) (v : ℕ) (l : List ℕ) → Inside e v → Holding e v (metSpent e l)
+unfolding metSpent
+hold-spent e v l q = omega arith
 
 pub hold-under : (e d : Frame ℕ) (v : ℕ) (r : Seen ℕ) → e .bottom ≤ d .bottom → d .top ≤ e .top → Holding d v r → Holding e v r
 hold-under e d v r p q h = (le-trans p (h .0), h .1, h .2, le-trans (h .3) q)
@@ -90,7 +90,7 @@ module _ (R : Rules ℕ) where
   -- a node met unread lies between its parent's ends
   pub hold-met : (e : Frame ℕ) (l : List ℕ) (v : ℕ) (r : Seen ℕ) → Holding e v r → Holding e v (met R e l r)
   hold-met e l v r h =
-      choose (Holding e v) (R .full l) (λ _. hold-unmet e v l (le-trans (h .0) (h .1), le-trans (h .2) (h .3))) (λ _. h)
+      choose (Holding e v) (R .full l) (λ _. hold-spent e v l (le-trans (h .0) (h .1), le-trans (h .2) (h .3))) (λ _. h)
 
   pub kept-update : (e : Frame ℕ) (k : Kind) (n w W : ℕ) (s : State ℕ) (a : ℕ) (r : Seen ℕ) (v : ℕ) → Kept e k (w + W) s a → Holding e v r
       → Kept e k W (update natural e k n w s r) (taken k a w v)

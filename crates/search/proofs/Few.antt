@@ -10,7 +10,7 @@ use Rattle.table.specs.Tree.{Kind, MAX, MIN, CHANCE, Forest, end, leaf, inner, 
 use Rattle.table.specs.Inside.{Slices, Spans}
 use Rattle.table.specs.Root.{children}
 use Rattle.table.proofs.Spans.{spans-le}
-use Rattle.search.specs.Search.{Frame, Play, noPlay, child, Seen, State, Arith, Rules, begin, finish, cut, point, unmet, met, lower, upper, beats, better, update, stop, scan, search, searchRoot, nodeOf}
+use Rattle.search.specs.Search.{Frame, Play, noPlay, child, Seen, State, Arith, Rules, begin, finish, cut, point, metSpent, met, lower, upper, beats, better, update, stop, scan, search, searchRoot, nodeOf}
 use Rattle.search.specs.Inside.{grained}
 use Rattle.search.proofs.Steps.{seenUnder, seenAfter}
 
@@ -27,7 +27,7 @@ module _ {A : Type 0} (O : Arith A) (R : Rules A) where
   few-after e k rest t n h more = choose (λ (r : Seen A). length (r .read) ≤ n) (stop O (R .margin) rest t) (λ _. omega arith) (λ _. more)
 
   few-met : (e : Frame A) (l : List ℕ) (r : Seen A) (n : ℕ) → length l ≤ n → length (r .read) ≤ n → length (met R e l r .read) ≤ n
-  unfolding unmet
+  unfolding metSpent
   few-met e l r n h more = choose (λ (r : Seen A). length (r .read) ≤ n) (R .full l) (λ _. h) (λ _. more)
 
   pub few-scan : (e : Frame A) (k : Kind) (f : Forest A) (s : State A) → length (scan O R e k f s .read) ≤ length (s .read) + leaves f
@@ -96,7 +96,7 @@ module _ {A : Type 0} (O : Arith A) (R : Rules A) (P : ℕ → Type 0) where
       among-after e k rest _ j (among-scan e k rest _ (h .1) j)
 
   among-met : (e : Frame A) (l : List ℕ) (r : Seen A) → Among (r .play) → Among (met R e l r .play)
-  unfolding unmet
+  unfolding metSpent
   among-met e l r i = choose (λ (r : Seen A). Among (r .play)) (R .full l) (λ _. tt) (λ _. i)
 
   among-root : (f : Forest A) → EachNode P (children f) → Among (searchRoot O R f .play)

@@ -11,7 +11,7 @@ use lib.Signed.{ltZ, leZ}
 use Rattle.numbers.specs.Integers.{maxZ, minZ, floorZ, ceilZ}
 use Rattle.numbers.proofs.Signs.{same-test, Is, is-eq, is-add, is-neg, is-minus, is-mul, is-le, is-max, is-min, is-floor}
 use Rattle.table.specs.Tree.{Kind, MAX, MIN, CHANCE, Forest, end, leaf, inner, isEnd, weigh}
-use Rattle.search.specs.Search.{Frame, Play, noPlay, child, Seen, State, Rules, begin, lower, upper, beats, better, update, finish, cut, stop, point, unmet, met, scan, search, searchRoot}
+use Rattle.search.specs.Search.{Frame, Play, noPlay, child, Seen, State, Rules, begin, lower, upper, beats, better, update, finish, cut, stop, point, metSpent, met, scan, search, searchRoot}
 use Rattle.search.specs.Whole.{whole, downZ, upZ, gainZ, lossZ}
 use Rattle.search.specs.Inside.{natural, ceil}
 use Rattle.search.proofs.Steps.{seenUnder, seenAfter}
@@ -269,7 +269,7 @@ module _ (p q : ℕ) where
 
     pub rel-met : (e : Frame ℕ) (ez : Frame ℤ) (l m : List ℕ) (r : Seen ℕ) (x : Seen ℤ) → RelFrame e ez → m ≡ l → RelSeen r x
         → RelSeen (met R e l r) (met Z ez m x)
-    unfolding unmet
+    unfolding metSpent
     rel-met e ez l m r x f q i =
         pick-rel RelSeen _ _ _ _ (R .full l) (R .full m) (ap (R .full) q)
         (record { low = f .bottom; high = f .top; play = tt; read = q; spent = refl }) (λ _. i)

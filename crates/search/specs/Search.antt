@@ -111,13 +111,14 @@ module _ {A : Type 0} where
   unfoldable pub point : (n : ℕ) (v : A) (before : List ℕ) → Seen A
   point n v before = record { low = v; high = v; play = noPlay; read = before ++ (n ∷ []); spent = false }
 
-  -- Item 3: "A node first met when the budget is spent gives the table's two ends as its bounds and reads nothing". Its parent's frame e has these ends.
-  unfoldable pub unmet : (e : Frame A) (before : List ℕ) → Seen A
-  unmet e before = record { low = e .bottom; high = e .top; play = noPlay; read = before; spent = true }
+  -- Item 3: "A node first met when the budget is spent gives the table's two ends as its bounds and reads nothing". e is its
+  -- parent's frame, at the root its own; in a table every frame has the table's ends.
+  unfoldable pub metSpent : (e : Frame A) (before : List ℕ) → Seen A
+  metSpent e before = record { low = e .bottom; high = e .top; play = noPlay; read = before; spent = true }
 
   -- what a node gives that would give r, were the budget not spent
   abbrev pub met : (R : Rules A) (e : Frame A) (before : List ℕ) (r : Seen A) → Seen A
-  met R e before r = cond (R .full before) (unmet e before) r
+  met R e before r = cond (R .full before) (metSpent e before) r
 
   module _ (O : Arith A) where
     -- lines 7 to 10: the window of a child of weight w
@@ -182,8 +183,8 @@ module _ {A : Type 0} where
       abbrev pub after : (e : Frame A) (k : Kind) (rest : Forest A) (t : State A) (later : Seen A) → Seen A
       after e k rest t later = cond (stop (R .margin) rest t) (cut e k t) later
 
-      -- Lines 11 to 27 for the children that are left; "the rules go on over" a child met unread "as over any child". "A line of each kind has its own rule, and each rule hands a child to the rule of that
-      -- child's kind."
+      -- Lines 11 to 27 for the children that are left. "A line of each kind has its own rule, and each rule hands a child to the rule of that child's
+      -- kind." Of a child met with the budget spent, Item 3: "the rules go on over it as over any child".
       unfoldable pub scan : (e : Frame A) (k : Kind) (f : Forest A) (s : State A) → Seen A
       scan e k end s = finish s
       scan e k (leaf n w v rest) s =

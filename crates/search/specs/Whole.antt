@@ -1,4 +1,4 @@
--- The paper's arithmetic, whole numbers of grains, and the search of a table. Document 01, 'Grains' and 'The search'.
+-- The paper's arithmetic, whole numbers of grains, and the search of a table. Document 01, 'Grains' and 'The search'; document 02, Item 3.
 use Prim.Native.Nat.{ℕ}
 use mathlib.Core.Bool.{Bool}
 use mathlib.Core.List.{List}

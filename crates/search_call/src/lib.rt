@@ -57,7 +57,8 @@ fn rule_of(s: Scale, margin: i64) -> Rule
     }
 }
 
-// How many leaves may be read: the budget, or as many as the list has room for where that is less. The table has no more leaves than that.
+// How many leaves may be read: the budget, or as many as the list has entries where these are fewer. No table is searched that has more leaves than the
+// list has entries, so that this changes nothing.
 fn reads_of(budget: i64, room: usize) -> usize
     ensures { λ r. ⌜ r ≡ min (toNat budget) room ⌝ }
 {
@@ -118,6 +119,7 @@ pub fn search_within(text: &[u8], margin: i64, budget: i64, leaves: &mut [u16]) 
             let s = scale::scale_of(t);
             let g = rule_of(s, margin);
             let v = ends_of(s);
+            // lent as many entries as leaves may be read
             let n = reads_of(budget, leaves.len());
             let f = searching::search(
                 &kind,

@@ -13,7 +13,7 @@ use Rattle.line.proofs.Signs.{true-ne-false}
 use Rattle.table.specs.Tree.{Kind, MAX, MIN, CHANCE, Forest, end, leaf, inner, isEnd}
 use Rattle.table.proofs.Nodes.{restOf, numberOf, weightOf}
 use Rattle.search.specs.Search as alg
-use Rattle.search.specs.Search.{Frame, Play, noPlay, child, Seen, Arith, Rules, limited, begin, finish, cut, point, unmet, met, lower, upper, beats, prefer, update, stop, scan, framed, nodeOf}
+use Rattle.search.specs.Search.{Frame, Play, noPlay, child, Seen, Arith, Rules, limited, begin, finish, cut, point, metSpent, met, lower, upper, beats, prefer, update, stop, scan, framed, nodeOf}
 use Rattle.search.specs.Inside.{natural, grained}
 use Rattle.search.proofs.Steps.{cond-map, seenUnder, seenAfter}
 use Rattle.steps.specs.declared.Rule.{Rule}
@@ -73,9 +73,9 @@ module _ {A : Type 0} where
       R′ = record { frame = frame; margin = ε; full = full′ }
 
       met-ahead : (e : Frame A) (m : List ℕ) (r r2 : Seen A) → r2 ≡ ahead l r → met R e (l ++ m) r2 ≡ ahead l (met R′ e m r)
-      unfolding unmet
+      unfolding metSpent
       met-ahead e m r r2 q =
-          ap₂ (λ (b : Bool) (x : Seen A). cond b (ahead l (unmet e m)) x) (behind m) q ∙ cond-map (ahead l) (unmet e m) r (full′ m)
+          ap₂ (λ (b : Bool) (x : Seen A). cond b (ahead l (metSpent e m)) x) (behind m) q ∙ cond-map (ahead l) (metSpent e m) r (full′ m)
 
       after-ahead : (e : Frame A) (k : Kind) (rest : Forest A) (t : alg.State A)
           → scan O R e k rest (aheadS l t) ≡ ahead l (scan O R′ e k rest t) → seenAfter O R e k rest (aheadS l t) ≡ ahead l (seenAfter O R′ e k rest t)
@@ -152,7 +152,7 @@ module _ (g : Rule) (v : Ends) (left budget : ℕ) (l : List ℕ) (q : left + le
       let C : Seen ℕ = nodeSeen g v left F (windowFor e k (weightOf F) s) in
       scan natural (rulesOf g v budget) e k (grained (g .grain) F) (lift s p l x)
       ≡ seenAfter natural (rulesOf g v budget) e k (grained (g .grain) (restOf F)) (lift (after e k (numberOf F) (weightOf F) s (C .low) (C .high)) (prefer natural k (numberOf F) p (ahead l C)) (l ++ C .read) (C .spent))
-  unfolding scan grained point unmet
+  unfolding scan grained point metSpent
   scan-step N k end s p x some = absurd (true-ne-false some)
   scan-step N k (leaf n w h rest) s p x some =
       let e : Frame ℕ = frameAt v N in

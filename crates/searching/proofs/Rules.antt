@@ -15,7 +15,7 @@ use Rattle.table.proofs.Nodes.{code-inj, code-pos, stopOf, restOf, numberOf, we
 use Rattle.runs.specs.Inside.{weighAt}
 use Rattle.runs.proofs.Scan.{spans-weigh}
 use Rattle.search.specs.Search as alg
-use Rattle.search.specs.Search.{Frame, Play, noPlay, Seen, framed, begin, finish, cut, point, unmet, lower, upper, prefer, runLow, runHigh, update, stop, scan}
+use Rattle.search.specs.Search.{Frame, Play, noPlay, Seen, framed, begin, finish, cut, point, metSpent, lower, upper, prefer, runLow, runHigh, update, stop, scan}
 use Rattle.search.specs.Inside.{natural, grained}
 use Rattle.search.proofs.Steps.{seenAfter}
 use Rattle.search.proofs.Contain.{Holding}
@@ -26,7 +26,7 @@ use Rattle.steps.specs.declared.Ends.{Ends}
 use Rattle.steps.specs.declared.State.{State}
 use Rattle.steps.specs.declared.Window.{Window}
 use Rattle.steps.specs.declared.Found.{Found}
-use Rattle.steps.specs.Inside.{frameAt, lift, windowFor, after, stops, rulesOf, putFrom, Gives, unmetIn, leafSeen, limit, OkEnds, OkState}
+use Rattle.steps.specs.Inside.{frameAt, lift, windowFor, after, stops, rulesOf, putFrom, Gives, metSpentIn, leafSeen, limit, OkEnds, OkState}
 use Rattle.searching.specs.Inside.{seenIn, OkRule, Light, Fit, ReadyChildren, Told}
 use Rattle.searching.proofs.Bridge.{ahead, nodeSeen, update-lift, scan-step, Plays, plays-number, plays-after}
 use Rattle.searching.proofs.Fits.{grained-split, fit-rest, fit-weight, fit-sound, node-holds}
@@ -159,10 +159,10 @@ module _ {t : Slices} {g : Rule} {v : Ends} {w : Window} {c left : ℕ} {came : 
   told-inner {x} j {r} {now} z q more = record { tells = inner-gives t g v w c left came x j r now z q more }
 
 -- of children met when no read is left
-pub told-unmet : (t : Slices) (g : Rule) {v : Ends} (k : Kind) (w : Window) (c e : ℕ) {left : ℕ} {came : List ℕ} {r : Found} → left ≡ 0 → r ≡ unmetIn v
+pub told-spent : (t : Slices) (g : Rule) {v : Ends} (k : Kind) (w : Window) (c e : ℕ) {left : ℕ} {came : List ℕ} {r : Found} → left ≡ 0 → r ≡ metSpentIn v
     → Told t g v k w c e left r came came
-unfolding unmet putFrom
-told-unmet t g {v} k w c e {left} {came} {r} z q F is =
+unfolding metSpent putFrom
+told-spent t g {v} k w c e {left} {came} {r} z q F is =
     subst₂ (λ (n : ℕ) (x : Found). Gives n x (seenIn g v n k F w) came came) (sym z) (sym q)
     (record { low = refl; high = refl; play = refl; reads = refl; spent = refl; leaves = refl })
 

@@ -4,7 +4,7 @@ use mathlib.Core.Path.{_≡_}
 use mathlib.Core.Bool.{true, false}
 use mathlib.Core.List.{List, []}
 use lib.ListN.{length}
-use Rattle.table.specs.Tree.{Kind, MAX, Forest, end, leaf, inner, isChance, isEnd, weigh, leaves}
+use Rattle.table.specs.Tree.{Kind, MAX, Forest, end, leaf, inner, isChance, isEnd, weigh}
 use Rattle.table.specs.Inside.{Slices, Spans, Holds}
 use Rattle.table.specs.Slices.{laid}
 use Rattle.table.specs.Accepted.{Rooted}

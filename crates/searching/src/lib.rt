@@ -13,7 +13,8 @@ use steps::Rule;
 use steps::State;
 use steps::Window;
 
-// The children of an M of the ends v, entries c up to end, in the window w, with so many reads left. (As the value of the `if`, r would be copied once more.)
+// The children of an M of the ends v, entries c up to end, in the window w, with so many reads left. Whether the budget was spent is as the child met last
+// tells it: once a node was met with none left, every later one is.
 fn max_over(
     kind: &[u8],
     stop: &[u16],
@@ -31,7 +32,7 @@ fn max_over(
     ensures { λ r. ⌜ Told (slices (now (kind .entry)) (now (stop .entry)) (now (weight .entry)) (now (height .entry))) g v MAX w c end left r (now (leaves .entry)) (now (leaves .exit)) ⌝ }
 {
     if left == 0 {
-        return steps::unmet(v);
+        return steps::met_spent(v);
     }
     let mut t = State {
         alpha: w.alpha,
@@ -49,6 +50,7 @@ fn max_over(
             alpha: t.alpha,
             beta: t.beta,
         };
+        // as the value of the `if`, r would be copied once more
         let r: Found;
         if k == 0 {
             r = steps::leaf_at(height, leaves, n, i, g.grain, v);
@@ -83,7 +85,7 @@ fn max_over(
     }
 }
 
-// The children of an N of the ends v, entries c up to end, in the window w.
+// The same for the children of an N.
 fn min_over(
     kind: &[u8],
     stop: &[u16],
@@ -101,7 +103,7 @@ fn min_over(
     ensures { λ r. ⌜ Told (slices (now (kind .entry)) (now (stop .entry)) (now (weight .entry)) (now (height .entry))) g v MIN w c end left r (now (leaves .entry)) (now (leaves .exit)) ⌝ }
 {
     if left == 0 {
-        return steps::unmet(v);
+        return steps::met_spent(v);
     }
     let mut t = State {
         alpha: w.alpha,
@@ -153,7 +155,7 @@ fn min_over(
     }
 }
 
-// The children of a C of the ends v, entries c up to end, in the window w. Their weights are added up once, here. A leaf needs no window.
+// The same for the children of a C. Their weights are added up once, here. A leaf needs no window.
 fn chance_over(
     kind: &[u8],
     stop: &[u16],
@@ -171,7 +173,7 @@ fn chance_over(
     ensures { λ r. ⌜ Told (slices (now (kind .entry)) (now (stop .entry)) (now (weight .entry)) (now (height .entry))) g v CHANCE w c end left r (now (leaves .entry)) (now (leaves .exit)) ⌝ }
 {
     if left == 0 {
-        return steps::unmet(v);
+        return steps::met_spent(v);
     }
     let total = runs::sum_weights(kind, stop, weight, c, end);
     let mut t = State {

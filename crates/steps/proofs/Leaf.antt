@@ -6,15 +6,15 @@ use mathlib.Core.List.{List}
 use native.Mathlib.Omega.{arith}
 use borrow.Author.Tests.{lt-leb}
 use lib.ListN.{length, set}
-use Rattle.search.specs.Search.{point, unmet}
+use Rattle.search.specs.Search.{point, metSpent}
 use Rattle.steps.specs.declared.Ends.{Ends}
 use Rattle.steps.specs.declared.Found.{Found}
-use Rattle.steps.specs.Inside.{putFrom, playAt, Gives, unmetIn, leafSeen}
+use Rattle.steps.specs.Inside.{putFrom, playAt, Gives, metSpentIn, leafSeen}
 
 module _ (v : Ends) where
-  pub gives-unmet : (left c h : ℕ) (r : Found) (came : List ℕ) → left ≡ 0 → r ≡ unmetIn v → Gives left r (leafSeen v left c h) came came
-  unfolding unmet putFrom
-  gives-unmet left c h r came z q =
+  pub gives-spent : (left c h : ℕ) (r : Found) (came : List ℕ) → left ≡ 0 → r ≡ metSpentIn v → Gives left r (leafSeen v left c h) came came
+  unfolding metSpent putFrom
+  gives-spent left c h r came z q =
       subst₂ (λ (n : ℕ) (x : Found). Gives n x (leafSeen v n c h) came came) (sym z) (sym q)
       (record { low = refl; high = refl; play = refl; reads = refl; spent = refl; leaves = refl })
 

@@ -82,8 +82,8 @@ pub record Gives (left : ℕ) (r : Found) (a : Seen ℕ) (came now : List ℕ) :
   pub leaves : now ≡ putFrom came (length came - left) (a .read)
 
 -- a node met when no read is left
-abbrev pub unmetIn : Ends → Found
-unmetIn v = record { low = v .bottom; high = v .top; play = 0; left = 0; spent = true }
+abbrev pub metSpentIn : Ends → Found
+metSpentIn v = record { low = v .bottom; high = v .top; play = 0; left = 0; spent = true }
 
 -- the leaf c of h grains, whatever the margin
 abbrev pub leafSeen : Ends → (left c h : ℕ) → Seen ℕ

@@ -1,10 +1,10 @@
-// One step of the bounded search: the window of a child, the state after it, and a leaf read. Lines are those of Algorithm 1 of document 000,
-// numbers are in grains above the lowest end.
+// One step of the bounded search: the window of a child, the state after it, a leaf read, and a node met when no read is left. Lines are those of
+// Algorithm 1 of document 000, numbers are in grains above the lowest end.
 ghost use mathlib.Core.Path.{_≡_};
 ghost use Prim.Native.Nat.{_+_, _*_, _<_, _≤_};
 ghost use lib.ListN.{length, getD};
 ghost use Rattle.table.specs.Tree.{MAX, MIN, CHANCE};
-ghost use Rattle.steps.specs.Inside.{frameAt, windowFor, preferred, after, stops, unmetIn, leafSeen, Gives, limit, OkEnds, OkState};
+ghost use Rattle.steps.specs.Inside.{frameAt, windowFor, preferred, after, stops, metSpentIn, leafSeen, Gives, limit, OkEnds, OkState};
 use numbers::max_of;
 use numbers::min_of;
 use numbers::monus;
@@ -131,8 +131,8 @@ pub fn chance_after(v: Ends, total: u64, s: State, w: u64, low: u64, high: u64) 
 }
 
 // A node met when no read is left: the two ends, and nothing is read.
-pub fn unmet(v: Ends) -> Found
-    ensures { λ r. ⌜ r ≡ unmetIn v ⌝ }
+pub fn met_spent(v: Ends) -> Found
+    ensures { λ r. ⌜ r ≡ metSpentIn v ⌝ }
 {
     Found {
         low: v.bottom,
@@ -144,7 +144,7 @@ pub fn unmet(v: Ends) -> Found
 }
 
 // The leaf at entry c, lines 1 and 2: it is listed behind those read before, in a list that has an entry for each read of the whole budget, and both
-// bounds are its height in grains.
+// bounds are its height in grains. With no read left it is met as any node then is.
 pub fn leaf_at(
     height: &[u32],
     leaves: &mut [u16],
@@ -157,7 +157,7 @@ pub fn leaf_at(
     ensures { λ r. ⌜ Gives left r (leafSeen v left c (getD (now (height .entry)) c 0 * grain)) (now (leaves .entry)) (now (leaves .exit)) ⌝ }
 {
     if left == 0 {
-        return unmet(v);
+        return met_spent(v);
     }
     let used = leaves.len() - left;
     leaves[used] = c as u16;

@@ -23,8 +23,8 @@ use Rattle.steps.proofs.leaf_at.Reads as leaf-at-reads
 use Rattle.steps.proofs.max_after.Reads as max-after-reads
 use Rattle.steps.proofs.min_after.Reads as min-after-reads
 use Rattle.steps.proofs.stopped.Reads as stopped-reads
-use Rattle.steps.proofs.unmet.Reads as unmet-reads
-use Rattle.searching.proofs.Rules.{NodeTold, told-same, told-leaf, told-inner, told-unmet, Going, going-start, going-small, chance-weight, chance-total, window-small, Child, child-of, child-asks, child-three, child-leaf, ChildTold, max-told, min-told, chance-told, max-state, min-state, chance-state, told-within, Turn, turn-same, turn-less, turn-margin, turn-last, turn-cut, turn-on}
+use Rattle.steps.proofs.met_spent.Reads as met-spent-reads
+use Rattle.searching.proofs.Rules.{NodeTold, told-same, told-leaf, told-inner, told-spent, Going, going-start, going-small, chance-weight, chance-total, window-small, Child, child-of, child-asks, child-three, child-leaf, ChildTold, max-told, min-told, chance-told, max-state, min-state, chance-state, told-within, Turn, turn-same, turn-less, turn-margin, turn-last, turn-cut, turn-on}
 use Rattle.searching.proofs.chance_over.Reads as chance-over
 use Rattle.searching.proofs.chance_over.Kinds as chance-over-kinds
 use Rattle.searching.proofs.+chance_over+max_over+min_over.Lts-chance_over as chance-over-lts
@@ -74,8 +74,8 @@ windowOf s = record { alpha = s .alpha; beta = s .beta }
 -- what its callees ask and tell
 abbrev chance-over-claims : ℕ → chance-over-lts.Claims
 chance-over-claims t = (
-  unmet-reads.Asked,
-  unmet-reads.Learnt,
+  met-spent-reads.Asked,
+  met-spent-reads.Learnt,
   sum-weights-reads.Asked,
   sum-weights-reads.Learnt,
   node-at-reads.Asked,
@@ -107,12 +107,12 @@ chance-over-Inv-loop kind stop weight height leaves₀ left g c end v total t₀
 abbrev chance-over-μ-loop : chance-over-lts.MeasureT-loop
 chance-over-μ-loop kind stop weight height leaves₀ left g c end v total t₀ i₀ n₀ leaves t i n = end - i
 
-chance-over-unmet-requires : (t : ℕ) → chance-over-lts.Need-unmet-requires (chance-over-claims t) (chance-over-at t) chance-over.Post chance-over-Inv-loop chance-over-μ-loop
-chance-over-unmet-requires t c κs = search needs
+chance-over-met-spent-requires : (t : ℕ) → chance-over-lts.Need-met-spent-requires (chance-over-claims t) (chance-over-at t) chance-over.Post chance-over-Inv-loop chance-over-μ-loop
+chance-over-met-spent-requires t c κs = search needs
 
 chance-over-returns : (t : ℕ) → chance-over-lts.Need-returns (chance-over-claims t) (chance-over-at t) chance-over.Post chance-over-Inv-loop chance-over-μ-loop
 chance-over-returns t c = let a = c .before .before .before .before .before .before .before .args in
-    told-unmet (slices (a .kind .now) (a .stop .now) (a .weight .now) (a .height .now)) (a .g) CHANCE (a .w) (a .c) (a .end) (c .before .if1 .taken) (c .unmet .ensures)
+    told-spent (slices (a .kind .now) (a .stop .now) (a .weight .now) (a .height .now)) (a .g) CHANCE (a .w) (a .c) (a .end) (c .before .if1 .taken) (c .met-spent .ensures)
 
 chance-over-sum-weights-requires : (t : ℕ) → chance-over-lts.Need-sum-weights-requires (chance-over-claims t) (chance-over-at t) chance-over.Post chance-over-Inv-loop chance-over-μ-loop
 chance-over-sum-weights-requires t c κs =
@@ -289,8 +289,8 @@ chance-over-loop-again t c = turn-on (chance-over-turn t (c .before .before .bef
 -- what its callees ask and tell
 abbrev max-over-claims : ℕ → max-over-lts.Claims
 max-over-claims t = (
-  unmet-reads.Asked,
-  unmet-reads.Learnt,
+  met-spent-reads.Asked,
+  met-spent-reads.Learnt,
   node-at-reads.Asked,
   node-at-reads.Learnt,
   at8-reads.Asked,
@@ -316,12 +316,12 @@ max-over-Inv-loop kind stop weight height leaves₀ left g c end v t₀ i₀ n�
 abbrev max-over-μ-loop : max-over-lts.MeasureT-loop
 max-over-μ-loop kind stop weight height leaves₀ left g c end v t₀ i₀ n₀ leaves t i n = end - i
 
-max-over-unmet-requires : (t : ℕ) → max-over-lts.Need-unmet-requires (max-over-claims t) (max-over-at t) max-over.Post max-over-Inv-loop max-over-μ-loop
-max-over-unmet-requires t c κs = search needs
+max-over-met-spent-requires : (t : ℕ) → max-over-lts.Need-met-spent-requires (max-over-claims t) (max-over-at t) max-over.Post max-over-Inv-loop max-over-μ-loop
+max-over-met-spent-requires t c κs = search needs
 
 max-over-returns : (t : ℕ) → max-over-lts.Need-returns (max-over-claims t) (max-over-at t) max-over.Post max-over-Inv-loop max-over-μ-loop
 max-over-returns t c = let a = c .before .before .before .before .before .before .before .args in
-    told-unmet (slices (a .kind .now) (a .stop .now) (a .weight .now) (a .height .now)) (a .g) MAX (a .w) (a .c) (a .end) (c .before .if1 .taken) (c .unmet .ensures)
+    told-spent (slices (a .kind .now) (a .stop .now) (a .weight .now) (a .height .now)) (a .g) MAX (a .w) (a .c) (a .end) (c .before .if1 .taken) (c .met-spent .ensures)
 
 max-over-loop-holds : (t : ℕ) → max-over-lts.Need-loop-holds (max-over-claims t) (max-over-at t) max-over.Post max-over-Inv-loop max-over-μ-loop
 max-over-loop-holds t c = let p = c .before .before .before .before .before .before in going-start MAX (p .args .w) (p .pre .1) (c .if1 .left)
@@ -438,8 +438,8 @@ max-over-loop-again t c = turn-on (max-over-turn t (c .before .before .before)) 
 -- what its callees ask and tell
 abbrev min-over-claims : ℕ → min-over-lts.Claims
 min-over-claims t = (
-  unmet-reads.Asked,
-  unmet-reads.Learnt,
+  met-spent-reads.Asked,
+  met-spent-reads.Learnt,
   node-at-reads.Asked,
   node-at-reads.Learnt,
   at8-reads.Asked,
@@ -465,12 +465,12 @@ min-over-Inv-loop kind stop weight height leaves₀ left g c end v t₀ i₀ n�
 abbrev min-over-μ-loop : min-over-lts.MeasureT-loop
 min-over-μ-loop kind stop weight height leaves₀ left g c end v t₀ i₀ n₀ leaves t i n = end - i
 
-min-over-unmet-requires : (t : ℕ) → min-over-lts.Need-unmet-requires (min-over-claims t) (min-over-at t) min-over.Post min-over-Inv-loop min-over-μ-loop
-min-over-unmet-requires t c κs = search needs
+min-over-met-spent-requires : (t : ℕ) → min-over-lts.Need-met-spent-requires (min-over-claims t) (min-over-at t) min-over.Post min-over-Inv-loop min-over-μ-loop
+min-over-met-spent-requires t c κs = search needs
 
 min-over-returns : (t : ℕ) → min-over-lts.Need-returns (min-over-claims t) (min-over-at t) min-over.Post min-over-Inv-loop min-over-μ-loop
 min-over-returns t c = let a = c .before .before .before .before .before .before .before .args in
-    told-unmet (slices (a .kind .now) (a .stop .now) (a .weight .now) (a .height .now)) (a .g) MIN (a .w) (a .c) (a .end) (c .before .if1 .taken) (c .unmet .ensures)
+    told-spent (slices (a .kind .now) (a .stop .now) (a .weight .now) (a .height .now)) (a .g) MIN (a .w) (a .c) (a .end) (c .before .if1 .taken) (c .met-spent .ensures)
 
 min-over-loop-holds : (t : ℕ) → min-over-lts.Need-loop-holds (min-over-claims t) (min-over-at t) min-over.Post min-over-Inv-loop min-over-μ-loop
 min-over-loop-holds t c = let p = c .before .before .before .before .before .before in going-start MIN (p .args .w) (p .pre .1) (c .if1 .left)
@@ -589,7 +589,7 @@ pub +chance-over+max-over+min-over-spec : {M : Type 1} → statement M
     chance-over.Post
     chance-over-Inv-loop
     chance-over-μ-loop
-    (chance-over-unmet-requires t)
+    (chance-over-met-spent-requires t)
     (chance-over-returns t)
     (chance-over-sum-weights-requires t)
     (chance-over-loop-holds t)
@@ -617,7 +617,7 @@ pub +chance-over+max-over+min-over-spec : {M : Type 1} → statement M
     max-over.Post
     max-over-Inv-loop
     max-over-μ-loop
-    (max-over-unmet-requires t)
+    (max-over-met-spent-requires t)
     (max-over-returns t)
     (max-over-loop-holds t)
     (max-over-node-at-requires t)
@@ -641,7 +641,7 @@ pub +chance-over+max-over+min-over-spec : {M : Type 1} → statement M
     min-over.Post
     min-over-Inv-loop
     min-over-μ-loop
-    (min-over-unmet-requires t)
+    (min-over-met-spent-requires t)
     (min-over-returns t)
     (min-over-loop-holds t)
     (min-over-node-at-requires t)

@@ -5,15 +5,15 @@ use native.Mathlib.Omega.{arith}
 use borrow.Author.Needs.{needs}
 use denote.Ref.{now}
 use lib.ListN.{getD}
-use Rattle.steps.proofs.Leaf.{gives-unmet, gives-read}
+use Rattle.steps.proofs.Leaf.{gives-spent, gives-read}
 use Rattle.steps.proofs.leaf_at.Statement.{statement}
 use Rattle.steps.proofs.leaf_at.Tie as tie
 
-unmet-requires : tie.Need-unmet-requires
-unmet-requires c κs = search needs
+met-spent-requires : tie.Need-met-spent-requires
+met-spent-requires c κs = search needs
 
 returns : tie.Need-returns
-returns c = gives-unmet _ _ _ _ _ _ (c .before .if1 .taken) (c .unmet .ensures)
+returns c = gives-spent _ _ _ _ _ _ (c .before .if1 .taken) (c .met-spent .ensures)
 
 sub-used : tie.Need-sub-used
 sub-used c = search needs
@@ -58,7 +58,7 @@ pub leaf-at-spec : {M : Type 1} → statement M
 leaf-at-spec =
     tie.close
     (tie.spec
-    unmet-requires
+    met-spent-requires
     returns
     sub-used
     cast-leaves
