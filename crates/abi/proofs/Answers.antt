@@ -1,9 +1,9 @@
 -- What a call answers of any text is small enough for its code and numbers. Assumes nothing.
 use Prim.Native.Nat.{ℕ, _<_}
-use mathlib.Core.Path.{_≡_, refl, ap, subst}
+use mathlib.Core.Path.{_≡_, refl, ap}
 use mathlib.Core.List.{List}
 use native.Mathlib.Omega.{arith}
-use lib.IntN.{ℤ, pos}
+use lib.IntN.{ℤ}
 use Rattle.line.specs.Refusal.{Verdict, refused, fine, lineOf}
 use Rattle.table.specs.Table.{Table, readText, answer}
 use Rattle.table.specs.declared.Play.{Play}
@@ -20,8 +20,8 @@ use Rattle.turn_call.specs.Call.{turnCall}
 use Rattle.turn_call.proofs.Call.{turn-line}
 use Rattle.search_call.specs.declared.Bounded
 use Rattle.search_call.specs.declared.Bounded.{Bounded}
-use Rattle.search_call.specs.Call.{searchCall, withinCall}
-use Rattle.search_call.proofs.Answered.{PlayBelow, within-line, within-sizes, default-call}
+use Rattle.search_call.specs.Call.{withinCall}
+use Rattle.search_call.proofs.Answered.{PlayBelow, within-line, within-sizes}
 use Rattle.rolled.specs.declared.Rolled
 use Rattle.rolled.specs.declared.Rolled.{Rolled}
 use Rattle.rolled.specs.Call.{rollCall}
@@ -82,9 +82,6 @@ module _ (s : List ℕ) where
       go (Bounded.the-variants.Found b) e =
           let z = within-sizes s m n room b e in
           record { play = omega (arith, node-small (b .play) (z .play)); leaves = omega (arith, z .leaves); grain = omega (arith, z .grain) }
-
-  pub bounded-small : (m : ℤ) (room : ℕ) → SmallBounded (searchCall (readText s) m room)
-  bounded-small m room = subst SmallBounded (default-call s m room) (within-small m (pos 1024) room)
 
   pub rolled-small : (p : List ℕ) (list room : ℕ) → SmallRolled (rollCall (readText s) p list room)
   rolled-small p list room = rolled-sized (rollCall (readText s) p list room) (roll-sizes s p list room)

@@ -68,7 +68,7 @@ pub extern "C" fn margin_search(
     ensures numbers { λ _. ⌜ now (numbers .exit) ≡ put 0 (searchNumbers (searchCall (readText (now (text .entry))) margin (length (now (leaves .entry))))) (now (numbers .entry)) ⌝ }
     ensures lists { λ _. ⌜ now (leaves .exit) ≡ laid (searchReads (readText (now (text .entry))) margin (length (now (leaves .entry)))) (now (leaves .entry)) ⌝ }
 {
-    codes::put_bounded(search_call::search_table(text, margin, leaves), numbers)
+    margin_search_within(text, margin, 1024, leaves, numbers)
 }
 
 // The same within a budget of leaf reads, 0 to 1,024; the last number is 1 where it was spent.

@@ -1,13 +1,13 @@
 -- Document 02, Item 3, at the public calls. Assumes nothing.
-use Prim.Native.Nat.{ℕ, _≤_, _<_}
+use Prim.Native.Nat.{ℕ, _<_}
 use mathlib.Core.Path.{_≡_, refl, sym, ap, ap₂, subst, _∙_}
 use mathlib.Core.Bool.{Bool, true, false}
 use mathlib.Core.List.{List, []}
 use native.Mathlib.Omega.{arith}
 use borrow.Author.Tests.{ltb-true, ltb-false, le-ltb}
 use lib.Dec.{ltb}
-use lib.ListN.{length, take, length-take}
-use lib.IntN.{ℤ, pos, negsuc, _*ℤ_}
+use lib.ListN.{length, take}
+use lib.IntN.{ℤ, pos, _*ℤ_}
 use lib.Signed.{ltZ}
 use Rattle.field.specs.Field.{strip, digits, whole as wholeField, signed, leading}
 use Rattle.numbers.specs.Integers.{maxZ, minZ, floorZ, ceilZ}
@@ -15,8 +15,6 @@ use Rattle.line.specs.declared.Refusal.the-variants.{NoRoom, BadMargin, BadBudg
 use Rattle.line.specs.declared.Refusal.{Refusal}
 use Rattle.line.specs.Refusal.{Verdict, refused, fine, numberOf, unless, unlessAt}
 use Rattle.line.specs.Line.{toNat, climb}
-use Rattle.line.proofs.Checks.{or-left, or-right}
-use Rattle.line.proofs.Signs.{true-ne-false}
 use Rattle.table.specs.Tree.{Forest, end, leaf, inner, run, after as afterRun, forest, weigh, nodesWhere, leaves}
 use Rattle.table.specs.Table.{Table, tree, nodeLines, complete, readText, greatest, grain}
 use Rattle.table.specs.Accepted.{Rooted}
@@ -29,24 +27,15 @@ use Rattle.search.proofs.Within.{spent-where, unspent-same, first-reads}
 use Rattle.search_call.specs.declared.Bounds.{Bounds}
 use Rattle.search_call.specs.declared.Bounded.the-variants.{Found, Refused}
 use Rattle.search_call.specs.Call.{badMargin, badBudget, boundsOf, searchAnswer, withinCall}
-use Rattle.search_call.proofs.Call.{default-budget, sought-margin, sought-budget, sought-room, sought-fine}
+use Rattle.search_call.proofs.Call.{inside-is, inside-small, part-length, default-budget, sought-margin, sought-budget, sought-room, sought-fine}
 use Rattle.search_call.proofs.Answered.{answered, answers, reads, answered-within, answers-within, reads-within, unspent-answer}
 use Rattle.demands.specs.Budget.{DefaultBudget, NeverSpent, SpentWhere, UnspentSame, SpentFirst, Unread, RootUnread, SeventeenIs, Budgets, AnswersWithin, Within1, Within2, Within3, budgets, AllKnown}
 use Rattle.demands.proofs.Within.{fine-same, within-kept, within-same, within-turned}
 
 -- ---- budgets in range
 
--- an accepted one is a count
-budget-is : (b : ℤ) → badBudget b ≡ false → pos (toNat b) ≡ b
-budget-is (pos n) x = refl
-budget-is (negsuc n) x = absurd (true-ne-false (or-left (ltZ (negsuc n) (pos 0)) (ltZ (pos 1024) (negsuc n)) x))
-
 pub in-range : Budgets
-in-range = (λ n l. rw (le-ltb n 0 (omega arith), le-ltb 1024 n l) refl, λ b x. (toNat b, few b x, sym (budget-is b x)))
-  where
-    few : (b : ℤ) → badBudget b ≡ false → toNat b ≤ 1024
-    few (pos n) x = ltb-false 1024 n (or-right (ltZ (pos n) (pos 0)) (ltZ (pos 1024) (pos n)) x)
-    few (negsuc n) x = omega arith
+in-range = (λ n l. rw (le-ltb n 0 (omega arith), le-ltb 1024 n l) refl, λ b x. (toNat b, inside-small 1024 b x, sym (inside-is 1024 b x)))
 
 -- ---- against document 01's search
 
@@ -67,7 +56,7 @@ spent-exactly s m b room other a c e f =
     ap (λ (x : Bounds). x .spent) (A .bounds)
     ∙ spent-where s (A .table) (A .read) ε (toNat b)
     ∙ ap (ltb (toNat b)) (sym count)
-    ∙ ap (λ (z : ℤ). ltZ z (pos (c .leaves))) (budget-is b (A .budget))
+    ∙ ap (λ (z : ℤ). ltZ z (pos (c .leaves))) (inside-is 1024 b (A .budget))
 
 pub unspent-answers : UnspentSame
 unspent-answers s m b room a e z =
@@ -82,10 +71,6 @@ unspent-answers s m b room a e z =
           ∙ sym (reads-within s m b room t (A .read) (A .margin) (A .budget) (A .long)),
     )
 
--- the first n of more than n numbers are n
-first-length : (n : ℕ) (l : List ℕ) → n < length l → length (take n l) ≡ n
-first-length n l h = length-take n l ∙ omega arith
-
 pub spent-first : SpentFirst
 spent-first s m b room a e z =
     let A = answered-within s m b room a e in
@@ -95,11 +80,11 @@ spent-first s m b room a e z =
     let more : n < length all =
     ltb-true n (length all) (sym (spent-where s t (A .read) (toNat m) n) ∙ sym (ap (λ (x : Bounds). x .spent) (A .bounds)) ∙ z) in
     let first = first-reads s t (A .read) (toNat m) n in
-    let count : a .leaves ≡ n = ap (λ (x : Bounds). x .leaves) (A .bounds) ∙ ap length first ∙ first-length n all more in (
+    let count : a .leaves ≡ n = ap (λ (x : Bounds). x .leaves) (A .bounds) ∙ ap length first ∙ part-length n n all (omega arith) in (
       reads-within s m b room t (A .read) (A .margin) (A .budget) (A .long)
           ∙ first
           ∙ ap₂ take (sym count) (sym (reads s m room t (A .read) (A .margin) (A .long))),
-      ap pos count ∙ budget-is b (A .budget),
+      ap pos count ∙ inside-is 1024 b (A .budget),
     )
 
 -- ---- the root met unread

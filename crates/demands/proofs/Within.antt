@@ -7,13 +7,12 @@ use mathlib.Core.Option.{Option, none, some}
 use native.Mathlib.Omega.{arith}
 use lib.Dec.{ltb}
 use lib.ListN.{length}
-use lib.IntN.{ℤ, pos, negsuc, negℤ, _+ℤ_, _-ℤ_}
-use lib.Signed.{leZ, ltZ}
+use lib.IntN.{ℤ, pos, negℤ, _+ℤ_, _-ℤ_}
+use lib.Signed.{leZ}
 use Rattle.line.specs.declared.Refusal.{Refusal}
 use Rattle.line.specs.declared.Refusal.the-variants.{NoRoom}
 use Rattle.line.specs.Refusal.{Verdict, refused, fine, unless}
 use Rattle.line.specs.Line.{toNat}
-use Rattle.line.proofs.Checks.{or-left}
 use Rattle.table.specs.Tree.{leaves}
 use Rattle.table.specs.Table.{Table, tree, readText, grain}
 use Rattle.table.specs.Root.{rootOf, playOf}
@@ -25,12 +24,13 @@ use Rattle.turn.specs.Turn.{turnTable, turnedText}
 use Rattle.turn.proofs.Tree.{tree-turned}
 use Rattle.turn.proofs.Accepted.{turned-accepted}
 use Rattle.turn_call.specs.Call.{turnOf}
-use Rattle.search.specs.Search.{Seen, limited, nodeOf}
+use Rattle.search.specs.Search.{Seen, unlimited, limited, nodeOf}
 use Rattle.search.specs.Whole.{searched, searchedWithin}
 use Rattle.search.proofs.Within.{unspent-same}
 use Rattle.search_call.specs.declared.Bounds.{Bounds}
 use Rattle.search_call.specs.declared.Bounded.the-variants.{Found}
 use Rattle.search_call.specs.Call.{badMargin, boundsOf, withinReads}
+use Rattle.search_call.proofs.Call.{inside-is}
 use Rattle.search_call.proofs.Answered.{answered-within, answers-within, reads-within}
 use Rattle.promise.specs.Unread.{Alike, ReadBy}
 use Rattle.promise.specs.Turned.{Turns}
@@ -42,14 +42,6 @@ use Rattle.demands.specs.Budget.{Kept, KeptWithin, Within1, Within2, Wit
 use Rattle.demands.proofs.Utilities.{tree-alike}
 
 -- ---- what an answer promises
-
--- a margin that is accepted is a count
-pub margin-is : (m : ℤ) → badMargin m ≡ false → pos (toNat m) ≡ m
-margin-is (pos n) b = refl
-margin-is (negsuc n) b = let z : true ≡ false = or-left (ltZ (negsuc n) (pos 0)) (ltZ (pos 40000000000000) (negsuc n)) b in absurd (no z)
-  where
-    no : true ≡ false → ⊥
-    no e = let x : _≡_ {A = ℕ} 1 0 = ap (λ (c : Bool). cond c 1 0) e in omega arith
 
 child-some : (p : Option ℕ) (n : ℕ) → playOf p ≡ Child n → p ≡ some n
 child-some none n e = let x : _≡_ {A = ℕ} 0 1 = cc in absurd (omega arith)
@@ -63,8 +55,8 @@ promised-of : (s : List ℕ) (t : Table) (m : ℤ) → readText s ≡ fine t →
     → Promised s m (boundsOf (record { table = t; seen = searched t (toNat m) }))
 promised-of s t m p good =
     let ε : ℕ = toNat m in
-    let e : pos ε ≡ m = margin-is m good in
-    let c = contains s t p ε (λ (_ : List ℕ). false) in
+    let e : pos ε ≡ m = inside-is 40000000000000 m good in
+    let c = contains s t p ε unlimited in
     record {
       worth = worthOf t;
       exact = ap exactCall p;

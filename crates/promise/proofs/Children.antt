@@ -21,6 +21,7 @@ use Rattle.worth.specs.Inside.Heights.{SmallWorths}
 use Rattle.worth.proofs.Shift.{node-shift, shares-shift, Divides}
 use Rattle.search.specs.Search.{Frame}
 use Rattle.search.specs.Inside.{grained}
+use Rattle.search.proofs.Steps.{cond-past}
 use Rattle.search.proofs.Grains.{plain}
 use Rattle.promise.specs.Play.{worthAt}
 use Rattle.promise.proofs.Play.{Child, here-leaf, here-inner, next-leaf, next-inner}
@@ -69,9 +70,6 @@ root-same G g (inner n w k under rest) = refl
 
 cond-here : {A : Type 0} (b : Bool) (x y : A) → b ≡ true → cond b x y ≡ x
 cond-here b x y e = rw e refl
-
-cond-past : {A : Type 0} (b : Bool) (x y : A) → b ≡ false → cond b x y ≡ y
-cond-past b x y e = rw e refl
 
 module _ (T G K S : ℕ) (h : Head) where
   abbrev base : ℤ

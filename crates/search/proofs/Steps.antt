@@ -9,6 +9,9 @@ pub cond-map : {A B : Type 0} (h : A → B) (x y : A) (b : Bool) → cond b (h x
 cond-map h x y true = refl
 cond-map h x y false = refl
 
+pub cond-past : {A : Type 0} (b : Bool) (x y : A) → b ≡ false → cond b x y ≡ y
+cond-past b x y e = rw e refl
+
 -- a property of either pair of answers of one test
 pub both : {A B : Type 0} {x y : A} {u v : B} (P : A → B → Type 0) (b : Bool) → P x u → P y v → P (cond b x y) (cond b u v)
 both P true h k = h

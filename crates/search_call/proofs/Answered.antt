@@ -151,9 +151,6 @@ within-sizes s m b room a e =
       grain = accepted-grain s t (A .read);
     })
 
-pub search-sizes : (s : List ℕ) (m : ℤ) (room : ℕ) (b : Bounds) → searchCall (readText s) m room ≡ Found b → Sizes b
-search-sizes s m room b e = within-sizes s m (pos 1024) room b (default-call s m room ∙ e)
-
 -- ---- a refusal
 
 same-refusal : (r x : Refusal) → Refused r ≡ Refused x → r ≡ x
@@ -182,6 +179,3 @@ module _ (s : List ℕ) (m b : ℤ) (room : ℕ) (r : Refusal) where
 
   pub within-line : withinCall (readText s) m b room ≡ Refused r → lineOf r ≤ 1024
   within-line e = line-at (readText s) refl e
-
-pub search-line : (s : List ℕ) (m : ℤ) (room : ℕ) (r : Refusal) → searchCall (readText s) m room ≡ Refused r → lineOf r ≤ 1024
-search-line s m room r e = within-line s m (pos 1024) room r (default-call s m room ∙ e)

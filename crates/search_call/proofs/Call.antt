@@ -16,7 +16,8 @@ use mir.ValLaws.{toZ-ofZ}
 use Rattle.line.specs.declared.Refusal.the-variants.{NoRoom, BadMargin, BadBudget}
 use Rattle.line.specs.Refusal.{Verdict, refused, fine, unless}
 use Rattle.line.specs.Line.{toNat}
-use Rattle.line.proofs.Checks.{or-right}
+use Rattle.line.proofs.Checks.{or-left, or-right}
+use Rattle.line.proofs.Signs.{true-ne-false}
 use Rattle.table.specs.declared.Summary.{Summary}
 use Rattle.table.specs.Tree.{leaves}
 use Rattle.table.specs.Table.{Table, readText, tree, summary, grain}
@@ -41,7 +42,7 @@ use Rattle.searching.proofs.Ready.{accepted-search-ready, accepted-searched}
 use Rattle.search_call.specs.Inside.{ruleFor, endsFor}
 use Rattle.search_call.specs.declared.Bounded.{Bounded}
 use Rattle.search_call.specs.declared.Bounded.the-variants.{Found as Given}
-use Rattle.search_call.specs.Call.{badMargin, badBudget, Sought, sought, soughtWithin, boundsOf, searchAnswer, searchList, withinCall, withinReads}
+use Rattle.search_call.specs.Call.{beyond, badMargin, badBudget, Sought, sought, soughtWithin, boundsOf, searchAnswer, searchList, withinCall, withinReads}
 
 -- ---- the search's own refusals
 
@@ -80,10 +81,14 @@ default-budget s m room = at (readText s) refl
         ap (λ (x : Seen ℤ). unless (record { holds = badMargin m; gives = BadMargin } ∷ record { holds = ltb room (leaves (tree t)); gives = NoRoom } ∷ []) (record { table = t; seen = x }))
         (greatest-budget s t p (toNat m))
 
--- a margin that is accepted is small
-margin-small : (m : ℤ) → badMargin m ≡ false → toNat m ≤ 40000000000000
-margin-small (pos n) b = ltb-false 40000000000000 n (or-right (ltZ (pos n) (pos 0)) (ltZ (pos 40000000000000) (pos n)) b)
-margin-small (negsuc n) b = omega arith
+-- what is not beyond the top is a count up to it
+pub inside-is : (top : ℕ) (z : ℤ) → beyond (pos top) z ≡ false → pos (toNat z) ≡ z
+inside-is top (pos n) b = refl
+inside-is top (negsuc n) b = absurd (true-ne-false (or-left (ltZ (negsuc n) (pos 0)) (ltZ (pos top) (negsuc n)) b))
+
+pub inside-small : (top : ℕ) (z : ℤ) → beyond (pos top) z ≡ false → toNat z ≤ top
+inside-small top (pos n) b = ltb-false top n (or-right (ltZ (pos n) (pos 0)) (ltZ (pos top) (pos n)) b)
+inside-small top (negsuc n) b = omega arith
 
 -- ---- K, S, W and H are the slices as the reading left them
 
@@ -129,7 +134,7 @@ module _ {s : List ℕ} {t : Summary} {K S W H : List ℕ} (G : Taken s t K S W 
   search-ready =
       rw (isG, isV)
       (of-table G (λ t K S W H. ReadyRoot (slices K S W H) (ruleFor (scaleFor t) m) (endsFor (scaleFor t)) (t .nodes)) (λ T p.
-      let z = zeros-enough s T p in accepted-search-ready s T p (toNat m) (margin-small m x) zeros zeros zeros zeros z z z z))
+      let z = zeros-enough s T p in accepted-search-ready s T p (toNat m) (inside-small 40000000000000 m x) zeros zeros zeros zeros z z z z))
 
   -- f is what `search` gave, with the first n entries of the list as they came and as they are now
   module _ (f : Found) (n : ℕ) (came now : List ℕ) (isN : n ≡ min (toNat b) (length came)) (enough : t .leaves ≤ length came)
@@ -144,7 +149,7 @@ module _ {s : List ℕ} {t : Summary} {K S W H : List ℕ} (G : Taken s t K S W 
         let z = zeros-enough s T p in
         show T p (rw (accepted-leaves s T p) few)
         (subst (λ (k : ℕ). Shows f (heightSearched T (toNat m) (limited k)) (take n came) now) lent
-        (accepted-searched s T p (toNat m) (margin-small m x) zeros zeros zeros zeros z z z z f (take n came) now told))) enough
+        (accepted-searched s T p (toNat m) (inside-small 40000000000000 m x) zeros zeros zeros zeros z z z z f (take n came) now told))) enough
         (rw (isG, isV) at told)
 
     -- its bounds are at most the top, and it has read no more than it may

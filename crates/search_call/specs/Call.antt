@@ -18,13 +18,17 @@ use Rattle.search_call.specs.declared.Bounded
 use Rattle.search_call.specs.declared.Bounded.{Bounded}
 use Rattle.search_call.specs.declared.Bounds.{Bounds}
 
+-- z is none of the whole numbers from 0 to top
+abbrev pub beyond : (top z : ℤ) → Bool
+beyond top z = ltZ z (pos 0) || ltZ top z
+
 -- 12: "margin not a whole number from 0 to 40,000,000,000,000"
 abbrev pub badMargin : ℤ → Bool
-badMargin m = ltZ m (pos 0) || ltZ (pos 40000000000000) m
+badMargin m = beyond (pos 40000000000000) m
 
 -- Item 3: "a number of leaf reads, 0 to 1,024", and 17 for "any other budget"
 abbrev pub badBudget : ℤ → Bool
-badBudget b = ltZ b (pos 0) || ltZ (pos 1024) b
+badBudget b = beyond (pos 1024) b
 
 -- an accepted table, and what its search gave
 pub record Sought : Type 0 where

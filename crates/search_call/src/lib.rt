@@ -9,7 +9,7 @@ ghost use Rattle.table.specs.Slices.{laid};
 ghost use Rattle.table.specs.Root.{playOf};
 ghost use Rattle.steps.specs.Inside.{playAt};
 ghost use Rattle.search_call.specs.Inside.{ruleFor, endsFor};
-ghost use Rattle.search_call.specs.Call.{badMargin, badBudget, searchCall, searchReads, withinCall, withinReads};
+ghost use Rattle.search_call.specs.Call.{beyond, searchCall, searchReads, withinCall, withinReads};
 use line::Refusal;
 use scale::Scale;
 use steps::Ends;
@@ -35,16 +35,11 @@ pub enum Bounded {
     Refused(Refusal),
 }
 
-fn is_bad_margin(margin: i64) -> bool
-    ensures { λ r. ⌜ r ≡ badMargin margin ⌝ }
+// Whether z is none of the numbers from 0 to top.
+fn is_beyond(top: i64, z: i64) -> bool
+    ensures { λ r. ⌜ r ≡ beyond top z ⌝ }
 {
-    (margin < 0) | (40000000000000 < margin)
-}
-
-fn is_bad_budget(budget: i64) -> bool
-    ensures { λ r. ⌜ r ≡ badBudget budget ⌝ }
-{
-    (budget < 0) | (1024 < budget)
+    (z < 0) | (top < z)
 }
 
 // The numbers that a search goes by.
@@ -107,10 +102,10 @@ pub fn search_within(text: &[u8], margin: i64, budget: i64, leaves: &mut [u16]) 
     match reading::decode(text, &mut kind, &mut stop, &mut weight, &mut height) {
         Reading::Refused(r) => Bounded::Refused(r),
         Reading::Accepted(t) => {
-            if is_bad_margin(margin) {
+            if is_beyond(40000000000000, margin) {
                 return Bounded::Refused(Refusal::BadMargin);
             }
-            if is_bad_budget(budget) {
+            if is_beyond(1024, budget) {
                 return Bounded::Refused(Refusal::BadBudget);
             }
             if leaves.len() < t.leaves {

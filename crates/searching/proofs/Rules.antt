@@ -1,7 +1,7 @@
 -- One child of a node, and one node, on plain values: what the proofs of the three searches cite. Assumes nothing.
 use Prim.Native.Nat.{ℕ, suc, _+_, _-_, _*_, _≤_, _<_}
 use mathlib.Core.Path.{_≡_, refl, sym, ap, ap₂, subst, subst₂, _∙_}
-use mathlib.Core.Bool.{Bool, true, false, cond}
+use mathlib.Core.Bool.{Bool, true, false}
 use mathlib.Core.List.{List, [], _∷_, _++_}
 use native.Mathlib.Nat.{suc-add, add-suc, add-zero, le-trans, le-of-mul-le-mul-left}
 use native.Mathlib.Omega.{arith}
@@ -17,7 +17,7 @@ use Rattle.runs.proofs.Scan.{spans-weigh}
 use Rattle.search.specs.Search as alg
 use Rattle.search.specs.Search.{Frame, Play, noPlay, Seen, framed, begin, finish, cut, point, metSpent, lower, upper, prefer, runLow, runHigh, update, stop, scan}
 use Rattle.search.specs.Inside.{natural, grained}
-use Rattle.search.proofs.Steps.{seenAfter}
+use Rattle.search.proofs.Steps.{cond-past, seenAfter}
 use Rattle.search.proofs.Contain.{Holding}
 use Rattle.search.proofs.Grains.{grained-weigh}
 use Rattle.search.proofs.Safe.{Safe, safe-window, safe-begin, safe-update}
@@ -44,9 +44,6 @@ put-length : (l : List ℕ) (k : ℕ) (xs : List ℕ) → length (putFrom l k xs
 unfolding putFrom
 put-length l k [] = refl
 put-length l k (x ∷ xs) = put-length (set l k x) (suc k) xs ∙ length-set l k x
-
-cond-later : {A : Type 0} (b : Bool) (x y : A) → b ≡ false → cond b x y ≡ y
-cond-later b x y e = rw e refl
 
 -- ---- one node
 
@@ -246,7 +243,7 @@ going-start {t} {g} {v} k w {c} {e} {left} {came} R more =
       within = R .within;
       left-is = omega arith;
       leaves-are = refl;
-      so-far = cond-later (leb left 0) _ _ (lt-leb left 0 (omega (arith, more))) ∙ ap (scan natural (rulesOf g v left) (frameOf g v F) k f) (begin-lift v (weigh f) k w);
+      so-far = cond-past (leb left 0) _ _ (lt-leb left 0 (omega (arith, more))) ∙ ap (scan natural (rulesOf g v left) (frameOf g v F) k f) (begin-lift v (weigh f) k w);
     }
 
 safe-small : (e : Frame ℕ) (k : Kind) (W : ℕ) (s : State) (p : Play ℕ) (l : List ℕ) (x : Bool) → Safe limit e k W (lift s p l x) → OkState s

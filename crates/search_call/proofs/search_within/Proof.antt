@@ -62,16 +62,16 @@ taken : (c : tie.After-known-told2)
 taken c = taken-by (text-of (read-of c)) (read-of c .decode .ensures) (c .before .t .given .1)
 
 -- the test of the margin is the definition's
-tested : (c : tie.After-is-bad-margin) → c .is-bad-margin .result ≡ badMargin (margin-of (read-of (c .before)))
+tested : (c : tie.After-is-beyond) → c .is-beyond .result ≡ badMargin (margin-of (read-of (c .before)))
 tested c =
     let S = start-of (read-of (c .before)) in
-    c .is-bad-margin .ensures ∙ ap badMargin (toZ-ofZ w64 (S .args .margin) (S .fits .margin))
+    c .is-beyond .ensures ∙ ap badMargin (toZ-ofZ w64 (S .args .margin) (S .fits .margin))
 
 -- and that of the budget
-counted : (c : tie.After-is-bad-budget) → c .is-bad-budget .result ≡ badBudget (budget-of (read-of (c .before .before .before)))
+counted : (c : tie.After-is-beyond2) → c .is-beyond2 .result ≡ badBudget (budget-of (read-of (c .before .before .before)))
 counted c =
     let S = start-of (read-of (c .before .before .before)) in
-    c .is-bad-budget .ensures ∙ ap badBudget (toZ-ofZ w64 (S .args .budget) (S .fits .budget))
+    c .is-beyond2 .ensures ∙ ap badBudget (toZ-ofZ w64 (S .args .budget) (S .fits .budget))
 
 -- the refusals, and what is then in the list
 refusing : (R : tie.After-decode) (v : Verdict Sought) → soughtWithin (readText (text-of R)) (margin-of R) (budget-of R) (length (list-of R)) ≡ v
