@@ -10,7 +10,7 @@ use Rattle.table.specs.Tree.{Kind, MAX, MIN, CHANCE, Forest, end, leaf, inner, 
 use Rattle.table.specs.Inside.{Slices, Spans}
 use Rattle.table.specs.Root.{children}
 use Rattle.table.proofs.Spans.{spans-le}
-use Rattle.search.specs.Search.{Frame, Play, noPlay, child, Seen, State, Arith, Rules, begin, finish, cut, point, metSpent, met, lower, upper, beats, better, update, stop, scan, search, searchRoot, nodeOf}
+use Rattle.search.specs.Search.{Frame, Play, noPlay, child, Seen, State, Arith, Rules, begin, finish, cut, point, metSpent, met, lower, upper, better, update, stop, scan, search, searchRoot, nodeOf}
 use Rattle.search.specs.Inside.{grained}
 use Rattle.search.proofs.Steps.{seenUnder, seenAfter}
 
@@ -72,7 +72,7 @@ module _ {A : Type 0} (O : Arith A) (R : Rules A) (P : ℕ → Type 0) where
   among-better : (k : Kind) (m : ℕ) (p : Play A) (r : Seen A) → P m → Among p → Among (better O k m p r)
   unfolding better
   among-better k m noPlay r h i = h
-  among-better k m (child j l u) r h i = choose Among (beats O k (r .low) (r .high) l u) (λ _. h) (λ _. i)
+  among-better k m (child j l u) r h i = choose Among (O .beats k (r .low) (r .high) l u) (λ _. h) (λ _. i)
 
   among-update : (e : Frame A) (k : Kind) (m w : ℕ) (s : State A) (r : Seen A) → P m → Among (s .play) → Among (update O e k m w s r .play)
   unfolding update

@@ -2,9 +2,11 @@ pub mod Steps
 pub mod Heights
 pub mod Contain
 pub mod Safe
+pub mod Below
 pub mod Shift
 pub mod Grains
 pub mod Few
 pub mod Table
 pub mod Budget
 pub mod Within
+pub mod Former

@@ -6,7 +6,7 @@ use mathlib.Core.List.{List}
 use native.Mathlib.Nat.{mul-le-mul-left, mul-sub, mul-div-le, le-of-mul-le-mul-left, le-trans, sub-le, min-le-left}
 use native.Mathlib.Omega.{arith}
 use Rattle.table.specs.Tree.{Kind, MAX, MIN, CHANCE, Forest, weigh}
-use Rattle.search.specs.Search.{Frame, Play, noPlay, child, Seen, State, begin, lower, upper, beats, better, update}
+use Rattle.search.specs.Search.{Frame, Play, noPlay, child, Seen, State, begin, lower, upper, better, update}
 use Rattle.search.specs.Inside.{natural}
 use Rattle.search.proofs.Heights.{Sound, total}
 
@@ -63,7 +63,7 @@ module _ (S : ℕ) where
   low-better : (k : Kind) (n : ℕ) (p : Play ℕ) (r : Seen ℕ) → r .low ≤ S → r .high ≤ S → Low p → Low (better natural k n p r)
   unfolding better
   low-better k n noPlay r p q i = (p, q)
-  low-better k n (child m l h) r p q i = pick (beats natural k (r .low) (r .high) l h)
+  low-better k n (child m l h) r p q i = pick (natural .beats k (r .low) (r .high) l h)
     where
       pick : (b : Bool) → Low (cond b (child n (r .low) (r .high)) (child m l h))
       pick true = (p, q)

@@ -11,12 +11,13 @@ use lib.Signed.{ltZ, leZ}
 use Rattle.numbers.specs.Integers.{maxZ, minZ, floorZ, ceilZ}
 use Rattle.numbers.proofs.Signs.{same-test, Is, is-eq, is-add, is-neg, is-minus, is-mul, is-le, is-max, is-min, is-floor}
 use Rattle.table.specs.Tree.{Kind, MAX, MIN, CHANCE, Forest, end, leaf, inner, isEnd, weigh}
-use Rattle.search.specs.Search.{Frame, Play, noPlay, child, Seen, State, Rules, begin, lower, upper, beats, better, update, finish, cut, stop, point, metSpent, met, scan, search, searchRoot}
+use Rattle.search.specs.Search.{Frame, Play, noPlay, child, Seen, State, Rules, begin, lower, upper, safer, better, update, finish, cut, stop, point, metSpent, met, scan, search, searchRoot}
 use Rattle.search.specs.Whole.{whole, downZ, upZ, gainZ, lossZ}
 use Rattle.search.specs.Inside.{natural, ceil}
 use Rattle.search.proofs.Steps.{seenUnder, seenAfter}
 use Rattle.search.proofs.Heights.{Sound, Within, Pays, Positive, shift, total}
 use Rattle.search.proofs.Contain.{contained, Holding, hold-point, hold-under, hold-met}
+use Rattle.search.proofs.Below.{below-same}
 use Rattle.search.proofs.Safe.{drop-top, share-fits, Safe, safe-begin, safe-lower, safe-upper, safe-update}
 
 -- m - n is the quotient of a - b by w, rounded up
@@ -215,10 +216,12 @@ module _ (p q : ℕ) where
   less-same a b y z i j = less-whole y z ∙ ap not (le-same b a z y j i) ∙ sym (less-natural a b)
 
   same : (k : Kind) (l h bl bh : ℕ) (zl zh zbl zbh : ℤ) → Rel l zl → Rel h zh → Rel bl zbl → Rel bh zbh
-      → beats whole k zl zh zbl zbh ≡ beats natural k l h bl bh
-  unfolding beats
-  same MAX l h bl bh zl zh zbl zbh a b c d = less-same bl l zbl zl c a
-  same MIN l h bl bh zl zh zbl zbh a b c d = less-same h bh zh zbh b d
+      → whole .beats k zl zh zbl zbh ≡ natural .beats k l h bl bh
+  unfolding safer
+  same MAX l h bl bh zl zh zbl zbh a b c d =
+      below-same ltZ ltb zbl zl zbh zh bl l bh h (less-same bl l zbl zl c a) (less-same l bl zl zbl a c) (less-same bh h zbh zh d b)
+  same MIN l h bl bh zl zh zbl zbh a b c d =
+      below-same ltZ ltb zh zbh zl zbl h bh l bl (less-same h bh zh zbh b d) (less-same bh h zbh zh d b) (less-same l bl zl zbl a c)
   same CHANCE l h bl bh zl zh zbl zbh a b c d = refl
 
   rel-better : (k : Kind) (n : ℕ) (u : Play ℕ) (v : Play ℤ) (r : Seen ℕ) (x : Seen ℤ) → RelPlay u v → RelSeen r x
@@ -228,7 +231,7 @@ module _ (p q : ℕ) where
   rel-better k n noPlay (child m l h) r x i o = absurd i
   rel-better k n (child m l h) noPlay r x i o = absurd i
   rel-better k n (child m l h) (child m2 l2 h2) r x i o =
-      pick-rel RelPlay _ _ _ _ (beats natural k (r .low) (r .high) l h) (beats whole k (x .low) (x .high) l2 h2)
+      pick-rel RelPlay _ _ _ _ (natural .beats k (r .low) (r .high) l h) (whole .beats k (x .low) (x .high) l2 h2)
       (same k _ _ _ _ (x .low) (x .high) l2 h2 (o .low) (o .high) (i .1) (i .2)) (refl, o .low, o .high) (λ _. i)
 
   pub rel-update : (S : ℕ) (e : Frame ℕ) (ez : Frame ℤ) (k : Kind) (n w W : ℕ) (s : State ℕ) (z : State ℤ) (r : Seen ℕ) (x : Seen ℤ) → RelFrame e ez

@@ -7,7 +7,7 @@ use Rattle.table.specs.Tree.{Forest, end, leaf, inner}
 use Rattle.table.specs.Table.{Table, grain}
 use Rattle.table.specs.Inside.{heightTree}
 use Rattle.table.specs.Accepted.{span}
-use Rattle.search.specs.Search.{Arith, Rules, Seen, framed, searchRoot}
+use Rattle.search.specs.Search.{Arith, Rules, Seen, framed, safer, searchRoot}
 
 -- x divided by w, rounded up
 unfoldable pub ceil : (x w : ℕ) → ℕ
@@ -17,12 +17,12 @@ abbrev pub natural : Arith ℕ
 natural = record {
   high-of = max;
   low-of = min;
-  less = ltb;
   near = λ ε α β. leb β (α + ε);
   down = λ e w α U. max (e .bottom) (e .top - ceil ((U - α) * e .total) w);
   up = λ e w β L. min (e .top) (e .bottom + ceil ((β - L) * e .total) w);
   gain = λ e w L Lc. L + w * (Lc - e .bottom) / e .total;
   loss = λ e w U Uc. U - w * (e .top - Uc) / e .total;
+  beats = safer ltb;
 }
 
 -- heights in points as heights in grains

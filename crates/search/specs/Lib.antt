@@ -1,3 +1,4 @@
 pub mod Search
 pub mod Whole
+pub mod Former
 pub mod Inside

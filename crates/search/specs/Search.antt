@@ -1,7 +1,7 @@
--- Algorithm 1 of document 000, over any arithmetic, with the play of document 01, 'The search', and the leaf budget of document 02, Item 3.
--- Whole.antt has the paper's own arithmetic, whole grains, and the search of a table.
+-- Algorithm 1 of document 000, over any arithmetic, with the play of document 01, 'The search', and document 02's leaf budget, Item 3, and ties between
+-- plays, Item 6. Whole.antt has the paper's own arithmetic, whole grains, and the search of a table.
 use Prim.Native.Nat.{ℕ}
-use mathlib.Core.Bool.{Bool, true, false, not, _&&_, cond}
+use mathlib.Core.Bool.{Bool, true, false, not, _&&_, _||_, cond}
 use mathlib.Core.List.{List, [], _∷_, _++_}
 use mathlib.Core.Option.{Option, none, some}
 use lib.Dec.{leb}
@@ -38,18 +38,19 @@ pub record State (A : Type 0) : Type 0 where
   pub read : List ℕ
   pub spent : Bool
 
--- What the search computes with: the larger and the smaller of two, whether x < y, and whether β ≤ α + ε. `down` and `up` are the new α and β
--- of lines 9 and 10, from the parent's α and U, and β and L; `gain` and `loss` are the new L and U of lines 20 and 21, from L(n) and L(c), and U(n)
--- and U(c). These four take the node's frame e and the child's weight w.
+-- What the search computes with: the larger and the smaller of two, and whether β ≤ α + ε. `down` and `up` are the new α and β of lines 9 and 10,
+-- from the parent's α and U, and β and L; `gain` and `loss` are the new L and U of lines 20 and 21, from L(n) and L(c), and U(n) and U(c). These four
+-- take the node's frame e and the child's weight w. `beats` is the rule for the play: whether a child of bounds l and h takes the place of an
+-- earlier one of bounds bl and bh.
 pub record Arith (A : Type 0) : Type 0 where
   pub high-of : (x y : A) → A
   pub low-of : (x y : A) → A
-  pub less : (x y : A) → Bool
   pub near : (ε : ℕ) (α β : A) → Bool
   pub down : (e : Frame A) (w : ℕ) (α U : A) → A
   pub up : (e : Frame A) (w : ℕ) (β L : A) → A
   pub gain : (e : Frame A) (w : ℕ) (L Lc : A) → A
   pub loss : (e : Frame A) (w : ℕ) (U Uc : A) → A
+  pub beats : (k : Kind) (l h bl bh : A) → Bool
 
 -- the frame of each node, from its number and its children, the margin ε, and whether the budget is spent once these leaves are read
 pub record Rules (A : Type 0) : Type 0 where
@@ -120,6 +121,18 @@ module _ {A : Type 0} where
   abbrev pub met : (R : Rules A) (e : Frame A) (before : List ℕ) (r : Seen A) → Seen A
   met R e before r = cond (R .full before) (metSpent e before) r
 
+  -- a is below b, or there is a tie and x is below y
+  unfoldable pub below : (less : A → A → Bool) (a b x y : A) → Bool
+  below less a b x y = less a b || (not (less b a) && less x y)
+
+  -- The rule for the play. Document 01: "At an M root it is the first child entered that has the highest low; at an N root the first with the lowest
+  -- high". Item 6: "At M the tie goes to the highest high, at N the lowest low breaks a tie of lowest high; a tie still left goes to the first."
+  unfoldable pub safer : (less : A → A → Bool) (k : Kind) (l h bl bh : A) → Bool
+  unfolding below
+  safer less MAX l h bl bh = below less bl l bh h
+  safer less MIN l h bl bh = below less h bh l bl
+  safer less CHANCE l h bl bh = false
+
   module _ (O : Arith A) where
     -- lines 7 to 10: the window of a child of weight w
     unfoldable pub lower : (e : Frame A) (k : Kind) (w : ℕ) (s : State A) → A
@@ -144,16 +157,10 @@ module _ {A : Type 0} where
     nextHigh e MIN w hi h = O .low-of hi h
     nextHigh e CHANCE w hi h = O .loss e w hi h
 
-    -- "At an M root it is the first child entered that has the highest low; at an N root the first with the lowest high": whether a child of
-    -- bounds l and h takes the place of an earlier one of bounds bl and bh
-    unfoldable pub beats : (k : Kind) (l h bl bh : A) → Bool
-    beats MAX l h bl bh = O .less bl l
-    beats MIN l h bl bh = O .less h bh
-    beats CHANCE l h bl bh = false
-
+    -- the first child entered is the play, and then each that beats it
     unfoldable pub better : (k : Kind) (n : ℕ) (p : Play A) (r : Seen A) → Play A
     better k n noPlay r = child n (r .low) (r .high)
-    better k n (child m l h) r = cond (beats k (r .low) (r .high) l h) (child n (r .low) (r .high)) (child m l h)
+    better k n (child m l h) r = cond (O .beats k (r .low) (r .high) l h) (child n (r .low) (r .high)) (child m l h)
 
     -- "at C and L there is none"
     unfoldable pub prefer : (k : Kind) (n : ℕ) (p : Play A) (r : Seen A) → Play A

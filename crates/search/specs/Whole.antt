@@ -1,4 +1,4 @@
--- The paper's arithmetic, whole numbers of grains, and the search of a table. Document 01, 'Grains' and 'The search'; document 02, Item 3.
+-- The paper's arithmetic, whole numbers of grains, and the search of a table. Document 01, 'Grains' and 'The search'; document 02, Items 3 and 6.
 use Prim.Native.Nat.{ℕ}
 use mathlib.Core.Bool.{Bool}
 use mathlib.Core.List.{List}
@@ -7,7 +7,7 @@ use lib.Signed.{ltZ, leZ}
 use Rattle.numbers.specs.Integers.{maxZ, minZ, floorZ, ceilZ}
 use Rattle.table.specs.Tree.{Forest, end, leaf, inner}
 use Rattle.table.specs.Table.{Table, tree, grain}
-use Rattle.search.specs.Search.{Frame, Arith, Rules, Seen, unlimited, limited, framed, searchRoot}
+use Rattle.search.specs.Search.{Frame, Arith, Rules, Seen, unlimited, limited, framed, safer, searchRoot}
 
 -- Line 9, from α(p(n)) and U(p(n)): "rounded outward: the new alpha down". π is w / T, and U(n) of a node not yet searched is v_max.
 unfoldable pub downZ : (e : Frame ℤ) (w : ℕ) (α U : ℤ) → ℤ
@@ -28,12 +28,12 @@ abbrev pub whole : Arith ℤ
 whole = record {
   high-of = maxZ;
   low-of = minZ;
-  less = ltZ;
   near = λ ε α β. leZ β (α +ℤ pos ε);
   down = downZ;
   up = upZ;
   gain = gainZ;
   loss = lossZ;
+  beats = safer ltZ;
 }
 
 -- "a leaf is worth its utility × G"
