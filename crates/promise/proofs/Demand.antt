@@ -1,4 +1,4 @@
--- Demand 3 of the search of every accepted table, with a budget and without. Document 01, 'The search', and document 02, Item 3. Assumes nothing.
+-- Demand 3 of the search of every accepted table, with a budget and without. Document 01, 'The search', and document 02, Items 3 and 6. Assumes nothing.
 use Prim.Native.Nat.{ℕ, _+_, _*_, _^_, _≤_, _<_}
 use mathlib.Core.Path.{_≡_, refl, sym, ap, ap₂, subst, _∙_}
 use mathlib.Core.Bool.{Bool, true, false}
@@ -7,7 +7,7 @@ use mathlib.Core.Option.{none, some}
 use native.Mathlib.Nat.{le-refl}
 use lib.ListN.{length}
 use lib.IntN.{ℤ, pos, _+ℤ_, _*ℤ_, +ℤ-assoc}
-use lib.Signed.{leZ}
+use lib.Signed.{ltZ, leZ}
 use Rattle.numbers.proofs.Signs.{plus, minus, parts}
 use Rattle.numbers.proofs.Above.{le-above}
 use Rattle.line.specs.Refusal.{fine}
@@ -29,11 +29,12 @@ use Rattle.search.specs.Whole.{whole, inGrains, rules, searched, searchedUntil}
 use Rattle.search.proofs.Grains.{plain, grains-filled}
 use Rattle.search.proofs.Table.{frames, tree-shift, tree-within, tree-positive, shifted}
 use Rattle.promise.specs.Play.{playWorth}
-use Rattle.promise.specs.Entered.{Entered, FirstBest, enteredOf}
+use Rattle.promise.specs.Entered.{Entered, worse, FirstBest, enteredOf}
 use Rattle.promise.specs.Exact.{NoRemainder}
 use Rattle.promise.proofs.Fit.{Fit, fit}
 use Rattle.promise.proofs.Play.{Child}
-use Rattle.promise.proofs.Named.{Held, Chosen, root-held, root-named, root-unread, root-entered, strict-whole, grains-root, grains-children}
+use Rattle.promise.proofs.Order.{worse-strict, strict-whole}
+use Rattle.promise.proofs.Named.{Held, Chosen, root-held, root-named, root-unread, root-entered, asks-whole, grains-root, grains-children}
 use Rattle.promise.proofs.Root.{OnSide, Played, near, holds, narrow, plays}
 use Rattle.promise.proofs.Remainder.{whole-root}
 use Rattle.promise.proofs.Children.{play-worth, root-same}
@@ -106,26 +107,26 @@ module _ (s : List ℕ) (t : Table) (r : readText s ≡ fine t) where
 
     -- ---- the play
 
-    -- at an M or N root that is not met unread there is a play: the first child entered of those with the highest low, or the lowest high
+    -- at an M or N root that is not met unread there is a play, the first best child entered
     pub play-named : full [] ≡ false → (side : Side) → rootOf (tree t) ≡ toPlay side
-        → (x : Entered ℤ) × (nodeOf (searchedUntil t ε full .play) ≡ some (x .node)) × FirstBest whole side (enteredOf t ε full) x
+        → (x : Entered ℤ) × (nodeOf (searchedUntil t ε full .play) ≡ some (x .node)) × FirstBest (worse ltZ side) (enteredOf t ε full) x
     play-named z side e =
-        subst (λ (q : Root). Chosen whole q (enteredOf t ε full) (searchedUntil t ε full .play)) (grains-root G (tree t) ∙ e)
-        (root-named whole strict-whole (rules t ε full) (inGrains G (tree t)) z (grains-filled G (tree t) (accepted-filled s t r)))
+        subst (λ (q : Root). Chosen (worse ltZ) q (enteredOf t ε full) (searchedUntil t ε full .play)) (grains-root G (tree t) ∙ e)
+        (root-named whole (worse ltZ) (worse-strict ltZ strict-whole) asks-whole (rules t ε full) (inGrains G (tree t)) z (grains-filled G (tree t) (accepted-filled s t r)))
 
     -- "at C and L there is none"
     pub play-none : rootOf (tree t) ≡ nobody → nodeOf (searchedUntil t ε full .play) ≡ none
     play-none e =
-        subst (λ (q : Root). Held whole q (enteredOf t ε full) (searchedUntil t ε full .play)) (grains-root G (tree t) ∙ e)
-        (root-held whole strict-whole (rules t ε full) (inGrains G (tree t)))
+        subst (λ (q : Root). Held (worse ltZ) q (enteredOf t ε full) (searchedUntil t ε full .play)) (grains-root G (tree t) ∙ e)
+        (root-held whole (worse ltZ) (worse-strict ltZ strict-whole) asks-whole (rules t ε full) (inGrains G (tree t)))
 
     -- "If the root is so met, no play is named"
     pub play-unread : full [] ≡ true → nodeOf (searchedUntil t ε full .play) ≡ none
-    play-unread z = root-unread whole strict-whole (rules t ε full) (inGrains G (tree t)) z
+    play-unread z = root-unread whole (worse ltZ) (worse-strict ltZ strict-whole) asks-whole (rules t ε full) (inGrains G (tree t)) z
 
     -- where the root has a child and is not met unread, one is entered
     pub child-entered : full [] ≡ false → isEnd (children (tree t)) ≡ false → enteredOf t ε full ≡ [] → ⊥
-    child-entered z x = root-entered whole strict-whole (rules t ε full) (inGrains G (tree t)) z (grains-children G (tree t) ∙ x)
+    child-entered z x = root-entered whole (worse ltZ) (worse-strict ltZ strict-whole) asks-whole (rules t ε full) (inGrains G (tree t)) z (grains-children G (tree t) ∙ x)
 
     played : (m : ℕ) → nodeOf (searchedUntil t ε full .play) ≡ some m
         → Played top-height (grained G (heightTree t)) (heights .low) (heights .high) (heightWorth t) m

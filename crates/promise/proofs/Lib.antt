@@ -2,6 +2,7 @@ pub mod Fit
 pub mod Exact
 pub mod Width
 pub mod Play
+pub mod Order
 pub mod Named
 pub mod Worths
 pub mod Unread

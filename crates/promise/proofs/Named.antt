@@ -1,5 +1,5 @@
 -- The play named at an M or N root is the first best child entered, and no play is named at any other root or at one met unread, over any
--- arithmetic whose `less` is a strict order. Document 01, 'The search', and document 02, Item 3. Assumes nothing.
+-- arithmetic whose rule for the play is a strict order. Document 01, 'The search', and document 02, Items 3 and 6. Assumes nothing.
 use Prim.Native.Nat.{ℕ}
 use mathlib.Core.Path.{_≡_, refl, sym, ap, subst, _∙_}
 use mathlib.Core.Logic.{_⊎_, inl, inr}
@@ -7,62 +7,47 @@ use mathlib.Core.Bool.{Bool, true, false, cond}
 use mathlib.Core.List.{List, [], _∷_, _++_, append-nil, append-assoc, List·Memᴰ, List·Memᴰ·append-cases, List·Memᴰ·cases-cons, List·Memᴰ·eq-of-singleton, List·Memᴰ·not-nil}
 use mathlib.Core.Option.{none, some}
 use native.Mathlib.Omega.{arith}
-use borrow.Author.Tests.{ltb-true, ltb-false, lt-ltb, le-ltb}
-use lib.Dec.{ltb}
-use lib.IntN.{ℤ, pos, negsuc}
+use lib.IntN.{ℤ}
 use lib.Signed.{ltZ}
 use Rattle.field.proofs.Small.{choose}
 use Rattle.line.proofs.Signs.{true-ne-false}
 use Rattle.table.specs.Tree.{Kind, MAX, MIN, CHANCE, Forest, end, leaf, inner, isEnd}
 use Rattle.table.specs.Accepted.{Filled}
 use Rattle.table.specs.Root.{Side, AtM, AtN, Root, nobody, toPlay, sideOf, rootOf, children}
-use Rattle.search.specs.Search.{Frame, Play, noPlay, child, Seen, State, Arith, Rules, begin, finish, cut, point, metSpent, met, beats, better, prefer, update, stop, scan, search, searchRoot, nodeOf}
-use Rattle.search.specs.Whole.{inGrains}
+use Rattle.search.specs.Search.{Frame, Play, noPlay, child, Seen, State, Arith, Rules, begin, finish, cut, point, metSpent, met, safer, better, prefer, update, stop, scan, search, searchRoot, nodeOf}
+use Rattle.search.specs.Whole.{whole, inGrains}
 use Rattle.search.proofs.Steps.{both, seenUnder, seenAfter}
 use Rattle.search.proofs.Grains.{grains-end}
 use Rattle.promise.specs.Entered.{Entered, asEntered, entered, enteredRoot, worse, FirstBest}
-
--- what is asked of `less`: where a is below c, b is above a or below c
-pub record Strict {A : Type 0} (less : A → A → Bool) : Type 0 where
-  pub asym : (a b : A) → less a b ≡ true → less b a ≡ false
-  pub past : (a b c : A) → less a c ≡ true → less a b ≡ false → less b c ≡ true
+use Rattle.promise.proofs.Order.{Strict}
 
 -- the play of a root whose children entered are xs: "either a root child or none", "at C and L there is none"
-abbrev pub Chosen : {A : Type 0} → Arith A → Root → List (Entered A) → Play A → Type 0
-Chosen O nobody xs p = nodeOf p ≡ none
-Chosen {A} O (toPlay side) xs p = (x : Entered A) × (nodeOf p ≡ some (x .node)) × FirstBest O side xs x
+abbrev pub Chosen : {A : Type 0} → (Side → Entered A → Entered A → Bool) → Root → List (Entered A) → Play A → Type 0
+Chosen worse nobody xs p = nodeOf p ≡ none
+Chosen {A} worse (toPlay side) xs p = (x : Entered A) × (nodeOf p ≡ some (x .node)) × FirstBest (worse side) xs x
 
 -- the play so far, where the children entered so far are xs
-module _ {A : Type 0} (O : Arith A) where
+module _ {A : Type 0} (worse : Side → Entered A → Entered A → Bool) where
   abbrev pub Held : Root → List (Entered A) → Play A → Type 0
   Held nobody xs p = nodeOf p ≡ none
   Held (toPlay side) xs noPlay = xs ≡ []
-  Held (toPlay side) xs (child m l h) = FirstBest O side xs (record { node = m; low = l; high = h })
+  Held (toPlay side) xs (child m l h) = FirstBest (worse side) xs (record { node = m; low = l; high = h })
 
-  held-chosen : (q : Root) (xs : List (Entered A)) (p : Play A) → (xs ≡ [] → ⊥) → Held q xs p → Chosen O q xs p
+  held-chosen : (q : Root) (xs : List (Entered A)) (p : Play A) → (xs ≡ [] → ⊥) → Held q xs p → Chosen worse q xs p
   held-chosen nobody xs p x h = h
   held-chosen (toPlay side) xs noPlay x h = absurd (x h)
   held-chosen (toPlay side) xs (child m l b) x F = (record { node = m; low = l; high = b }, refl, F)
 
-module _ {A : Type 0} (O : Arith A) (strict : Strict (O .less)) where
-  past-false : (a b c : A) → O .less c a ≡ true → O .less b a ≡ false → O .less c b ≡ true
-  past-false a b c h k = go (O .less c b) refl
-    where
-      go : (t : Bool) → O .less c b ≡ t → O .less c b ≡ true
-      go true e = e
-      go false e = absurd (true-ne-false (sym (strict .past c b a h e) ∙ k))
+-- `beats` asks whether the earlier child is worse
+abbrev pub Asks : {A : Type 0} → Arith A → (Side → Entered A → Entered A → Bool) → Type 0
+Asks {A} O worse = (n : ℕ) (r : Seen A) (b : Entered A)
+    → (O .beats MAX (r .low) (r .high) (b .low) (b .high) ≡ worse AtM b (asEntered n r))
+    × (O .beats MIN (r .low) (r .high) (b .low) (b .high) ≡ worse AtN b (asEntered n r))
 
-  worse-asym : (side : Side) (x y : Entered A) → worse O side x y ≡ true → worse O side y x ≡ false
-  worse-asym AtM x y h = strict .asym (x .low) (y .low) h
-  worse-asym AtN x y h = strict .asym (y .high) (x .high) h
-
-  worse-past : (side : Side) (x y z : Entered A) → worse O side x z ≡ true → worse O side x y ≡ false → worse O side y z ≡ true
-  worse-past AtM x y z h k = strict .past (x .low) (y .low) (z .low) h k
-  worse-past AtN x y z h k = past-false (x .high) (y .high) (z .high) h k
-
+module _ {A : Type 0} (O : Arith A) (worse : Side → Entered A → Entered A → Bool) (strict : (side : Side) → Strict (worse side)) (asks : Asks O worse) where
   module _ (side : Side) where
     -- one child more, which is not better
-    best-stays : (xs : List (Entered A)) (b x : Entered A) → worse O side b x ≡ false → FirstBest O side xs b → FirstBest O side (xs ++ (x ∷ [])) b
+    best-stays : (xs : List (Entered A)) (b x : Entered A) → worse side b x ≡ false → FirstBest (worse side) xs b → FirstBest (worse side) (xs ++ (x ∷ [])) b
     best-stays xs b x h F = record {
       before = F .before;
       later = F .later ++ (x ∷ []);
@@ -71,12 +56,12 @@ module _ {A : Type 0} (O : Arith A) (strict : Strict (O .less)) where
       later-no-better = λ y m. ahead y (List·Memᴰ·append-cases (F .later) m);
     }
       where
-        ahead : (y : Entered A) → List·Memᴰ y (F .later) ⊎ List·Memᴰ y (x ∷ []) → worse O side b y ≡ false
+        ahead : (y : Entered A) → List·Memᴰ y (F .later) ⊎ List·Memᴰ y (x ∷ []) → worse side b y ≡ false
         ahead y (inl i) = F .later-no-better y i
-        ahead y (inr i) = subst (λ (z : Entered A). worse O side b z ≡ false) (sym (List·Memᴰ·eq-of-singleton i)) h
+        ahead y (inr i) = subst (λ (z : Entered A). worse side b z ≡ false) (sym (List·Memᴰ·eq-of-singleton i)) h
 
     -- one child more, which is
-    best-moves : (xs : List (Entered A)) (b x : Entered A) → worse O side b x ≡ true → FirstBest O side xs b → FirstBest O side (xs ++ (x ∷ [])) x
+    best-moves : (xs : List (Entered A)) (b x : Entered A) → worse side b x ≡ true → FirstBest (worse side) xs b → FirstBest (worse side) (xs ++ (x ∷ [])) x
     best-moves xs b x h F = record {
       before = xs;
       later = [];
@@ -85,42 +70,42 @@ module _ {A : Type 0} (O : Arith A) (strict : Strict (O .less)) where
       later-no-better = λ y m. absurd (List·Memᴰ·not-nil m);
     }
       where
-        level : (y : Entered A) → (y ≡ b) ⊎ List·Memᴰ y (F .later) → worse O side y x ≡ true
-        level y (inl e) = subst (λ (z : Entered A). worse O side z x ≡ true) (sym e) h
-        level y (inr i) = worse-past side b y x h (F .later-no-better y i)
+        level : (y : Entered A) → (y ≡ b) ⊎ List·Memᴰ y (F .later) → worse side y x ≡ true
+        level y (inl e) = subst (λ (z : Entered A). worse side z x ≡ true) (sym e) h
+        level y (inr i) = strict side .past b y x h (F .later-no-better y i)
 
-        behind : (y : Entered A) → List·Memᴰ y (F .before) ⊎ List·Memᴰ y (b ∷ F .later) → worse O side y x ≡ true
-        behind y (inl i) = worse-past side b y x h (worse-asym side y b (F .earlier-worse y i))
+        behind : (y : Entered A) → List·Memᴰ y (F .before) ⊎ List·Memᴰ y (b ∷ F .later) → worse side y x ≡ true
+        behind y (inl i) = strict side .past b y x h (strict side .asym y b (F .earlier-worse y i))
         behind y (inr i) = level y (List·Memᴰ·cases-cons i)
 
-    best-alone : (x : Entered A) → FirstBest O side (x ∷ []) x
+    best-alone : (x : Entered A) → FirstBest (worse side) (x ∷ []) x
     best-alone x = record { before = []; later = []; among = refl; earlier-worse = λ y m. absurd (List·Memᴰ·not-nil m); later-no-better = λ y m. absurd (List·Memᴰ·not-nil m) }
 
     -- which of the two it is, is asked by `better`
     better-best : (k : Kind) (n : ℕ) (xs : List (Entered A)) (b : Entered A) (r : Seen A)
-        → beats O k (r .low) (r .high) (b .low) (b .high) ≡ worse O side b (asEntered n r) → FirstBest O side xs b
-        → Held O (toPlay side) (xs ++ (asEntered n r ∷ [])) (better O k n (child (b .node) (b .low) (b .high)) r)
+        → O .beats k (r .low) (r .high) (b .low) (b .high) ≡ worse side b (asEntered n r) → FirstBest (worse side) xs b
+        → Held worse (toPlay side) (xs ++ (asEntered n r ∷ [])) (better O k n (child (b .node) (b .low) (b .high)) r)
     unfolding better
-    better-best k n xs b r is F = rw is (go (worse O side b (asEntered n r)) refl)
+    better-best k n xs b r is F = rw is (go (worse side b (asEntered n r)) refl)
       where
-        go : (t : Bool) → worse O side b (asEntered n r) ≡ t
-            → Held O (toPlay side) (xs ++ (asEntered n r ∷ [])) (cond t (child n (r .low) (r .high)) (child (b .node) (b .low) (b .high)))
+        go : (t : Bool) → worse side b (asEntered n r) ≡ t
+            → Held worse (toPlay side) (xs ++ (asEntered n r ∷ [])) (cond t (child n (r .low) (r .high)) (child (b .node) (b .low) (b .high)))
         go true e = best-moves xs b (asEntered n r) e F
         go false e = best-stays xs b (asEntered n r) e F
 
     better-held : (k : Kind) (n : ℕ) (xs : List (Entered A)) (p : Play A) (r : Seen A)
-        → ((b : Entered A) → beats O k (r .low) (r .high) (b .low) (b .high) ≡ worse O side b (asEntered n r)) → Held O (toPlay side) xs p
-        → Held O (toPlay side) (xs ++ (asEntered n r ∷ [])) (better O k n p r)
+        → ((b : Entered A) → O .beats k (r .low) (r .high) (b .low) (b .high) ≡ worse side b (asEntered n r)) → Held worse (toPlay side) xs p
+        → Held worse (toPlay side) (xs ++ (asEntered n r ∷ [])) (better O k n p r)
     unfolding better
     better-held k n xs noPlay r is h =
-        subst (λ (l : List (Entered A)). FirstBest O side (l ++ (asEntered n r ∷ [])) (asEntered n r)) (sym h) (best-alone (asEntered n r))
+        subst (λ (l : List (Entered A)). FirstBest (worse side) (l ++ (asEntered n r ∷ [])) (asEntered n r)) (sym h) (best-alone (asEntered n r))
     better-held k n xs (child m l b) r is F = better-best k n xs (record { node = m; low = l; high = b }) r (is (record { node = m; low = l; high = b })) F
 
-  update-held : (e : Frame A) (k : Kind) (n w : ℕ) (s : State A) (r : Seen A) (xs : List (Entered A)) → Held O (sideOf k) xs (s .play)
-      → Held O (sideOf k) (xs ++ (asEntered n r ∷ [])) (update O e k n w s r .play)
-  unfolding update prefer beats
-  update-held e MAX n w s r xs h = better-held AtM MAX n xs (s .play) r (λ b. refl) h
-  update-held e MIN n w s r xs h = better-held AtN MIN n xs (s .play) r (λ b. refl) h
+  update-held : (e : Frame A) (k : Kind) (n w : ℕ) (s : State A) (r : Seen A) (xs : List (Entered A)) → Held worse (sideOf k) xs (s .play)
+      → Held worse (sideOf k) (xs ++ (asEntered n r ∷ [])) (update O e k n w s r .play)
+  unfolding update prefer
+  update-held e MAX n w s r xs h = better-held AtM MAX n xs (s .play) r (λ b. asks n r b .0) h
+  update-held e MIN n w s r xs h = better-held AtN MIN n xs (s .play) r (λ b. asks n r b .1) h
   update-held e CHANCE n w s r xs h = refl
 
   cut-play : (e : Frame A) (k : Kind) (s : State A) → cut e k s .play ≡ s .play
@@ -131,17 +116,17 @@ module _ {A : Type 0} (O : Arith A) (strict : Strict (O .less)) where
 
   module _ (R : Rules A) where
     after-held : (e : Frame A) (k : Kind) (rest : Forest A) (t : State A) (xs : List (Entered A)) (x : Entered A)
-        → Held O (sideOf k) (xs ++ (x ∷ [])) (t .play)
-        → Held O (sideOf k) (xs ++ (x ∷ []) ++ entered O R e k rest t) (scan O R e k rest t .play)
-        → Held O (sideOf k) (xs ++ (x ∷ cond (stop O (R .margin) rest t) [] (entered O R e k rest t))) (seenAfter O R e k rest t .play)
+        → Held worse (sideOf k) (xs ++ (x ∷ [])) (t .play)
+        → Held worse (sideOf k) (xs ++ (x ∷ []) ++ entered O R e k rest t) (scan O R e k rest t .play)
+        → Held worse (sideOf k) (xs ++ (x ∷ cond (stop O (R .margin) rest t) [] (entered O R e k rest t))) (seenAfter O R e k rest t .play)
     after-held e k rest t xs x h i =
-        both (λ (l : List (Entered A)) (r : Seen A). Held O (sideOf k) (xs ++ (x ∷ l)) (r .play)) (stop O (R .margin) rest t) (rw (cut-play e k t) h)
-        (subst (λ (l : List (Entered A)). Held O (sideOf k) l (scan O R e k rest t .play)) (append-assoc xs (x ∷ []) (entered O R e k rest t)) i)
+        both (λ (l : List (Entered A)) (r : Seen A). Held worse (sideOf k) (xs ++ (x ∷ l)) (r .play)) (stop O (R .margin) rest t) (rw (cut-play e k t) h)
+        (subst (λ (l : List (Entered A)). Held worse (sideOf k) l (scan O R e k rest t .play)) (append-assoc xs (x ∷ []) (entered O R e k rest t)) i)
 
-    scan-held : (e : Frame A) (k : Kind) (f : Forest A) (s : State A) (xs : List (Entered A)) → Held O (sideOf k) xs (s .play)
-        → Held O (sideOf k) (xs ++ entered O R e k f s) (scan O R e k f s .play)
+    scan-held : (e : Frame A) (k : Kind) (f : Forest A) (s : State A) (xs : List (Entered A)) → Held worse (sideOf k) xs (s .play)
+        → Held worse (sideOf k) (xs ++ entered O R e k f s) (scan O R e k f s .play)
     unfolding scan entered finish
-    scan-held e k end s xs h = subst (λ (l : List (Entered A)). Held O (sideOf k) l (s .play)) (sym (append-nil xs)) h
+    scan-held e k end s xs h = subst (λ (l : List (Entered A)). Held worse (sideOf k) l (s .play)) (sym (append-nil xs)) h
     scan-held e k (leaf n w v rest) s xs h =
         let r : Seen A = met R e (s .read) (point n v (s .read)) in
         let t : State A = update O e k n w s r in
@@ -153,7 +138,7 @@ module _ {A : Type 0} (O : Arith A) (strict : Strict (O .less)) where
         let j = update-held e k n w s r xs h in
         after-held e k rest t xs (asEntered n r) j (scan-held e k rest t (xs ++ (asEntered n r ∷ [])) j)
 
-    begin-held : (e : Frame A) (k : Kind) (a b : A) (l : List ℕ) → Held O (sideOf k) [] (begin e k a b l .play)
+    begin-held : (e : Frame A) (k : Kind) (a b : A) (l : List ℕ) → Held worse (sideOf k) [] (begin e k a b l .play)
     unfolding begin
     begin-held e MAX a b l = refl
     begin-held e MIN a b l = refl
@@ -175,12 +160,12 @@ module _ {A : Type 0} (O : Arith A) (strict : Strict (O .less)) where
         entered-some e k under (begin e k (e .bottom) (e .top) []) x (rw z at q)
 
     -- a node met unread names no play
-    spent-held : (q : Root) (e : Frame A) (l : List ℕ) → Held O q [] (metSpent e l .play)
+    spent-held : (q : Root) (e : Frame A) (l : List ℕ) → Held worse q [] (metSpent e l .play)
     unfolding metSpent
     spent-held nobody e l = refl
     spent-held (toPlay side) e l = refl
 
-    pub root-held : (f : Forest A) → Held O (rootOf f) (enteredRoot O R f) (searchRoot O R f .play)
+    pub root-held : (f : Forest A) → Held worse (rootOf f) (enteredRoot O R f) (searchRoot O R f .play)
     unfolding searchRoot search point enteredRoot
     root-held end = refl
     root-held (leaf n w v rest) =
@@ -188,16 +173,16 @@ module _ {A : Type 0} (O : Arith A) (strict : Strict (O .less)) where
     root-held (inner n w k under rest) =
         let e : Frame A = R .frame n under in
         let s : State A = begin e k (e .bottom) (e .top) [] in
-        both (λ (l : List (Entered A)) (r : Seen A). Held O (sideOf k) l (r .play)) (R .full []) (spent-held (sideOf k) e [])
+        both (λ (l : List (Entered A)) (r : Seen A). Held worse (sideOf k) l (r .play)) (R .full []) (spent-held (sideOf k) e [])
         (scan-held e k under s [] (begin-held e k (e .bottom) (e .top) []))
 
     -- where the root is not met unread
-    pub root-named : (f : Forest A) → R .full [] ≡ false → Filled f → Chosen O (rootOf f) (enteredRoot O R f) (searchRoot O R f .play)
+    pub root-named : (f : Forest A) → R .full [] ≡ false → Filled f → Chosen worse (rootOf f) (enteredRoot O R f) (searchRoot O R f .play)
     root-named end z x = root-held end
     root-named (leaf n w v rest) z x = root-held (leaf n w v rest)
     root-named (inner n w k under rest) z x =
         let f : Forest A = inner n w k under rest in
-        held-chosen O (sideOf k) (enteredRoot O R f) (searchRoot O R f .play) (root-entered f z (x .0)) (root-held f)
+        held-chosen worse (sideOf k) (enteredRoot O R f) (searchRoot O R f .play) (root-entered f z (x .0)) (root-held f)
 
     -- where it is
     pub root-unread : (f : Forest A) → R .full [] ≡ true → nodeOf (searchRoot O R f .play) ≡ none
@@ -206,32 +191,11 @@ module _ {A : Type 0} (O : Arith A) (strict : Strict (O .less)) where
     root-unread (leaf n w v rest) z = rw z refl
     root-unread (inner n w k under rest) z = rw z refl
 
--- ---- the order of the integers
+-- ---- the integers
 
-pastN : (a b c : ℕ) → ltb a c ≡ true → ltb a b ≡ false → ltb b c ≡ true
-pastN a b c h k = lt-ltb b c (omega (arith, ltb-true a c h, ltb-false a b k))
-
-asymN : (a b : ℕ) → ltb a b ≡ true → ltb b a ≡ false
-asymN a b h = le-ltb b a (omega (arith, ltb-true a b h))
-
-asymZ : (a b : ℤ) → ltZ a b ≡ true → ltZ b a ≡ false
-asymZ (pos m) (pos n) h = asymN m n h
-asymZ (pos m) (negsuc n) h = absurd (true-ne-false (sym h))
-asymZ (negsuc m) (pos n) h = refl
-asymZ (negsuc m) (negsuc n) h = asymN n m h
-
-pastZ : (a b c : ℤ) → ltZ a c ≡ true → ltZ a b ≡ false → ltZ b c ≡ true
-pastZ (pos a) (pos b) (pos c) h k = pastN a b c h k
-pastZ (pos a) (pos b) (negsuc c) h k = absurd (true-ne-false (sym h))
-pastZ (pos a) (negsuc b) (pos c) h k = refl
-pastZ (pos a) (negsuc b) (negsuc c) h k = absurd (true-ne-false (sym h))
-pastZ (negsuc a) (pos b) (pos c) h k = absurd (true-ne-false k)
-pastZ (negsuc a) (pos b) (negsuc c) h k = absurd (true-ne-false k)
-pastZ (negsuc a) (negsuc b) (pos c) h k = refl
-pastZ (negsuc a) (negsuc b) (negsuc c) h k = lt-ltb c b (omega (arith, ltb-true c a h, ltb-false b a k))
-
-pub strict-whole : Strict ltZ
-strict-whole = record { asym = asymZ; past = pastZ }
+pub asks-whole : Asks whole (worse ltZ)
+unfolding safer
+asks-whole n r b = (refl, refl)
 
 -- ---- the same nodes in grains
 

@@ -1,17 +1,16 @@
 -- The play named is worth at least low at MAX, at most high at MIN, and within the margin where the bounds are. Assumes nothing.
 use Prim.Native.Nat.{ℕ, min, max, _≤_}
 use mathlib.Core.Path.{_≡_, refl}
-use mathlib.Core.Bool.{Bool, not}
 use mathlib.Core.List.{List, []}
 use native.Mathlib.Nat.{le-trans}
 use native.Mathlib.Omega.{arith}
-use lib.Dec.{T as Holds, ltb→lt, nltb→le}
 use Rattle.field.proofs.Small.{choose}
 use Rattle.table.specs.Tree.{Kind, MAX, MIN, CHANCE, Forest, end, leaf, inner}
 use Rattle.table.specs.Inside.{sealed}
-use Rattle.search.specs.Search.{Frame, Play, noPlay, child, Seen, State, Rules, begin, lower, upper, beats, prefer, update, finish, cut, stop, point, metSpent, met, scan, search}
+use Rattle.search.specs.Search.{Frame, Play, noPlay, child, Seen, State, Rules, begin, lower, upper, safer, prefer, update, finish, cut, stop, point, metSpent, met, scan, search}
 use Rattle.search.specs.Inside.{natural}
 use Rattle.search.proofs.Steps.{seenUnder, seenAfter}
+use Rattle.search.proofs.Below.{below-le, below-ge}
 use Rattle.search.proofs.Heights.{Within, start, total, worth}
 use Rattle.search.proofs.Contain.{Holding, hold-point, hold-under, hold-met, contained}
 
@@ -22,22 +21,6 @@ module _ (frame : ℕ → Forest ℕ → Frame ℕ) where
     here-inner : {w : ℕ} {c : Kind} {under rest : Forest ℕ} → v ≡ worth frame (frame m under) c under → Child m v (inner m w c under rest)
     next-leaf : {n w h : ℕ} {rest : Forest ℕ} → Child m v rest → Child m v (leaf n w h rest)
     next-inner : {n w : ℕ} {c : Kind} {under rest : Forest ℕ} → Child m v rest → Child m v (inner n w c under rest)
-
--- what a rule for the play must have
-pub record Fair (beats : Kind → ℕ → ℕ → ℕ → ℕ → Bool) : Type 0 where
-  pub rise : (l h bl bh : ℕ) → Holds (beats MAX l h bl bh) → bl ≤ l
-  pub stay : (l h bl bh : ℕ) → Holds (not (beats MAX l h bl bh)) → l ≤ bl
-  pub fall : (l h bl bh : ℕ) → Holds (beats MIN l h bl bh) → h ≤ bh
-  pub rest : (l h bl bh : ℕ) → Holds (not (beats MIN l h bl bh)) → bh ≤ h
-
-pub fair : Fair (beats natural)
-unfolding beats
-fair = record {
-  rise = λ l h bl bh p. omega (arith, ltb→lt bl l p);
-  stay = λ l h bl bh p. nltb→le bl l p;
-  fall = λ l h bl bh p. omega (arith, ltb→lt h bh p);
-  rest = λ l h bl bh p. nltb→le h bh p;
-}
 
 module _ (frame : ℕ → Forest ℕ → Frame ℕ) (g : Forest ℕ) where
   -- the play so far is a child of g, and as good as the bound so far
@@ -58,21 +41,21 @@ module _ (R : Rules ℕ) (g : Forest ℕ) where
 
   mark-max : (e : Frame ℕ) (n : ℕ) (lo hi : ℕ) (p : Play ℕ) (r : Seen ℕ) (v : ℕ) → Child (R .frame) n v g → Holding e v r
       → Marked (R .frame) g e MAX lo hi p → Marked (R .frame) g e MAX (max lo (r .low)) (max hi (r .high)) (prefer natural MAX n p r)
-  unfolding prefer
+  unfolding prefer safer
   mark-max e n lo hi noPlay r v c h j = (v, c, omega arith, h .1)
   mark-max e n lo hi (child m l b) r v c h j =
-      choose (Marked (R .frame) g e MAX (max lo (r .low)) (max hi (r .high))) (beats natural MAX (r .low) (r .high) l b)
-      (λ p. (v, c, omega (arith, fair .rise _ _ _ _ p, j .2), h .1))
-      (λ p. (j .0, j .1, omega (arith, fair .stay _ _ _ _ p, j .2), j .3))
+      choose (Marked (R .frame) g e MAX (max lo (r .low)) (max hi (r .high))) (natural .beats MAX (r .low) (r .high) l b)
+      (λ p. (v, c, omega (arith, below-le l (r .low) b (r .high) p, j .2), h .1))
+      (λ p. (j .0, j .1, omega (arith, below-ge l (r .low) b (r .high) p, j .2), j .3))
 
   mark-min : (e : Frame ℕ) (n : ℕ) (lo hi : ℕ) (p : Play ℕ) (r : Seen ℕ) (v : ℕ) → Child (R .frame) n v g → Holding e v r
       → Marked (R .frame) g e MIN lo hi p → Marked (R .frame) g e MIN (min lo (r .low)) (min hi (r .high)) (prefer natural MIN n p r)
-  unfolding prefer
+  unfolding prefer safer
   mark-min e n lo hi noPlay r v c h j = (v, c, omega arith, h .2)
   mark-min e n lo hi (child m l b) r v c h j =
-      choose (Marked (R .frame) g e MIN (min lo (r .low)) (min hi (r .high))) (beats natural MIN (r .low) (r .high) l b)
-      (λ p. (v, c, omega (arith, fair .fall _ _ _ _ p, j .2), h .2))
-      (λ p. (j .0, j .1, omega (arith, fair .rest _ _ _ _ p, j .2), j .3))
+      choose (Marked (R .frame) g e MIN (min lo (r .low)) (min hi (r .high))) (natural .beats MIN (r .low) (r .high) l b)
+      (λ p. (v, c, omega (arith, below-le (r .high) b (r .low) l p, j .2), h .2))
+      (λ p. (j .0, j .1, omega (arith, below-ge (r .high) b (r .low) l p, j .2), j .3))
 
   mark-update : (e : Frame ℕ) (k : Kind) (n w : ℕ) (s : State ℕ) (r : Seen ℕ) (v : ℕ) → Child (R .frame) n v g → Holding e v r → MarkedS e k s
       → MarkedS e k (update natural e k n w s r)

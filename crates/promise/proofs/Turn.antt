@@ -9,9 +9,10 @@ use lib.Dec.{leb, ltb, leb→le, le→leb, ltb→lt, lt→ltb}
 use Rattle.numbers.proofs.Signs.{same-test}
 use Rattle.table.specs.Tree.{Kind, MAX, MIN, CHANCE, Forest, end, leaf, inner, isEnd, weigh}
 use Rattle.turn.specs.Turn.{turnKind}
-use Rattle.search.specs.Search.{Frame, Play, noPlay, child, Seen, State, Rules, begin, lower, upper, beats, better, update, finish, cut, stop, point, metSpent, met, scan, search, searchRoot}
+use Rattle.search.specs.Search.{Frame, Play, noPlay, child, Seen, State, Rules, begin, lower, upper, below, safer, better, update, finish, cut, stop, point, metSpent, met, scan, search, searchRoot}
 use Rattle.search.specs.Inside.{natural}
 use Rattle.search.proofs.Steps.{cond-map, seenUnder, seenAfter}
+use Rattle.search.proofs.Below.{below-same}
 use Rattle.search.proofs.Heights.{Sound, Within, total}
 use Rattle.search.proofs.Contain.{contained, Holding, hold-point, hold-under, hold-met}
 use Rattle.search.proofs.Safe.{drop-top, share-fits, Low, Safe, safe-window, safe-begin, safe-lower, safe-upper, safe-update}
@@ -72,15 +73,17 @@ turn-lower S B A c = omega arith
 turn-upper : (S B A c : ℕ) → A ≤ S → min (S - B) (S - A + c) ≡ S - max B (A - c)
 turn-upper S B A c p = omega arith
 
--- a rule for the play that is the same from the other side
-abbrev pub Fairly : ℕ → (Kind → ℕ → ℕ → ℕ → ℕ → Bool) → Type 0
-Fairly S beats = (k : Kind) (l h bl bh : ℕ) → l ≤ S → h ≤ S → bl ≤ S → bh ≤ S → beats (turnKind k) (S - h) (S - l) (S - bh) (S - bl) ≡ beats k l h bl bh
+below-turn : (S a b x y : ℕ) → a ≤ S → b ≤ S → x ≤ S → y ≤ S → below ltb (S - a) (S - b) (S - x) (S - y) ≡ below ltb b a y x
+below-turn S a b x y p q u v =
+    below-same ltb ltb (S - a) (S - b) (S - x) (S - y) b a y x (ltb-turn S a b p q) (ltb-turn S b a q p) (ltb-turn S x y u v)
 
-pub fairly : (S : ℕ) → Fairly S (beats natural)
-unfolding beats
-fairly S MAX l h bl bh p q u v = ltb-turn S l bl p u
-fairly S MIN l h bl bh p q u v = ltb-turn S bh h v q
-fairly S CHANCE l h bl bh p q u v = refl
+-- the rule for the play is the same from the other side
+beats-turn : (S : ℕ) (k : Kind) (l h bl bh : ℕ) → l ≤ S → h ≤ S → bl ≤ S → bh ≤ S
+    → natural .beats (turnKind k) (S - h) (S - l) (S - bh) (S - bl) ≡ natural .beats k l h bl bh
+unfolding safer
+beats-turn S MAX l h bl bh p q u v = below-turn S l bl h bh p u q v
+beats-turn S MIN l h bl bh p q u v = below-turn S bh h bl l v q u p
+beats-turn S CHANCE l h bl bh p q u v = refl
 
 isEnd-turn : (S : ℕ) (f : Forest ℕ) → isEnd (turn S f) ≡ isEnd f
 unfolding turn
@@ -105,7 +108,7 @@ module _ (S : ℕ) where
     unfolding better
     better-turn k n noPlay r p q i = refl
     better-turn k n (child m l h) r p q i =
-        rw (fairly S k (r .low) (r .high) l h p q (i .0) (i .1)) (cond-map (turnPlay S) _ _ (beats natural k (r .low) (r .high) l h))
+        rw (beats-turn S k (r .low) (r .high) l h p q (i .0) (i .1)) (cond-map (turnPlay S) _ _ (natural .beats k (r .low) (r .high) l h))
 
     update-turn : (e : Frame ℕ) (k : Kind) (n w W : ℕ) (s : State ℕ) (r : Seen ℕ) → e .top ≤ S → e .bottom ≤ r .low → r .low ≤ r .high
         → r .high ≤ e .top → Safe S e k (w + W) s
