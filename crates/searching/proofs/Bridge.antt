@@ -1,26 +1,27 @@
 -- The code's states stand for those of Algorithm 1 over heights. Assumes nothing.
--- The code keeps the number of the best child alone: that child's low is the low of an M so far, and its high the high of an N.
+-- Of the best child the code keeps the number and the bound by which a tie is broken: its low is the low of an M so far, and its high the high of an N.
 use Prim.Native.Nat.{ℕ, _+_, _*_, _≤_, _<_}
-use mathlib.Core.Path.{_≡_, refl, sym, ap, ap₂, _∙_}
-use mathlib.Core.Bool.{Bool, true, false, cond}
+use mathlib.Core.Path.{_≡_, refl, sym, ap, ap₂, subst, _∙_}
+use mathlib.Core.Bool.{Bool, true, false, not, _||_, cond}
 use mathlib.Core.List.{List, [], _∷_, _++_, append-nil, append-assoc}
 use native.Mathlib.Omega.{arith}
-use borrow.Author.Tests.{ltb-true, ltb-false, ne-eqb}
-use lib.Dec.{ltb, leb, leb→le, le→leb}
+use borrow.Author.Tests.{ne-eqb}
+use lib.Dec.{T as Holds, eqb, ltb, leb, leb→le, le→leb}
 use lib.ListN.{length, length-append}
 use Rattle.numbers.proofs.Signs.{same-test}
 use Rattle.line.proofs.Signs.{true-ne-false}
 use Rattle.table.specs.Tree.{Kind, MAX, MIN, CHANCE, Forest, end, leaf, inner, isEnd}
 use Rattle.table.proofs.Nodes.{restOf, numberOf, weightOf}
 use Rattle.search.specs.Search as alg
-use Rattle.search.specs.Search.{Frame, Play, noPlay, child, Seen, Arith, Rules, limited, begin, finish, cut, point, metSpent, met, lower, upper, beats, prefer, update, stop, scan, framed, nodeOf}
+use Rattle.search.specs.Search.{Frame, Play, noPlay, child, Seen, Arith, Rules, limited, begin, finish, cut, point, metSpent, met, lower, upper, below, safer, prefer, update, stop, scan, framed, nodeOf}
 use Rattle.search.specs.Inside.{natural, grained}
 use Rattle.search.proofs.Steps.{cond-map, seenUnder, seenAfter}
+use Rattle.search.proofs.Below.{below-le, below-ge}
 use Rattle.steps.specs.declared.Rule.{Rule}
 use Rattle.steps.specs.declared.Ends.{Ends}
 use Rattle.steps.specs.declared.State.{State}
 use Rattle.steps.specs.declared.Window.{Window}
-use Rattle.steps.specs.Inside.{frameAt, lift, windowFor, preferred, after, rulesOf, playAt, leafSeen}
+use Rattle.steps.specs.Inside.{frameAt, lift, windowFor, takes, after, rulesOf, playAt, leafSeen}
 use Rattle.searching.specs.Inside.{seenIn}
 
 -- ---- the leaves read before change nothing else
@@ -185,9 +186,9 @@ Fresh e MIN s = s .high ≡ e .top
 Fresh e CHANCE s = Unit {0}
 
 abbrev Best : Kind → State → ℕ → ℕ → Type 0
-Best MAX s l h = l ≡ s .low
-Best MIN s l h = h ≡ s .high
-Best CHANCE s l h = Unit {0}
+Best MAX s l h = (l ≡ s .low) × (h ≡ s .other)
+Best MIN s l h = (h ≡ s .high) × (l ≡ s .other)
+Best CHANCE s l h = ⊥
 
 -- p is the play of the state s
 abbrev pub Plays : Frame ℕ → Kind → State → Play ℕ → Type 0
@@ -199,37 +200,43 @@ plays-number e k s noPlay h = ap playAt (h .0)
 plays-number e k s (child m l x) h = ap playAt (h .0) ∙ rw (ne-eqb m 0 (λ e. omega (arith, h .1))) refl
 
 -- the first child is taken; later ones where they beat the best
-first-taken : (play i : ℕ) (b : Bool) → play ≡ 0 → preferred play i b ≡ i
-first-taken play i b e = rw e refl
+first-taken : (play : ℕ) (b : Bool) → play ≡ 0 → (eqb play 0 || b) ≡ true
+first-taken play b e = rw e refl
 
-later-taken : (play i : ℕ) (b : Bool) → 0 < play → preferred play i b ≡ cond b i play
-later-taken play i b p = rw (ne-eqb play 0 (λ e. omega arith)) refl
+later-taken : (play : ℕ) (b c : Bool) → 0 < play → b ≡ c → (eqb play 0 || b) ≡ c
+later-taken play b c p q = rw (ne-eqb play 0 (λ e. omega arith), q) refl
 
--- a later child of an M: its low is above the best low so far, or not
-max-later : (e : Frame ℕ) (i w m l h low high : ℕ) (s : State) → s .play ≡ m → 0 < m → l ≡ s .low → 0 < i → (b : Bool) → ltb (s .low) low ≡ b
-    → Plays e MAX (after e MAX i w s low high) (cond b (child i low high) (child m l h))
-unfolding update beats
-max-later e i w m l h low high s q p z y true t =
-    (later-taken (s .play) i (ltb (s .low) low) (omega arith) ∙ rw t refl, y, omega (arith, ltb-true (s .low) low t))
-max-later e i w m l h low high s q p z y false t =
-    (later-taken (s .play) i (ltb (s .low) low) (omega arith) ∙ rw t q, p, omega (arith, ltb-false (s .low) low t))
+module _ (e : Frame ℕ) (i w m low high : ℕ) (s : State) (q : s .play ≡ m) (p : 0 < m) (z : 0 < i) where
+  -- a later child of an M: it is better than the best so far, or not
+  max-later : (b : Bool) → below ltb (s .low) low (s .other) high ≡ b
+      → Plays e MAX (after e MAX i w s low high) (cond b (child i low high) (child m (s .low) (s .other)))
+  unfolding update
+  max-later true t =
+      let x : takes MAX s low high ≡ true = later-taken (s .play) _ true (omega arith) t in
+      (rw x refl, z, (omega (arith, below-le (s .low) low (s .other) high (subst Holds (sym t) tt)), rw x refl))
+  max-later false t =
+      let x : takes MAX s low high ≡ false = later-taken (s .play) _ false (omega arith) t in
+      (rw x q, p, (omega (arith, below-ge (s .low) low (s .other) high (subst (λ (b : Bool). Holds (not b)) (sym t) tt)), rw x refl))
 
-min-later : (e : Frame ℕ) (i w m l h low high : ℕ) (s : State) → s .play ≡ m → 0 < m → h ≡ s .high → 0 < i → (b : Bool) → ltb high (s .high) ≡ b
-    → Plays e MIN (after e MIN i w s low high) (cond b (child i low high) (child m l h))
-unfolding update beats
-min-later e i w m l h low high s q p z y true t =
-    (later-taken (s .play) i (ltb high (s .high)) (omega arith) ∙ rw t refl, y, omega (arith, ltb-true high (s .high) t))
-min-later e i w m l h low high s q p z y false t =
-    (later-taken (s .play) i (ltb high (s .high)) (omega arith) ∙ rw t q, p, omega (arith, ltb-false high (s .high) t))
+  min-later : (b : Bool) → below ltb high (s .high) low (s .other) ≡ b
+      → Plays e MIN (after e MIN i w s low high) (cond b (child i low high) (child m (s .other) (s .high)))
+  unfolding update
+  min-later true t =
+      let x : takes MIN s low high ≡ true = later-taken (s .play) _ true (omega arith) t in
+      (rw x refl, z, (omega (arith, below-le high (s .high) low (s .other) (subst Holds (sym t) tt)), rw x refl))
+  min-later false t =
+      let x : takes MIN s low high ≡ false = later-taken (s .play) _ false (omega arith) t in
+      (rw x q, p, (omega (arith, below-ge high (s .high) low (s .other) (subst (λ (b : Bool). Holds (not b)) (sym t) tt)), rw x refl))
 
 -- A is what the child i gave
 pub plays-after : (e : Frame ℕ) (k : Kind) (i w : ℕ) (s : State) (p : Play ℕ) (A : Seen ℕ) → 0 < i → e .bottom ≤ A .low → A .high ≤ e .top → Plays e k s p
     → Plays e k (after e k i w s (A .low) (A .high)) (prefer natural k i p A)
-unfolding prefer beats update
-plays-after e MAX i w s noPlay A z low high h = (first-taken (s .play) i (ltb (s .low) (A .low)) (h .0), z, omega (arith, h .1))
-plays-after e MIN i w s noPlay A z low high h = (first-taken (s .play) i (ltb (A .high) (s .high)) (h .0), z, omega (arith, h .1))
-plays-after e CHANCE i w s p A z low high h = (refl, tt)
-plays-after e MAX i w s (child m l x) A z low high h =
-    rw (h .2) (max-later e i w m (s .low) x (A .low) (A .high) s (h .0) (h .1) refl z (ltb (s .low) (A .low)) refl)
-plays-after e MIN i w s (child m l x) A z low high h =
-    rw (h .2) (min-later e i w m l (s .high) (A .low) (A .high) s (h .0) (h .1) refl z (ltb (A .high) (s .high)) refl)
+unfolding prefer safer update
+plays-after e MAX i w s noPlay A z low high h =
+    let x : takes MAX s (A .low) (A .high) ≡ true = first-taken (s .play) _ (h .0) in (rw x refl, z, (omega (arith, h .1), rw x refl))
+plays-after e MIN i w s noPlay A z low high h =
+    let x : takes MIN s (A .low) (A .high) ≡ true = first-taken (s .play) _ (h .0) in (rw x refl, z, (omega (arith, h .1), rw x refl))
+plays-after e CHANCE i w s noPlay A z low high h = (h .0, tt)
+plays-after e CHANCE i w s (child m l x) A z low high h = absurd (h .2)
+plays-after e MAX i w s (child m l x) A z low high h = rw (h .2 .0, h .2 .1) (max-later e i w m (A .low) (A .high) s (h .0) (h .1) z _ refl)
+plays-after e MIN i w s (child m l x) A z low high h = rw (h .2 .0, h .2 .1) (min-later e i w m (A .low) (A .high) s (h .0) (h .1) z _ refl)

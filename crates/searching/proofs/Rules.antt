@@ -167,9 +167,9 @@ told-spent t g {v} k w c e {left} {came} {r} z q F is =
 
 -- before the first child
 abbrev pub startAt : Kind → Ends → Window → State
-startAt MAX v w = record { alpha = w .alpha; beta = w .beta; low = v .bottom; high = v .bottom; play = 0 }
-startAt MIN v w = record { alpha = w .alpha; beta = w .beta; low = v .top; high = v .top; play = 0 }
-startAt CHANCE v w = record { alpha = w .alpha; beta = w .beta; low = v .bottom; high = v .top; play = 0 }
+startAt MAX v w = record { alpha = w .alpha; beta = w .beta; low = v .bottom; high = v .bottom; play = 0; other = 0 }
+startAt MIN v w = record { alpha = w .alpha; beta = w .beta; low = v .top; high = v .top; play = 0; other = 0 }
+startAt CHANCE v w = record { alpha = w .alpha; beta = w .beta; low = v .bottom; high = v .top; play = 0; other = 0 }
 
 begin-lift : (v : Ends) (N : ℕ) (k : Kind) (w : Window) → begin (frameAt v N) k (w .alpha) (w .beta) [] ≡ lift (startAt k v w) noPlay [] false
 unfolding begin

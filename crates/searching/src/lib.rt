@@ -40,6 +40,7 @@ fn max_over(
         low: v.bottom,
         high: v.bottom,
         play: 0,
+        other: 0,
     };
     let mut i = c;
     let mut n = left;
@@ -111,6 +112,7 @@ fn min_over(
         low: v.top,
         high: v.top,
         play: 0,
+        other: 0,
     };
     let mut i = c;
     let mut n = left;
@@ -182,6 +184,7 @@ fn chance_over(
         low: v.bottom,
         high: v.top,
         play: 0,
+        other: 0,
     };
     let mut i = c;
     let mut n = left;

@@ -21,5 +21,6 @@ pub share : (w x t : ℕ) → w ≤ t → w * x / t ≤ x
 share w x t p = div-le-of-le-mul t (mul-le-mul-right x p)
 
 -- in the order in which the code computes the parts
-pub state-eq : (x y : State) → x .low ≡ y .low → x .high ≡ y .high → x .alpha ≡ y .alpha → x .beta ≡ y .beta → x .play ≡ y .play → x ≡ y
-state-eq x y l h a b p = λ i. record { alpha = a i; beta = b i; low = l i; high = h i; play = p i }
+pub state-eq : (x y : State) → x .low ≡ y .low → x .high ≡ y .high → x .alpha ≡ y .alpha → x .beta ≡ y .beta → x .play ≡ y .play
+    → x .other ≡ y .other → x ≡ y
+state-eq x y l h a b p o = λ i. record { alpha = a i; beta = b i; low = l i; high = h i; play = p i; other = o i }

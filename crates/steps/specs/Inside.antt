@@ -4,11 +4,11 @@ use mathlib.Core.Path.{_≡_}
 use mathlib.Core.Bool.{Bool, true, false, _||_, cond}
 use mathlib.Core.List.{List, [], _∷_}
 use mathlib.Core.Option.{Option, none, some}
-use lib.Dec.{eqb}
+use lib.Dec.{eqb, ltb}
 use lib.ListN.{length, set}
 use Rattle.table.specs.Tree.{Kind, MAX, MIN, CHANCE}
 use Rattle.search.specs.Search as alg
-use Rattle.search.specs.Search.{Frame, Play, noPlay, Seen, Rules, limited, point, met, lower, upper, beats, update, nodeOf}
+use Rattle.search.specs.Search.{Frame, Play, noPlay, Seen, Rules, limited, below, point, met, lower, upper, update, nodeOf}
 use Rattle.search.specs.Inside.{natural, heightRules}
 use Rattle.steps.specs.declared.Rule.{Rule}
 use Rattle.steps.specs.declared.Ends.{Ends}
@@ -30,17 +30,20 @@ lift s p l x = record { alpha = s .alpha; beta = s .beta; lo = s .low; hi = s .h
 abbrev pub windowFor : Frame ℕ → Kind → (w : ℕ) → State → Window
 windowFor e k w s = record { alpha = lower natural e k w (lift s noPlay [] false); beta = upper natural e k w (lift s noPlay [] false) }
 
--- the first child, and then each that beats the best so far; node 0 is no child, and stands for none
-abbrev pub preferred : (play i : ℕ) (beats : Bool) → ℕ
-preferred play i beats = cond (eqb play 0 || beats) i play
+-- Whether a child of these bounds takes the place of the best so far: the first does, and then each that is better. Node 0 is no child, and stands for
+-- none; the best child's low is the low of an M so far, and its high the high of an N.
+abbrev pub takes : Kind → State → (low high : ℕ) → Bool
+takes MAX s low high = eqb (s .play) 0 || below ltb (s .low) low (s .other) high
+takes MIN s low high = eqb (s .play) 0 || below ltb high (s .high) low (s .other)
+takes CHANCE s low high = false
 
-abbrev pub nextPlay : Kind → (play i : ℕ) (beats : Bool) → ℕ
-nextPlay MAX play i beats = preferred play i beats
-nextPlay MIN play i beats = preferred play i beats
-nextPlay CHANCE play i beats = 0
+-- the best child's other bound, of a child's two
+abbrev pub otherOf : Kind → (low high : ℕ) → ℕ
+otherOf MAX low high = high
+otherOf MIN low high = low
+otherOf CHANCE low high = 0
 
--- After the child i of weight w that gave low and high. Of the best child the number alone is kept: its low is the low of an M so far, and its
--- high the high of an N.
+-- after the child i of weight w that gave low and high
 abbrev pub after : Frame ℕ → Kind → (i w : ℕ) → State → (low high : ℕ) → State
 after e k i w s low high =
     let t : alg.State ℕ = update natural e k i w (lift s noPlay [] false) (record { low = low; high = high; play = noPlay; read = []; spent = false }) in
@@ -49,7 +52,8 @@ after e k i w s low high =
       beta = t .beta;
       low = t .lo;
       high = t .hi;
-      play = nextPlay k (s .play) i (beats natural k low high (s .low) (s .high));
+      play = cond (takes k s low high) i (s .play);
+      other = cond (takes k s low high) (otherOf k low high) (s .other);
     }
 
 -- line 24

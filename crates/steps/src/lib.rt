@@ -1,10 +1,13 @@
 // One step of the bounded search: the window of a child, the state after it, a leaf read, and a node met when no read is left. Lines are those of
 // Algorithm 1 of document 000, numbers are in grains above the lowest end.
 ghost use mathlib.Core.Path.{_≡_};
+ghost use mathlib.Core.Bool.{_||_};
 ghost use Prim.Native.Nat.{_+_, _*_, _<_, _≤_};
+ghost use lib.Dec.{eqb, ltb};
 ghost use lib.ListN.{length, getD};
 ghost use Rattle.table.specs.Tree.{MAX, MIN, CHANCE};
-ghost use Rattle.steps.specs.Inside.{frameAt, windowFor, preferred, after, stops, metSpentIn, leafSeen, Gives, limit, OkEnds, OkState};
+ghost use Rattle.search.specs.Search.{below};
+ghost use Rattle.steps.specs.Inside.{frameAt, windowFor, after, stops, metSpentIn, leafSeen, Gives, limit, OkEnds, OkState};
 use numbers::max_of;
 use numbers::min_of;
 use numbers::monus;
@@ -22,13 +25,15 @@ pub struct Ends {
     pub top: u64,
 }
 
-// Where the search of a node stands between two children; `play` is the best child's node, 0 for none (node 0 is no child).
+// Where the search of a node stands between two children; `play` is the best child's node, 0 for none (node 0 is no child). That child's low is the low
+// of an M so far, and its high the high of an N; `other` is its other bound, by which a tie is broken.
 pub struct State {
     pub alpha: u64,
     pub beta: u64,
     pub low: u64,
     pub high: u64,
     pub play: usize,
+    pub other: u64,
 }
 
 // The window of a node.
@@ -54,14 +59,14 @@ pub fn stopped(g: Rule, s: State) -> bool
     s.beta <= s.alpha + g.margin
 }
 
-// The best child: the first entered, then each that beats it.
-fn prefer(play: usize, i: usize, beats: bool) -> usize
-    ensures { λ r. ⌜ r ≡ preferred play i beats ⌝ }
+// Whether a child takes the place of the best so far: the first entered does, and then each that is better. Here a is below b, or equal and x below y.
+fn beats(play: usize, a: u64, b: u64, x: u64, y: u64) -> bool
+    ensures { λ r. ⌜ r ≡ (eqb play 0 || below ltb a b x y) ⌝ }
 {
     if play == 0 {
-        return i;
+        return true;
     }
-    if beats { i } else { play }
+    if a == b { x < y } else { a < b }
 }
 
 // After the child i of an M, lines 14, 15, 22 and 23: until the last child its high is its own top.
@@ -72,13 +77,23 @@ pub fn max_after(v: Ends, i: usize, s: State, low: u64, high: u64) -> State
     let h = max_of(s.high, high);
     let a = max_of(s.alpha, l);
     let b = min_of(s.beta, v.top);
-    let p = prefer(s.play, i, s.low < low);
+    if beats(s.play, s.low, low, s.other, high) {
+        return State {
+            alpha: a,
+            beta: b,
+            low: l,
+            high: h,
+            play: i,
+            other: high,
+        };
+    }
     State {
         alpha: a,
         beta: b,
         low: l,
         high: h,
-        play: p,
+        play: s.play,
+        other: s.other,
     }
 }
 
@@ -90,13 +105,23 @@ pub fn min_after(v: Ends, i: usize, s: State, low: u64, high: u64) -> State
     let h = min_of(s.high, high);
     let a = max_of(s.alpha, v.bottom);
     let b = min_of(s.beta, h);
-    let p = prefer(s.play, i, high < s.high);
+    if beats(s.play, high, s.high, low, s.other) {
+        return State {
+            alpha: a,
+            beta: b,
+            low: l,
+            high: h,
+            play: i,
+            other: low,
+        };
+    }
     State {
         alpha: a,
         beta: b,
         low: l,
         high: h,
-        play: p,
+        play: s.play,
+        other: s.other,
     }
 }
 
@@ -112,7 +137,7 @@ pub fn chance_window(v: Ends, total: u64, s: State, w: u64) -> Window
     Window { alpha: a, beta: b }
 }
 
-// After a C's child of weight w, lines 20 to 23.
+// After a C's child of weight w, lines 20 to 23. A C has no play.
 pub fn chance_after(v: Ends, total: u64, s: State, w: u64, low: u64, high: u64) -> State
     requires { ⌜ OkEnds v × OkState s × (total ≤ 64) × (0 < w) × (w ≤ total) × (v .bottom ≤ low) × (low ≤ limit) × (high ≤ v .top) ⌝ }
     ensures { λ r. ⌜ r ≡ after (frameAt v total) CHANCE 0 w s low high ⌝ }
@@ -126,7 +151,8 @@ pub fn chance_after(v: Ends, total: u64, s: State, w: u64, low: u64, high: u64) 
         beta: b,
         low: l,
         high: h,
-        play: 0,
+        play: s.play,
+        other: s.other,
     }
 }
 

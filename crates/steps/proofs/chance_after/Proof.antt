@@ -46,7 +46,7 @@ min-of-requires c κs = search needs
 
 returns : tie.Need-returns
 unfolding update
-returns c = state-eq _ _ refl (omega arith) (omega arith) (omega arith) refl
+returns c = state-eq _ _ refl (omega arith) (omega arith) (omega arith) refl refl
 
 pub chance-after-spec : {M : Type 1} → statement M
 chance-after-spec =
