@@ -21,7 +21,7 @@ use Rattle.table.specs.Accepted.{Rooted}
 use Rattle.table.specs.Root.{playOf}
 use Rattle.table.proofs.Places.{refused-number}
 use Rattle.table.proofs.Accepted.{accepted-rooted}
-use Rattle.search.specs.Search.{Seen, noPlay, limited, nodeOf, begin, finish, cut, point, metSpent, lower, upper, beats, update, stop, scan, search, searchRoot}
+use Rattle.search.specs.Search.{Seen, noPlay, limited, nodeOf, begin, finish, cut, point, metSpent, lower, upper, safer, update, stop, scan, search, searchRoot}
 use Rattle.search.specs.Whole.{whole, rules, searched, searchedWithin, downZ, upZ, gainZ, lossZ, inGrains}
 use Rattle.search.proofs.Within.{spent-where, unspent-same, first-reads}
 use Rattle.search_call.specs.declared.Bounds.{Bounds}
@@ -165,5 +165,5 @@ within-sentence3 = within-turned
 -- ---- known answers
 
 pub all-budgets : AllKnown budgets
-unfolding strip digits wholeField signed leading unless unlessAt climb run afterRun forest weigh nodesWhere leaves nodeLines complete readText greatest maxZ minZ floorZ ceilZ begin finish cut point metSpent lower upper beats update stop scan search searchRoot downZ upZ gainZ lossZ inGrains
+unfolding strip digits wholeField signed leading unless unlessAt climb run afterRun forest weigh nodesWhere leaves nodeLines complete readText greatest maxZ minZ floorZ ceilZ begin finish cut point metSpent lower upper safer update stop scan search searchRoot downZ upZ gainZ lossZ inGrains
 all-budgets = (refl, refl, (refl, refl, (refl, refl, (refl, refl, (refl, refl, (refl, refl, (refl, refl, (refl, refl, (refl, refl, (refl, refl, (refl, refl, (refl, refl, tt))))))))))))

@@ -9,3 +9,4 @@ pub mod Level
 pub mod Marks
 pub mod Worked
 pub mod Budget
+pub mod Safer

@@ -152,7 +152,7 @@ known text margin budget low high grain play spent read =
 abbrev pub budgets : List Known
 budgets =
     known table-a (pos 0) (pos 0) (pos 0) (pos 10) 1 NoPlay true []
-    ∷ known table-a (pos 0) (pos 1) (pos 0) (pos 10) 1 (Child 1) true (2 ∷ [])
+    ∷ known table-a (pos 0) (pos 1) (pos 0) (pos 10) 1 (Child 4) true (2 ∷ [])
     ∷ known table-a (pos 0) (pos 2) (pos 3) (pos 10) 1 (Child 1) true (2 ∷ 3 ∷ [])
     ∷ known table-a (pos 0) (pos 3) (pos 3) (pos 3) 1 (Child 1) false (2 ∷ 3 ∷ 5 ∷ [])
     ∷ known table-a (pos 0) (pos 4) (pos 3) (pos 3) 1 (Child 1) false (2 ∷ 3 ∷ 5 ∷ [])

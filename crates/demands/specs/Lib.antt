@@ -6,3 +6,4 @@ pub mod Forced
 pub mod Level
 pub mod Marks
 pub mod Budget
+pub mod Safer

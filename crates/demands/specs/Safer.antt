@@ -1,0 +1,170 @@
+-- Document 02, Item 6, at the public calls: which of equal plays is named, by the search without a budget and with one, and that all else in the answer
+-- is as before. What is quoted is the item. proofs/Safer.antt has the theorems.
+use Prim.Native.Nat.{ℕ}
+use mathlib.Core.Path.{_≡_}
+use mathlib.Core.Bool.{Bool, true, false}
+use mathlib.Core.List.{List, [], _∷_, _++_}
+use lib.IntN.{ℤ, pos, negsuc}
+use lib.Signed.{ltZ}
+use Rattle.line.specs.Refusal.{fine}
+use Rattle.line.specs.Line.{toNat}
+use Rattle.table.specs.Table.{Table, tree, readText}
+use Rattle.table.specs.Root.{Side, toPlay, rootOf}
+use Rattle.table.specs.declared.Play.{Play}
+use Rattle.table.specs.declared.Play.the-variants.{Child}
+use Rattle.search.specs.Search.{unlimited, limited}
+use Rattle.search.specs.Former.{formerUntil}
+use Rattle.search_call.specs.declared.Bounds.{Bounds}
+use Rattle.search_call.specs.declared.Bounded.the-variants.{Found}
+use Rattle.search_call.specs.Call.{boundsOf, searchCall, searchReads, withinCall, withinReads}
+use Rattle.promise.specs.Entered.{Entered, worse, FirstBest, enteredOf}
+use Rattle.demands.specs.Budget.{Known, known}
+
+-- ---- the play, for a text s with the table t, a margin m, a budget b and a leaf list of `room` entries
+
+-- the play p is the first best of the root plays entered, by the bounds that the search gave them
+abbrev pub NamesBest : Table → (ε : ℕ) (full : List ℕ → Bool) → Side → Play → Type 0
+NamesBest t ε full side p = (x : Entered ℤ) × (p ≡ Child (x .node)) × FirstBest (worse ltZ side) (enteredOf t ε full) x
+
+-- "the play is compared with this rule in all searches": without a budget
+abbrev pub SaferNamed : Type 0
+SaferNamed =
+    (s : List ℕ) (t : Table) (m : ℤ) (room : ℕ) (a : Bounds) (side : Side) → readText s ≡ fine t → rootOf (tree t) ≡ toPlay side
+    → searchCall (readText s) m room ≡ Found a → NamesBest t (toNat m) unlimited side (a .play)
+
+-- "Item 3's too, where a play met unread counts as entered": with a budget, but for the root met unread, which a budget of 0 gives
+abbrev pub SaferWithin : Type 0
+SaferWithin =
+    (s : List ℕ) (t : Table) (m b : ℤ) (room : ℕ) (a : Bounds) (side : Side) → readText s ≡ fine t → rootOf (tree t) ≡ toPlay side
+    → ltZ (pos 0) b ≡ true → withinCall (readText s) m b room ≡ Found a → NamesBest t (toNat m) (limited (toNat b)) side (a .play)
+
+-- ---- "Bounds and leaves are compared as before"
+
+-- two answers that are equal in all but the play
+pub record SameButPlay (a c : Bounds) : Type 0 where
+  pub low : a .low ≡ c .low
+  pub high : a .high ≡ c .high
+  pub difference : a .difference ≡ c .difference
+  pub leaves : a .leaves ≡ c .leaves
+  pub spent : a .spent ≡ c .spent
+  pub grain : a .grain ≡ c .grain
+
+-- but for the play the answer, and the leaves in their sequence, are those of the search with document 01's play
+abbrev pub AsBefore : Type 0
+AsBefore =
+    (s : List ℕ) (t : Table) (m : ℤ) (room : ℕ) (a : Bounds) → readText s ≡ fine t → searchCall (readText s) m room ≡ Found a
+    → SameButPlay a (boundsOf (record { table = t; seen = formerUntil t (toNat m) unlimited }))
+    × (searchReads (readText s) m room ≡ formerUntil t (toNat m) unlimited .read)
+
+abbrev pub AsBeforeWithin : Type 0
+AsBeforeWithin =
+    (s : List ℕ) (t : Table) (m b : ℤ) (room : ℕ) (a : Bounds) → readText s ≡ fine t → withinCall (readText s) m b room ≡ Found a
+    → SameButPlay a (boundsOf (record { table = t; seen = formerUntil t (toNat m) (limited (toNat b)) }))
+    × (withinReads (readText s) m b room ≡ formerUntil t (toNat m) (limited (toNat b)) .read)
+
+-- ---- three plays that tie, at M and, turned, at N; their lines as bytes
+
+-- "  10   1       0      10"
+abbrev m-head : List ℕ
+m-head = 32 ∷ 32 ∷ 49 ∷ 48 ∷ 32 ∷ 32 ∷ 32 ∷ 49 ∷ 32 ∷ 32 ∷ 32 ∷ 32 ∷ 32 ∷ 32 ∷ 32 ∷ 48 ∷ 32 ∷ 32 ∷ 32 ∷ 32 ∷ 32 ∷ 32 ∷ 49 ∷ 48 ∷ 10 ∷ []
+
+-- "   0 M                  "
+abbrev m0 : List ℕ
+m0 = 32 ∷ 32 ∷ 32 ∷ 48 ∷ 32 ∷ 77 ∷ 32 ∷ 32 ∷ 32 ∷ 32 ∷ 32 ∷ 32 ∷ 32 ∷ 32 ∷ 32 ∷ 32 ∷ 32 ∷ 32 ∷ 32 ∷ 32 ∷ 32 ∷ 32 ∷ 32 ∷ 32 ∷ 10 ∷ []
+
+-- "   1 N    0             "
+abbrev m1 : List ℕ
+m1 = 32 ∷ 32 ∷ 32 ∷ 49 ∷ 32 ∷ 78 ∷ 32 ∷ 32 ∷ 32 ∷ 32 ∷ 48 ∷ 32 ∷ 32 ∷ 32 ∷ 32 ∷ 32 ∷ 32 ∷ 32 ∷ 32 ∷ 32 ∷ 32 ∷ 32 ∷ 32 ∷ 32 ∷ 10 ∷ []
+
+-- "   2 L    1            2"
+abbrev m2 : List ℕ
+m2 = 32 ∷ 32 ∷ 32 ∷ 50 ∷ 32 ∷ 76 ∷ 32 ∷ 32 ∷ 32 ∷ 32 ∷ 49 ∷ 32 ∷ 32 ∷ 32 ∷ 32 ∷ 32 ∷ 32 ∷ 32 ∷ 32 ∷ 32 ∷ 32 ∷ 32 ∷ 32 ∷ 50 ∷ 10 ∷ []
+
+-- "   3 L    1            9"
+abbrev m3 : List ℕ
+m3 = 32 ∷ 32 ∷ 32 ∷ 51 ∷ 32 ∷ 76 ∷ 32 ∷ 32 ∷ 32 ∷ 32 ∷ 49 ∷ 32 ∷ 32 ∷ 32 ∷ 32 ∷ 32 ∷ 32 ∷ 32 ∷ 32 ∷ 32 ∷ 32 ∷ 32 ∷ 32 ∷ 57 ∷ 10 ∷ []
+
+-- "   4 N    0             "
+abbrev m4 : List ℕ
+m4 = 32 ∷ 32 ∷ 32 ∷ 52 ∷ 32 ∷ 78 ∷ 32 ∷ 32 ∷ 32 ∷ 32 ∷ 48 ∷ 32 ∷ 32 ∷ 32 ∷ 32 ∷ 32 ∷ 32 ∷ 32 ∷ 32 ∷ 32 ∷ 32 ∷ 32 ∷ 32 ∷ 32 ∷ 10 ∷ []
+
+-- "   5 L    4            3"
+abbrev m5 : List ℕ
+m5 = 32 ∷ 32 ∷ 32 ∷ 53 ∷ 32 ∷ 76 ∷ 32 ∷ 32 ∷ 32 ∷ 32 ∷ 52 ∷ 32 ∷ 32 ∷ 32 ∷ 32 ∷ 32 ∷ 32 ∷ 32 ∷ 32 ∷ 32 ∷ 32 ∷ 32 ∷ 32 ∷ 51 ∷ 10 ∷ []
+
+-- "   6 L    4            5"
+abbrev m6 : List ℕ
+m6 = 32 ∷ 32 ∷ 32 ∷ 54 ∷ 32 ∷ 76 ∷ 32 ∷ 32 ∷ 32 ∷ 32 ∷ 52 ∷ 32 ∷ 32 ∷ 32 ∷ 32 ∷ 32 ∷ 32 ∷ 32 ∷ 32 ∷ 32 ∷ 32 ∷ 32 ∷ 32 ∷ 53 ∷ 10 ∷ []
+
+-- "   7 N    0             "
+abbrev m7 : List ℕ
+m7 = 32 ∷ 32 ∷ 32 ∷ 55 ∷ 32 ∷ 78 ∷ 32 ∷ 32 ∷ 32 ∷ 32 ∷ 48 ∷ 32 ∷ 32 ∷ 32 ∷ 32 ∷ 32 ∷ 32 ∷ 32 ∷ 32 ∷ 32 ∷ 32 ∷ 32 ∷ 32 ∷ 32 ∷ 10 ∷ []
+
+-- "   8 L    7            3"
+abbrev m8 : List ℕ
+m8 = 32 ∷ 32 ∷ 32 ∷ 56 ∷ 32 ∷ 76 ∷ 32 ∷ 32 ∷ 32 ∷ 32 ∷ 55 ∷ 32 ∷ 32 ∷ 32 ∷ 32 ∷ 32 ∷ 32 ∷ 32 ∷ 32 ∷ 32 ∷ 32 ∷ 32 ∷ 32 ∷ 51 ∷ 10 ∷ []
+
+-- "   9 L    7            4"
+abbrev m9 : List ℕ
+m9 = 32 ∷ 32 ∷ 32 ∷ 57 ∷ 32 ∷ 76 ∷ 32 ∷ 32 ∷ 32 ∷ 32 ∷ 55 ∷ 32 ∷ 32 ∷ 32 ∷ 32 ∷ 32 ∷ 32 ∷ 32 ∷ 32 ∷ 32 ∷ 32 ∷ 32 ∷ 32 ∷ 52 ∷ 10 ∷ []
+
+-- "  10   1     -10       0"
+abbrev n-head : List ℕ
+n-head = 32 ∷ 32 ∷ 49 ∷ 48 ∷ 32 ∷ 32 ∷ 32 ∷ 49 ∷ 32 ∷ 32 ∷ 32 ∷ 32 ∷ 32 ∷ 45 ∷ 49 ∷ 48 ∷ 32 ∷ 32 ∷ 32 ∷ 32 ∷ 32 ∷ 32 ∷ 32 ∷ 48 ∷ 10 ∷ []
+
+-- "   0 N                  "
+abbrev n0 : List ℕ
+n0 = 32 ∷ 32 ∷ 32 ∷ 48 ∷ 32 ∷ 78 ∷ 32 ∷ 32 ∷ 32 ∷ 32 ∷ 32 ∷ 32 ∷ 32 ∷ 32 ∷ 32 ∷ 32 ∷ 32 ∷ 32 ∷ 32 ∷ 32 ∷ 32 ∷ 32 ∷ 32 ∷ 32 ∷ 10 ∷ []
+
+-- "   1 M    0             "
+abbrev n1 : List ℕ
+n1 = 32 ∷ 32 ∷ 32 ∷ 49 ∷ 32 ∷ 77 ∷ 32 ∷ 32 ∷ 32 ∷ 32 ∷ 48 ∷ 32 ∷ 32 ∷ 32 ∷ 32 ∷ 32 ∷ 32 ∷ 32 ∷ 32 ∷ 32 ∷ 32 ∷ 32 ∷ 32 ∷ 32 ∷ 10 ∷ []
+
+-- "   2 L    1           -2"
+abbrev n2 : List ℕ
+n2 = 32 ∷ 32 ∷ 32 ∷ 50 ∷ 32 ∷ 76 ∷ 32 ∷ 32 ∷ 32 ∷ 32 ∷ 49 ∷ 32 ∷ 32 ∷ 32 ∷ 32 ∷ 32 ∷ 32 ∷ 32 ∷ 32 ∷ 32 ∷ 32 ∷ 32 ∷ 45 ∷ 50 ∷ 10 ∷ []
+
+-- "   3 L    1           -9"
+abbrev n3 : List ℕ
+n3 = 32 ∷ 32 ∷ 32 ∷ 51 ∷ 32 ∷ 76 ∷ 32 ∷ 32 ∷ 32 ∷ 32 ∷ 49 ∷ 32 ∷ 32 ∷ 32 ∷ 32 ∷ 32 ∷ 32 ∷ 32 ∷ 32 ∷ 32 ∷ 32 ∷ 32 ∷ 45 ∷ 57 ∷ 10 ∷ []
+
+-- "   4 M    0             "
+abbrev n4 : List ℕ
+n4 = 32 ∷ 32 ∷ 32 ∷ 52 ∷ 32 ∷ 77 ∷ 32 ∷ 32 ∷ 32 ∷ 32 ∷ 48 ∷ 32 ∷ 32 ∷ 32 ∷ 32 ∷ 32 ∷ 32 ∷ 32 ∷ 32 ∷ 32 ∷ 32 ∷ 32 ∷ 32 ∷ 32 ∷ 10 ∷ []
+
+-- "   5 L    4           -3"
+abbrev n5 : List ℕ
+n5 = 32 ∷ 32 ∷ 32 ∷ 53 ∷ 32 ∷ 76 ∷ 32 ∷ 32 ∷ 32 ∷ 32 ∷ 52 ∷ 32 ∷ 32 ∷ 32 ∷ 32 ∷ 32 ∷ 32 ∷ 32 ∷ 32 ∷ 32 ∷ 32 ∷ 32 ∷ 45 ∷ 51 ∷ 10 ∷ []
+
+-- "   6 L    4           -5"
+abbrev n6 : List ℕ
+n6 = 32 ∷ 32 ∷ 32 ∷ 54 ∷ 32 ∷ 76 ∷ 32 ∷ 32 ∷ 32 ∷ 32 ∷ 52 ∷ 32 ∷ 32 ∷ 32 ∷ 32 ∷ 32 ∷ 32 ∷ 32 ∷ 32 ∷ 32 ∷ 32 ∷ 32 ∷ 45 ∷ 53 ∷ 10 ∷ []
+
+-- "   7 M    0             "
+abbrev n7 : List ℕ
+n7 = 32 ∷ 32 ∷ 32 ∷ 55 ∷ 32 ∷ 77 ∷ 32 ∷ 32 ∷ 32 ∷ 32 ∷ 48 ∷ 32 ∷ 32 ∷ 32 ∷ 32 ∷ 32 ∷ 32 ∷ 32 ∷ 32 ∷ 32 ∷ 32 ∷ 32 ∷ 32 ∷ 32 ∷ 10 ∷ []
+
+-- "   8 L    7           -3"
+abbrev n8 : List ℕ
+n8 = 32 ∷ 32 ∷ 32 ∷ 56 ∷ 32 ∷ 76 ∷ 32 ∷ 32 ∷ 32 ∷ 32 ∷ 55 ∷ 32 ∷ 32 ∷ 32 ∷ 32 ∷ 32 ∷ 32 ∷ 32 ∷ 32 ∷ 32 ∷ 32 ∷ 32 ∷ 45 ∷ 51 ∷ 10 ∷ []
+
+-- "   9 L    7           -4"
+abbrev n9 : List ℕ
+n9 = 32 ∷ 32 ∷ 32 ∷ 57 ∷ 32 ∷ 76 ∷ 32 ∷ 32 ∷ 32 ∷ 32 ∷ 55 ∷ 32 ∷ 32 ∷ 32 ∷ 32 ∷ 32 ∷ 32 ∷ 32 ∷ 32 ∷ 32 ∷ 32 ∷ 32 ∷ 45 ∷ 52 ∷ 10 ∷ []
+
+-- worth 2, 3 and 3; searched at the margin 3, with bounds 0 to 2, 0 to 3 and 0 to 3
+abbrev pub tied-m : List ℕ
+tied-m = m-head ++ m0 ++ m1 ++ m2 ++ m3 ++ m4 ++ m5 ++ m6 ++ m7 ++ m8 ++ m9
+
+abbrev pub tied-n : List ℕ
+tied-n = n-head ++ n0 ++ n1 ++ n2 ++ n3 ++ n4 ++ n5 ++ n6 ++ n7 ++ n8 ++ n9
+
+-- At the margin 3 the second play has the other bound for it, and the third ties with it to the end. With one leaf to read the second and the third are
+-- met unread, and tie with each other. By document 01 alone all four name node 1.
+abbrev pub ties : List Known
+ties =
+    known tied-m (pos 3) (pos 1024) (pos 0) (pos 3) 1 (Child 4) false (2 ∷ 5 ∷ 8 ∷ [])
+    ∷ known tied-n (pos 3) (pos 1024) (negsuc 2) (pos 0) 1 (Child 4) false (2 ∷ 5 ∷ 8 ∷ [])
+    ∷ known tied-m (pos 3) (pos 1) (pos 0) (pos 10) 1 (Child 4) true (2 ∷ [])
+    ∷ known tied-n (pos 3) (pos 1) (negsuc 9) (pos 0) 1 (Child 4) true (2 ∷ [])
+    ∷ []
