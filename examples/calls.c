@@ -1,13 +1,14 @@
-/* Calls every function of the header on document 01's tables A and B, on a forced play, on level plays and on a match, and says where an answer
- * is not as it should be: calls B A FORCED LEVEL MATCH, the files of all five. What it expects is printed in document 01, or read off the
- * tables. */
+/* Calls every function of the header on document 01's tables A and B, on a forced play, on level plays, on plays that tie in the search and on a
+ * match, and says where an answer is not as it should be: calls B A FORCED LEVEL TIES MATCH, the files of all six. What it expects is printed
+ * in document 01, or read off the tables. */
 #include <stdio.h>
 #include <string.h>
 
 #include "margin_engine.h"
 
-static uint8_t b[MARGIN_MOST_BYTES], a[MARGIN_MOST_BYTES], forced[MARGIN_MOST_BYTES], level[MARGIN_MOST_BYTES], match[MARGIN_MOST_BYTES];
-static size_t b_len, a_len, forced_len, level_len, match_len;
+static uint8_t b[MARGIN_MOST_BYTES], a[MARGIN_MOST_BYTES], forced[MARGIN_MOST_BYTES], level[MARGIN_MOST_BYTES];
+static uint8_t ties[MARGIN_MOST_BYTES], match[MARGIN_MOST_BYTES];
+static size_t b_len, a_len, forced_len, level_len, ties_len, match_len;
 static int bad;
 
 #define SAME(count, got, ...) same(__LINE__, count, sizeof (got)[0], (got), (const int64_t[]){__VA_ARGS__})
@@ -100,6 +101,21 @@ static void searching(void) {
     SAME(1, leaves, 1);
 }
 
+/* Plays of low 0 and of highs 2, 3 and 3; with one read the second and the third are met unread, from 0 to 10. */
+static void ties_broken(void) {
+    int64_t numbers[8];
+    uint16_t leaves[6];
+    memset(numbers, 0xff, sizeof numbers);
+    memset(leaves, 0xff, sizeof leaves);
+    returned("margin_search of plays that tie", margin_search(ties, ties_len, 3, leaves, 6, numbers, 8), 0);
+    SAME(7, numbers, 0, 3, 4, 3, 1, 3, 0);
+    SAME(3, leaves, 2, 5, 8);
+    memset(leaves, 0xff, sizeof leaves);
+    returned("margin_search_within one read", margin_search_within(ties, ties_len, 3, 1, leaves, 6, numbers, 8), 0);
+    SAME(7, numbers, 0, 10, 4, 1, 1, 10, 1);
+    SAME(1, leaves, 2);
+}
+
 static void searching_within(void) {
     int64_t numbers[8];
     uint16_t leaves[5];
@@ -181,9 +197,9 @@ static void report(void) {
 }
 
 int main(int argc, char **argv) {
-    if (argc != 6 || (b_len = load(argv[1], b)) == 0 || (a_len = load(argv[2], a)) == 0 || (forced_len = load(argv[3], forced)) == 0 ||
-        (level_len = load(argv[4], level)) == 0 || (match_len = load(argv[5], match)) == 0) {
-        fprintf(stderr, "usage: calls B A FORCED LEVEL MATCH\n");
+    if (argc != 7 || (b_len = load(argv[1], b)) == 0 || (a_len = load(argv[2], a)) == 0 || (forced_len = load(argv[3], forced)) == 0 ||
+        (level_len = load(argv[4], level)) == 0 || (ties_len = load(argv[5], ties)) == 0 || (match_len = load(argv[6], match)) == 0) {
+        fprintf(stderr, "usage: calls B A FORCED LEVEL TIES MATCH\n");
         return 2;
     }
     reading();
@@ -191,6 +207,7 @@ int main(int argc, char **argv) {
     judging();
     searching();
     searching_within();
+    ties_broken();
     turning();
     rollouts();
     report();

@@ -81,9 +81,10 @@ uint64_t margin_judge(const uint8_t *text, size_t text_len, int64_t number, uint
  * numbers (7): low, high, the node number of the play (0 for none: the root is no play), the number of leaves read, G, high minus low, and
  * 0, as no budget is spent.
  *
- * The exact worth lies from low to high, which are at most the margin apart, and the play's worth is within the margin of it. margin_judge
- * takes another number for a play, its place among the root's children, from 1: the first child is node 1, and the next after node i is
- * stop[i] of margin_read.
+ * The exact worth lies from low to high, which are at most the margin apart, and the play's worth is within the margin of it. Of the
+ * root's children that were entered, the play is the one with the highest low at an M root, of several the one with the highest high; at an N
+ * root the one with the lowest high, of several the one with the lowest low; then the first. margin_judge takes another number for a play, its
+ * place among the root's children, from 1: the first child is node 1, and the next after node i is stop[i] of margin_read.
  */
 uint64_t margin_search(const uint8_t *text, size_t text_len, int64_t margin, uint16_t *leaves, size_t leaves_len, int64_t *numbers,
                        size_t numbers_len);
@@ -97,7 +98,8 @@ uint64_t margin_search(const uint8_t *text, size_t text_len, int64_t margin, uin
  *
  * A budget that is not spent changes nothing in the answer. Where it is spent, the leaves are the first that margin_search reads, as many as
  * the budget; the exact worth still lies from low to high, and the play is worth at least low at an M root, at most high at an N root, but the
- * margin need not be kept. With a budget of 0 there is no play, and low and high are the table's two ends times G.
+ * margin need not be kept. A child that was met when no read was left has the table's two ends as its bounds, and may be the play. With a
+ * budget of 0 there is no play, and low and high are the table's two ends times G.
  */
 uint64_t margin_search_within(const uint8_t *text, size_t text_len, int64_t margin, int64_t budget, uint16_t *leaves, size_t leaves_len,
                               int64_t *numbers, size_t numbers_len);

@@ -16,7 +16,9 @@ pub struct Found {
     /// `high` minus `low`.
     pub difference: i64,
     /// A play that is worth at least `low` at an M root, at most `high` at an N root.
-    /// Where the budget was not spent, its worth is within the margin of the best.
+    /// Where the budget was not spent, its worth is within the margin of the best. Of
+    /// the plays entered it has the highest low at M, and of several with this low the
+    /// highest high; at N the lowest high, and then the lowest low; then it is the first.
     pub play: Play,
     /// The node numbers of the leaves read, in reading sequence. The answer is the
     /// same whatever the other leaves are, within the table's ends.
@@ -56,6 +58,10 @@ pub enum Play {
 ///
 /// assert_eq!(search(&text, 0)?.leaves, [2, 3, 5]);
 /// assert_eq!(search(&text, -1).unwrap_err().number, 12);
+///
+/// // Three plays of low 0 and of highs 2, 3 and 3.
+/// let text = std::fs::read("../examples/ties.txt")?;
+/// assert_eq!(search(&text, 3)?.play, Play::Child { number: 2, node: 4 });
 /// # Ok::<(), Box<dyn std::error::Error>>(())
 /// ```
 pub fn search(text: &[u8], margin: i64) -> Result<Found, Refusal> {
@@ -70,7 +76,8 @@ pub fn search(text: &[u8], margin: i64) -> Result<Found, Refusal> {
 /// [`GREATEST_BUDGET`](crate::GREATEST_BUDGET).
 ///
 /// A budget that is spent need keep the margin neither between the bounds nor for the
-/// play; the worth still lies between them. One that is not spent changes nothing.
+/// play; the worth still lies between them. One that is not spent changes nothing. A play
+/// met when no read is left has the table's two ends as its bounds, and may be named.
 ///
 /// ```
 /// use margin_engine::{Play, search, search_within};
@@ -81,6 +88,9 @@ pub fn search(text: &[u8], margin: i64) -> Result<Found, Refusal> {
 /// assert_eq!(found.play, Play::Child { number: 1, node: 1 });
 /// assert_eq!(found.leaves, [2, 3]); // the first two of three
 /// assert!(found.spent);
+///
+/// let unread = search_within(&text, 0, 1)?.play;
+/// assert_eq!(unread, Play::Child { number: 2, node: 4 }); // 0 to 10, the first 0 to 3
 ///
 /// assert_eq!(search_within(&text, 0, 3)?, search(&text, 0)?);
 /// assert_eq!(search_within(&text, 0, 1_025).unwrap_err().number, 17);

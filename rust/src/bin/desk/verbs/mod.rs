@@ -95,18 +95,26 @@ struct Played {
     root: Kind,
     /// Why there is none at an M or N root.
     none: &'static str,
+    /// What is said behind the play.
+    note: &'static str,
 }
 
 impl Played {
     fn of(play: Play, table: &Table, none: &'static str) -> Played {
         let root = table.nodes[0].kind;
-        Played { play, root, none }
+        let note = "";
+        Played {
+            play,
+            root,
+            none,
+            note,
+        }
     }
 
     fn people(&self, page: &mut Page) {
         match self.play {
             Play::Child { number, node } => {
-                page.named("play", format_args!("{number}, node {node}"));
+                page.named("play", format_args!("{number}, node {node}{}", self.note));
             }
             Play::None => {
                 let why = match self.root {

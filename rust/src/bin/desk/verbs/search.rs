@@ -1,7 +1,7 @@
 //! `search MARGIN`: the worth and a play to within a margin, or as far as a budget of
 //! leaf reads goes.
 
-use margin_engine::{Found, Refusal, Table, read, search, search_within};
+use margin_engine::{Found, Play, Refusal, Table, read, search, search_within};
 
 use super::{Answer, Played, Question, Verb};
 use crate::help::MARGINS;
@@ -29,10 +29,17 @@ answer is the same whatever the others are, within the ends. Margin 0 gives the
 exact worth.
 ",
         "\
+Of the plays looked into, the one named at an M root has the highest low; of
+several such it has the highest high, so that it could also turn out best. At an N
+root it has the lowest high, and of several such the lowest low. Of those that are
+still equal it is the first.
+",
+        "\
 With --budget N, 0 to 1,024, at most N leaves are read. Where that is too few,
 the budget is spent: the worth still lies from low to high, and the play is worth
 at least low at an M root, at most high at an N root, but the margin need not be
-kept.
+kept. A play that was not looked into then counts with the two ends as its bounds,
+and may be the one named.
 ",
         MARGINS,
     ],
@@ -97,10 +104,18 @@ impl Searched {
             Some(budget) => search_within(text, margin, budget)?,
             None => search(text, margin)?,
         };
+        let mut played = Played::of(found.play, table, "none: a budget of 0 reads no leaf");
+        if let Play::Child { node, .. } = found.play {
+            let under = node..table.nodes[node].stop;
+            if !found.leaves.iter().any(|leaf| under.contains(leaf)) {
+                // With a spent budget such a play has the ends as its bounds.
+                played.note = ", not looked into";
+            }
+        }
         Ok(Searched {
             margin,
             budget,
-            played: Played::of(found.play, table, "none: a budget of 0 reads no leaf"),
+            played,
             found,
             leaves: table.leaves,
         })
