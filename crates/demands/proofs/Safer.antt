@@ -1,5 +1,5 @@
 -- Document 02, Item 6, at the public calls. Assumes nothing.
-use Prim.Native.Nat.{ℕ, _<_}
+use Prim.Native.Nat.{ℕ}
 use mathlib.Core.Path.{_≡_, refl, sym, ap, subst, _∙_}
 use mathlib.Core.Bool.{Bool, true, false}
 use mathlib.Core.List.{List, []}
@@ -14,10 +14,11 @@ use Rattle.line.specs.Line.{toNat, climb}
 use Rattle.table.specs.Tree.{run, after as afterRun, forest, weigh, nodesWhere, leaves}
 use Rattle.table.specs.Table.{Table, tree, nodeLines, complete, readText, greatest}
 use Rattle.table.specs.Root.{Side, toPlay, rootOf, playOf}
+use Rattle.turn.specs.Text.{linesText}
 use Rattle.search.specs.Search.{Seen, unlimited, limited, nodeOf, begin, finish, cut, point, metSpent, lower, upper, safer, update, stop, scan, search, searchRoot}
 use Rattle.search.specs.Whole.{searched, searchedUntil, searchedWithin, downZ, upZ, gainZ, lossZ, inGrains}
-use Rattle.search.specs.Former.{formerUntil}
-use Rattle.search.proofs.Former.{bare, as-before}
+use Rattle.search.specs.Former.{formerly, formerUntil}
+use Rattle.search.proofs.Former.{as-before}
 use Rattle.search_call.specs.declared.Bounds.{Bounds}
 use Rattle.search_call.specs.declared.Bounded.the-variants.{Found}
 use Rattle.search_call.specs.Call.{boundsOf, searchCall, withinCall}
@@ -25,7 +26,7 @@ use Rattle.search_call.proofs.Call.{inside-is}
 use Rattle.search_call.proofs.Answered.{answered, reads, answered-within, reads-within}
 use Rattle.promise.proofs.Demand.{play-named}
 use Rattle.demands.specs.Budget.{AllKnown}
-use Rattle.demands.specs.Safer.{NamesBest, SaferNamed, SaferWithin, SameButPlay, AsBefore, AsBeforeWithin, ties}
+use Rattle.demands.specs.Safer.{NamesBest, SaferNamed, SaferWithin, SameButPlay, AsBefore, AsBeforeWithin, ties, FormerTies}
 use Rattle.demands.proofs.Within.{fine-same}
 
 -- ---- the play
@@ -104,5 +105,9 @@ as-before-within s t m b room a p e =
 -- ---- known answers
 
 pub all-ties : AllKnown ties
-unfolding strip digits wholeField signed leading unless unlessAt climb run afterRun forest weigh nodesWhere leaves nodeLines complete readText greatest maxZ minZ floorZ ceilZ begin finish cut point metSpent lower upper safer update stop scan search searchRoot downZ upZ gainZ lossZ inGrains
+unfolding strip digits wholeField signed leading linesText unless unlessAt climb run afterRun forest weigh nodesWhere leaves nodeLines complete readText greatest maxZ minZ floorZ ceilZ begin finish cut point metSpent lower upper safer update stop scan search searchRoot downZ upZ gainZ lossZ inGrains
 all-ties = (refl, refl, (refl, refl, (refl, refl, (refl, refl, tt))))
+
+pub former-ties : FormerTies
+unfolding strip digits wholeField signed leading linesText unless unlessAt climb run afterRun forest weigh nodesWhere leaves nodeLines complete readText greatest maxZ minZ floorZ ceilZ begin finish cut point metSpent lower upper formerly update stop scan search searchRoot downZ upZ gainZ lossZ inGrains
+former-ties = (refl, refl, refl, refl)

@@ -4,15 +4,18 @@ use Prim.Native.Nat.{ℕ}
 use mathlib.Core.Path.{_≡_}
 use mathlib.Core.Bool.{Bool, true, false}
 use mathlib.Core.List.{List, [], _∷_, _++_}
+use mathlib.Core.Option.{Option, none, some}
 use lib.IntN.{ℤ, pos, negsuc}
 use lib.Signed.{ltZ}
-use Rattle.line.specs.Refusal.{fine}
+use Rattle.line.specs.Refusal.{Verdict, refused, fine}
 use Rattle.line.specs.Line.{toNat}
 use Rattle.table.specs.Table.{Table, tree, readText}
 use Rattle.table.specs.Root.{Side, toPlay, rootOf}
+use Rattle.table.specs.Examples.{max-root, a1, a4}
 use Rattle.table.specs.declared.Play.{Play}
 use Rattle.table.specs.declared.Play.the-variants.{Child}
-use Rattle.search.specs.Search.{unlimited, limited}
+use Rattle.turn_call.specs.Call.{turnBytes}
+use Rattle.search.specs.Search.{unlimited, limited, nodeOf}
 use Rattle.search.specs.Former.{formerUntil}
 use Rattle.search_call.specs.declared.Bounds.{Bounds}
 use Rattle.search_call.specs.declared.Bounded.the-variants.{Found}
@@ -62,109 +65,65 @@ AsBeforeWithin =
     → SameButPlay a (boundsOf (record { table = t; seen = formerUntil t (toNat m) (limited (toNat b)) }))
     × (withinReads (readText s) m b room ≡ formerUntil t (toNat m) (limited (toNat b)) .read)
 
--- ---- three plays that tie, at M and, turned, at N; their lines as bytes
+-- ---- three plays that tie at M and, turned, at N; their lines as bytes
 
 -- "  10   1       0      10"
-abbrev m-head : List ℕ
-m-head = 32 ∷ 32 ∷ 49 ∷ 48 ∷ 32 ∷ 32 ∷ 32 ∷ 49 ∷ 32 ∷ 32 ∷ 32 ∷ 32 ∷ 32 ∷ 32 ∷ 32 ∷ 48 ∷ 32 ∷ 32 ∷ 32 ∷ 32 ∷ 32 ∷ 32 ∷ 49 ∷ 48 ∷ 10 ∷ []
-
--- "   0 M                  "
-abbrev m0 : List ℕ
-m0 = 32 ∷ 32 ∷ 32 ∷ 48 ∷ 32 ∷ 77 ∷ 32 ∷ 32 ∷ 32 ∷ 32 ∷ 32 ∷ 32 ∷ 32 ∷ 32 ∷ 32 ∷ 32 ∷ 32 ∷ 32 ∷ 32 ∷ 32 ∷ 32 ∷ 32 ∷ 32 ∷ 32 ∷ 10 ∷ []
-
--- "   1 N    0             "
-abbrev m1 : List ℕ
-m1 = 32 ∷ 32 ∷ 32 ∷ 49 ∷ 32 ∷ 78 ∷ 32 ∷ 32 ∷ 32 ∷ 32 ∷ 48 ∷ 32 ∷ 32 ∷ 32 ∷ 32 ∷ 32 ∷ 32 ∷ 32 ∷ 32 ∷ 32 ∷ 32 ∷ 32 ∷ 32 ∷ 32 ∷ 10 ∷ []
+abbrev tied-head : List ℕ
+tied-head = 32 ∷ 32 ∷ 49 ∷ 48 ∷ 32 ∷ 32 ∷ 32 ∷ 49 ∷ 32 ∷ 32 ∷ 32 ∷ 32 ∷ 32 ∷ 32 ∷ 32 ∷ 48 ∷ 32 ∷ 32 ∷ 32 ∷ 32 ∷ 32 ∷ 32 ∷ 49 ∷ 48 ∷ 10 ∷ []
 
 -- "   2 L    1            2"
-abbrev m2 : List ℕ
-m2 = 32 ∷ 32 ∷ 32 ∷ 50 ∷ 32 ∷ 76 ∷ 32 ∷ 32 ∷ 32 ∷ 32 ∷ 49 ∷ 32 ∷ 32 ∷ 32 ∷ 32 ∷ 32 ∷ 32 ∷ 32 ∷ 32 ∷ 32 ∷ 32 ∷ 32 ∷ 32 ∷ 50 ∷ 10 ∷ []
+abbrev t2 : List ℕ
+t2 = 32 ∷ 32 ∷ 32 ∷ 50 ∷ 32 ∷ 76 ∷ 32 ∷ 32 ∷ 32 ∷ 32 ∷ 49 ∷ 32 ∷ 32 ∷ 32 ∷ 32 ∷ 32 ∷ 32 ∷ 32 ∷ 32 ∷ 32 ∷ 32 ∷ 32 ∷ 32 ∷ 50 ∷ 10 ∷ []
 
 -- "   3 L    1            9"
-abbrev m3 : List ℕ
-m3 = 32 ∷ 32 ∷ 32 ∷ 51 ∷ 32 ∷ 76 ∷ 32 ∷ 32 ∷ 32 ∷ 32 ∷ 49 ∷ 32 ∷ 32 ∷ 32 ∷ 32 ∷ 32 ∷ 32 ∷ 32 ∷ 32 ∷ 32 ∷ 32 ∷ 32 ∷ 32 ∷ 57 ∷ 10 ∷ []
-
--- "   4 N    0             "
-abbrev m4 : List ℕ
-m4 = 32 ∷ 32 ∷ 32 ∷ 52 ∷ 32 ∷ 78 ∷ 32 ∷ 32 ∷ 32 ∷ 32 ∷ 48 ∷ 32 ∷ 32 ∷ 32 ∷ 32 ∷ 32 ∷ 32 ∷ 32 ∷ 32 ∷ 32 ∷ 32 ∷ 32 ∷ 32 ∷ 32 ∷ 10 ∷ []
+abbrev t3 : List ℕ
+t3 = 32 ∷ 32 ∷ 32 ∷ 51 ∷ 32 ∷ 76 ∷ 32 ∷ 32 ∷ 32 ∷ 32 ∷ 49 ∷ 32 ∷ 32 ∷ 32 ∷ 32 ∷ 32 ∷ 32 ∷ 32 ∷ 32 ∷ 32 ∷ 32 ∷ 32 ∷ 32 ∷ 57 ∷ 10 ∷ []
 
 -- "   5 L    4            3"
-abbrev m5 : List ℕ
-m5 = 32 ∷ 32 ∷ 32 ∷ 53 ∷ 32 ∷ 76 ∷ 32 ∷ 32 ∷ 32 ∷ 32 ∷ 52 ∷ 32 ∷ 32 ∷ 32 ∷ 32 ∷ 32 ∷ 32 ∷ 32 ∷ 32 ∷ 32 ∷ 32 ∷ 32 ∷ 32 ∷ 51 ∷ 10 ∷ []
+abbrev t5 : List ℕ
+t5 = 32 ∷ 32 ∷ 32 ∷ 53 ∷ 32 ∷ 76 ∷ 32 ∷ 32 ∷ 32 ∷ 32 ∷ 52 ∷ 32 ∷ 32 ∷ 32 ∷ 32 ∷ 32 ∷ 32 ∷ 32 ∷ 32 ∷ 32 ∷ 32 ∷ 32 ∷ 32 ∷ 51 ∷ 10 ∷ []
 
 -- "   6 L    4            5"
-abbrev m6 : List ℕ
-m6 = 32 ∷ 32 ∷ 32 ∷ 54 ∷ 32 ∷ 76 ∷ 32 ∷ 32 ∷ 32 ∷ 32 ∷ 52 ∷ 32 ∷ 32 ∷ 32 ∷ 32 ∷ 32 ∷ 32 ∷ 32 ∷ 32 ∷ 32 ∷ 32 ∷ 32 ∷ 32 ∷ 53 ∷ 10 ∷ []
+abbrev t6 : List ℕ
+t6 = 32 ∷ 32 ∷ 32 ∷ 54 ∷ 32 ∷ 76 ∷ 32 ∷ 32 ∷ 32 ∷ 32 ∷ 52 ∷ 32 ∷ 32 ∷ 32 ∷ 32 ∷ 32 ∷ 32 ∷ 32 ∷ 32 ∷ 32 ∷ 32 ∷ 32 ∷ 32 ∷ 53 ∷ 10 ∷ []
 
 -- "   7 N    0             "
-abbrev m7 : List ℕ
-m7 = 32 ∷ 32 ∷ 32 ∷ 55 ∷ 32 ∷ 78 ∷ 32 ∷ 32 ∷ 32 ∷ 32 ∷ 48 ∷ 32 ∷ 32 ∷ 32 ∷ 32 ∷ 32 ∷ 32 ∷ 32 ∷ 32 ∷ 32 ∷ 32 ∷ 32 ∷ 32 ∷ 32 ∷ 10 ∷ []
+abbrev t7 : List ℕ
+t7 = 32 ∷ 32 ∷ 32 ∷ 55 ∷ 32 ∷ 78 ∷ 32 ∷ 32 ∷ 32 ∷ 32 ∷ 48 ∷ 32 ∷ 32 ∷ 32 ∷ 32 ∷ 32 ∷ 32 ∷ 32 ∷ 32 ∷ 32 ∷ 32 ∷ 32 ∷ 32 ∷ 32 ∷ 10 ∷ []
 
 -- "   8 L    7            3"
-abbrev m8 : List ℕ
-m8 = 32 ∷ 32 ∷ 32 ∷ 56 ∷ 32 ∷ 76 ∷ 32 ∷ 32 ∷ 32 ∷ 32 ∷ 55 ∷ 32 ∷ 32 ∷ 32 ∷ 32 ∷ 32 ∷ 32 ∷ 32 ∷ 32 ∷ 32 ∷ 32 ∷ 32 ∷ 32 ∷ 51 ∷ 10 ∷ []
+abbrev t8 : List ℕ
+t8 = 32 ∷ 32 ∷ 32 ∷ 56 ∷ 32 ∷ 76 ∷ 32 ∷ 32 ∷ 32 ∷ 32 ∷ 55 ∷ 32 ∷ 32 ∷ 32 ∷ 32 ∷ 32 ∷ 32 ∷ 32 ∷ 32 ∷ 32 ∷ 32 ∷ 32 ∷ 32 ∷ 51 ∷ 10 ∷ []
 
 -- "   9 L    7            4"
-abbrev m9 : List ℕ
-m9 = 32 ∷ 32 ∷ 32 ∷ 57 ∷ 32 ∷ 76 ∷ 32 ∷ 32 ∷ 32 ∷ 32 ∷ 55 ∷ 32 ∷ 32 ∷ 32 ∷ 32 ∷ 32 ∷ 32 ∷ 32 ∷ 32 ∷ 32 ∷ 32 ∷ 32 ∷ 32 ∷ 52 ∷ 10 ∷ []
+abbrev t9 : List ℕ
+t9 = 32 ∷ 32 ∷ 32 ∷ 57 ∷ 32 ∷ 76 ∷ 32 ∷ 32 ∷ 32 ∷ 32 ∷ 55 ∷ 32 ∷ 32 ∷ 32 ∷ 32 ∷ 32 ∷ 32 ∷ 32 ∷ 32 ∷ 32 ∷ 32 ∷ 32 ∷ 32 ∷ 52 ∷ 10 ∷ []
 
--- "  10   1     -10       0"
-abbrev n-head : List ℕ
-n-head = 32 ∷ 32 ∷ 49 ∷ 48 ∷ 32 ∷ 32 ∷ 32 ∷ 49 ∷ 32 ∷ 32 ∷ 32 ∷ 32 ∷ 32 ∷ 45 ∷ 49 ∷ 48 ∷ 32 ∷ 32 ∷ 32 ∷ 32 ∷ 32 ∷ 32 ∷ 32 ∷ 48 ∷ 10 ∷ []
+-- worth 2, 3 and 3; at the margin 3 their bounds are 0 to 2, 0 to 3 and 0 to 3
+abbrev pub tied : List ℕ
+tied = tied-head ++ max-root ++ a1 ++ t2 ++ t3 ++ a4 ++ t5 ++ t6 ++ t7 ++ t8 ++ t9
 
--- "   0 N                  "
-abbrev n0 : List ℕ
-n0 = 32 ∷ 32 ∷ 32 ∷ 48 ∷ 32 ∷ 78 ∷ 32 ∷ 32 ∷ 32 ∷ 32 ∷ 32 ∷ 32 ∷ 32 ∷ 32 ∷ 32 ∷ 32 ∷ 32 ∷ 32 ∷ 32 ∷ 32 ∷ 32 ∷ 32 ∷ 32 ∷ 32 ∷ 10 ∷ []
+abbrev pub turned : List ℕ
+turned = turnBytes (readText tied) 25625
 
--- "   1 M    0             "
-abbrev n1 : List ℕ
-n1 = 32 ∷ 32 ∷ 32 ∷ 49 ∷ 32 ∷ 77 ∷ 32 ∷ 32 ∷ 32 ∷ 32 ∷ 48 ∷ 32 ∷ 32 ∷ 32 ∷ 32 ∷ 32 ∷ 32 ∷ 32 ∷ 32 ∷ 32 ∷ 32 ∷ 32 ∷ 32 ∷ 32 ∷ 10 ∷ []
-
--- "   2 L    1           -2"
-abbrev n2 : List ℕ
-n2 = 32 ∷ 32 ∷ 32 ∷ 50 ∷ 32 ∷ 76 ∷ 32 ∷ 32 ∷ 32 ∷ 32 ∷ 49 ∷ 32 ∷ 32 ∷ 32 ∷ 32 ∷ 32 ∷ 32 ∷ 32 ∷ 32 ∷ 32 ∷ 32 ∷ 32 ∷ 45 ∷ 50 ∷ 10 ∷ []
-
--- "   3 L    1           -9"
-abbrev n3 : List ℕ
-n3 = 32 ∷ 32 ∷ 32 ∷ 51 ∷ 32 ∷ 76 ∷ 32 ∷ 32 ∷ 32 ∷ 32 ∷ 49 ∷ 32 ∷ 32 ∷ 32 ∷ 32 ∷ 32 ∷ 32 ∷ 32 ∷ 32 ∷ 32 ∷ 32 ∷ 32 ∷ 45 ∷ 57 ∷ 10 ∷ []
-
--- "   4 M    0             "
-abbrev n4 : List ℕ
-n4 = 32 ∷ 32 ∷ 32 ∷ 52 ∷ 32 ∷ 77 ∷ 32 ∷ 32 ∷ 32 ∷ 32 ∷ 48 ∷ 32 ∷ 32 ∷ 32 ∷ 32 ∷ 32 ∷ 32 ∷ 32 ∷ 32 ∷ 32 ∷ 32 ∷ 32 ∷ 32 ∷ 32 ∷ 10 ∷ []
-
--- "   5 L    4           -3"
-abbrev n5 : List ℕ
-n5 = 32 ∷ 32 ∷ 32 ∷ 53 ∷ 32 ∷ 76 ∷ 32 ∷ 32 ∷ 32 ∷ 32 ∷ 52 ∷ 32 ∷ 32 ∷ 32 ∷ 32 ∷ 32 ∷ 32 ∷ 32 ∷ 32 ∷ 32 ∷ 32 ∷ 32 ∷ 45 ∷ 51 ∷ 10 ∷ []
-
--- "   6 L    4           -5"
-abbrev n6 : List ℕ
-n6 = 32 ∷ 32 ∷ 32 ∷ 54 ∷ 32 ∷ 76 ∷ 32 ∷ 32 ∷ 32 ∷ 32 ∷ 52 ∷ 32 ∷ 32 ∷ 32 ∷ 32 ∷ 32 ∷ 32 ∷ 32 ∷ 32 ∷ 32 ∷ 32 ∷ 32 ∷ 45 ∷ 53 ∷ 10 ∷ []
-
--- "   7 M    0             "
-abbrev n7 : List ℕ
-n7 = 32 ∷ 32 ∷ 32 ∷ 55 ∷ 32 ∷ 77 ∷ 32 ∷ 32 ∷ 32 ∷ 32 ∷ 48 ∷ 32 ∷ 32 ∷ 32 ∷ 32 ∷ 32 ∷ 32 ∷ 32 ∷ 32 ∷ 32 ∷ 32 ∷ 32 ∷ 32 ∷ 32 ∷ 10 ∷ []
-
--- "   8 L    7           -3"
-abbrev n8 : List ℕ
-n8 = 32 ∷ 32 ∷ 32 ∷ 56 ∷ 32 ∷ 76 ∷ 32 ∷ 32 ∷ 32 ∷ 32 ∷ 55 ∷ 32 ∷ 32 ∷ 32 ∷ 32 ∷ 32 ∷ 32 ∷ 32 ∷ 32 ∷ 32 ∷ 32 ∷ 32 ∷ 45 ∷ 51 ∷ 10 ∷ []
-
--- "   9 L    7           -4"
-abbrev n9 : List ℕ
-n9 = 32 ∷ 32 ∷ 32 ∷ 57 ∷ 32 ∷ 76 ∷ 32 ∷ 32 ∷ 32 ∷ 32 ∷ 55 ∷ 32 ∷ 32 ∷ 32 ∷ 32 ∷ 32 ∷ 32 ∷ 32 ∷ 32 ∷ 32 ∷ 32 ∷ 32 ∷ 45 ∷ 52 ∷ 10 ∷ []
-
--- worth 2, 3 and 3; searched at the margin 3, with bounds 0 to 2, 0 to 3 and 0 to 3
-abbrev pub tied-m : List ℕ
-tied-m = m-head ++ m0 ++ m1 ++ m2 ++ m3 ++ m4 ++ m5 ++ m6 ++ m7 ++ m8 ++ m9
-
-abbrev pub tied-n : List ℕ
-tied-n = n-head ++ n0 ++ n1 ++ n2 ++ n3 ++ n4 ++ n5 ++ n6 ++ n7 ++ n8 ++ n9
-
--- At the margin 3 the second play has the other bound for it, and the third ties with it to the end. With one leaf to read the second and the third are
--- met unread, and tie with each other. By document 01 alone all four name node 1.
+-- At the margin 3 the first two plays tie, and the second has the better of the other bound; the third ties with it to the end. With one leaf to read the
+-- second and the third are met unread, and tie with each other.
 abbrev pub ties : List Known
 ties =
-    known tied-m (pos 3) (pos 1024) (pos 0) (pos 3) 1 (Child 4) false (2 ∷ 5 ∷ 8 ∷ [])
-    ∷ known tied-n (pos 3) (pos 1024) (negsuc 2) (pos 0) 1 (Child 4) false (2 ∷ 5 ∷ 8 ∷ [])
-    ∷ known tied-m (pos 3) (pos 1) (pos 0) (pos 10) 1 (Child 4) true (2 ∷ [])
-    ∷ known tied-n (pos 3) (pos 1) (negsuc 9) (pos 0) 1 (Child 4) true (2 ∷ [])
+    known tied (pos 3) (pos 1024) (pos 0) (pos 3) 1 (Child 4) false (2 ∷ 5 ∷ 8 ∷ [])
+    ∷ known turned (pos 3) (pos 1024) (negsuc 2) (pos 0) 1 (Child 4) false (2 ∷ 5 ∷ 8 ∷ [])
+    ∷ known tied (pos 3) (pos 1) (pos 0) (pos 10) 1 (Child 4) true (2 ∷ [])
+    ∷ known turned (pos 3) (pos 1) (negsuc 9) (pos 0) 1 (Child 4) true (2 ∷ [])
     ∷ []
+
+-- the play by document 01 alone: in all four it is node 1
+abbrev pub formerPlay : Verdict Table → (ε : ℕ) (full : List ℕ → Bool) → Option ℕ
+formerPlay (refused r) ε full = none
+formerPlay (fine t) ε full = nodeOf (formerUntil t ε full .play)
+
+abbrev pub FormerTies : Type 0
+FormerTies =
+    (formerPlay (readText tied) 3 unlimited ≡ some 1)
+    × (formerPlay (readText turned) 3 unlimited ≡ some 1)
+    × (formerPlay (readText tied) 3 (limited 1) ≡ some 1)
+    × (formerPlay (readText turned) 3 (limited 1) ≡ some 1)
