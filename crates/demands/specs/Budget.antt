@@ -149,6 +149,7 @@ known text margin budget low high grain play spent read =
       read = read;
     }
 
+-- In A with a budget of 1 the second play, met unread, ties with the first and could turn out better (Item 6).
 abbrev pub budgets : List Known
 budgets =
     known table-a (pos 0) (pos 0) (pos 0) (pos 10) 1 NoPlay true []

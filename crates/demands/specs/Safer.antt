@@ -106,7 +106,7 @@ tied = tied-head ++ max-root ++ a1 ++ t2 ++ t3 ++ a4 ++ t5 ++ t6 ++ t7 ++ t8 ++ 
 abbrev pub turned : List ℕ
 turned = turnBytes (readText tied) 25625
 
--- At the margin 3 the first two plays tie, and the second has the better of the other bound; the third ties with it to the end. With one leaf to read the
+-- At the margin 3 the first two plays tie, and the second has the better other bound; the third ties with it to the end. With one leaf to read the
 -- second and the third are met unread, and tie with each other.
 abbrev pub ties : List Known
 ties =

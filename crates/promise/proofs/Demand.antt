@@ -122,11 +122,11 @@ module _ (s : List ℕ) (t : Table) (r : readText s ≡ fine t) where
 
     -- "If the root is so met, no play is named"
     pub play-unread : full [] ≡ true → nodeOf (searchedUntil t ε full .play) ≡ none
-    play-unread z = root-unread whole (worse ltZ) (worse-strict ltZ strict-whole) asks-whole (rules t ε full) (inGrains G (tree t)) z
+    play-unread z = root-unread whole (rules t ε full) (inGrains G (tree t)) z
 
     -- where the root has a child and is not met unread, one is entered
     pub child-entered : full [] ≡ false → isEnd (children (tree t)) ≡ false → enteredOf t ε full ≡ [] → ⊥
-    child-entered z x = root-entered whole (worse ltZ) (worse-strict ltZ strict-whole) asks-whole (rules t ε full) (inGrains G (tree t)) z (grains-children G (tree t) ∙ x)
+    child-entered z x = root-entered whole (rules t ε full) (inGrains G (tree t)) z (grains-children G (tree t) ∙ x)
 
     played : (m : ℕ) → nodeOf (searchedUntil t ε full .play) ≡ some m
         → Played top-height (grained G (heightTree t)) (heights .low) (heights .high) (heightWorth t) m

@@ -23,31 +23,54 @@ use Rattle.promise.proofs.Order.{Strict}
 
 -- the play of a root whose children entered are xs: "either a root child or none", "at C and L there is none"
 abbrev pub Chosen : {A : Type 0} → (Side → Entered A → Entered A → Bool) → Root → List (Entered A) → Play A → Type 0
-Chosen worse nobody xs p = nodeOf p ≡ none
-Chosen {A} worse (toPlay side) xs p = (x : Entered A) × (nodeOf p ≡ some (x .node)) × FirstBest (worse side) xs x
+Chosen behind nobody xs p = nodeOf p ≡ none
+Chosen {A} behind (toPlay side) xs p = (x : Entered A) × (nodeOf p ≡ some (x .node)) × FirstBest (behind side) xs x
 
 -- the play so far, where the children entered so far are xs
-module _ {A : Type 0} (worse : Side → Entered A → Entered A → Bool) where
+module _ {A : Type 0} (behind : Side → Entered A → Entered A → Bool) where
   abbrev pub Held : Root → List (Entered A) → Play A → Type 0
   Held nobody xs p = nodeOf p ≡ none
   Held (toPlay side) xs noPlay = xs ≡ []
-  Held (toPlay side) xs (child m l h) = FirstBest (worse side) xs (record { node = m; low = l; high = h })
+  Held (toPlay side) xs (child m l h) = FirstBest (behind side) xs (record { node = m; low = l; high = h })
 
-  held-chosen : (q : Root) (xs : List (Entered A)) (p : Play A) → (xs ≡ [] → ⊥) → Held q xs p → Chosen worse q xs p
+  held-chosen : (q : Root) (xs : List (Entered A)) (p : Play A) → (xs ≡ [] → ⊥) → Held q xs p → Chosen behind q xs p
   held-chosen nobody xs p x h = h
   held-chosen (toPlay side) xs noPlay x h = absurd (x h)
   held-chosen (toPlay side) xs (child m l b) x F = (record { node = m; low = l; high = b }, refl, F)
 
--- `beats` asks whether the earlier child is worse
-abbrev pub Asks : {A : Type 0} → Arith A → (Side → Entered A → Entered A → Bool) → Type 0
-Asks {A} O worse = (n : ℕ) (r : Seen A) (b : Entered A)
-    → (O .beats MAX (r .low) (r .high) (b .low) (b .high) ≡ worse AtM b (asEntered n r))
-    × (O .beats MIN (r .low) (r .high) (b .low) (b .high) ≡ worse AtN b (asEntered n r))
+module _ {A : Type 0} (O : Arith A) (R : Rules A) where
+  -- the first child is entered
+  entered-some : (e : Frame A) (k : Kind) (f : Forest A) (s : State A) → isEnd f ≡ false → entered O R e k f s ≡ [] → ⊥
+  unfolding entered
+  entered-some e k end s x q = true-ne-false x
+  entered-some e k (leaf n w v rest) s x q = let z : _≡_ {A = ℕ} 0 1 = cc in omega arith
+  entered-some e k (inner n w c under rest) s x q = let z : _≡_ {A = ℕ} 0 1 = cc in omega arith
 
-module _ {A : Type 0} (O : Arith A) (worse : Side → Entered A → Entered A → Bool) (strict : (side : Side) → Strict (worse side)) (asks : Asks O worse) where
+  pub root-entered : (f : Forest A) → R .full [] ≡ false → isEnd (children f) ≡ false → enteredRoot O R f ≡ [] → ⊥
+  unfolding enteredRoot
+  root-entered end z x q = true-ne-false x
+  root-entered (leaf n w v rest) z x q = true-ne-false x
+  root-entered (inner n w k under rest) z x q =
+      let e : Frame A = R .frame n under in
+      entered-some e k under (begin e k (e .bottom) (e .top) []) x (rw z at q)
+
+  -- a root met unread names no play
+  pub root-unread : (f : Forest A) → R .full [] ≡ true → nodeOf (searchRoot O R f .play) ≡ none
+  unfolding searchRoot search metSpent
+  root-unread end z = refl
+  root-unread (leaf n w v rest) z = rw z refl
+  root-unread (inner n w k under rest) z = rw z refl
+
+-- `beats` asks whether the earlier child is behind
+abbrev pub Asks : {A : Type 0} → Arith A → (Side → Entered A → Entered A → Bool) → Type 0
+Asks {A} O behind = (n : ℕ) (r : Seen A) (b : Entered A)
+    → (O .beats MAX (r .low) (r .high) (b .low) (b .high) ≡ behind AtM b (asEntered n r))
+    × (O .beats MIN (r .low) (r .high) (b .low) (b .high) ≡ behind AtN b (asEntered n r))
+
+module _ {A : Type 0} (O : Arith A) (behind : Side → Entered A → Entered A → Bool) (strict : (side : Side) → Strict (behind side)) (asks : Asks O behind) where
   module _ (side : Side) where
     -- one child more, which is not better
-    best-stays : (xs : List (Entered A)) (b x : Entered A) → worse side b x ≡ false → FirstBest (worse side) xs b → FirstBest (worse side) (xs ++ (x ∷ [])) b
+    best-stays : (xs : List (Entered A)) (b x : Entered A) → behind side b x ≡ false → FirstBest (behind side) xs b → FirstBest (behind side) (xs ++ (x ∷ [])) b
     best-stays xs b x h F = record {
       before = F .before;
       later = F .later ++ (x ∷ []);
@@ -56,53 +79,53 @@ module _ {A : Type 0} (O : Arith A) (worse : Side → Entered A → Entered A �
       later-no-better = λ y m. ahead y (List·Memᴰ·append-cases (F .later) m);
     }
       where
-        ahead : (y : Entered A) → List·Memᴰ y (F .later) ⊎ List·Memᴰ y (x ∷ []) → worse side b y ≡ false
+        ahead : (y : Entered A) → List·Memᴰ y (F .later) ⊎ List·Memᴰ y (x ∷ []) → behind side b y ≡ false
         ahead y (inl i) = F .later-no-better y i
-        ahead y (inr i) = subst (λ (z : Entered A). worse side b z ≡ false) (sym (List·Memᴰ·eq-of-singleton i)) h
+        ahead y (inr i) = subst (λ (z : Entered A). behind side b z ≡ false) (sym (List·Memᴰ·eq-of-singleton i)) h
 
     -- one child more, which is
-    best-moves : (xs : List (Entered A)) (b x : Entered A) → worse side b x ≡ true → FirstBest (worse side) xs b → FirstBest (worse side) (xs ++ (x ∷ [])) x
+    best-moves : (xs : List (Entered A)) (b x : Entered A) → behind side b x ≡ true → FirstBest (behind side) xs b → FirstBest (behind side) (xs ++ (x ∷ [])) x
     best-moves xs b x h F = record {
       before = xs;
       later = [];
       among = refl;
-      earlier-worse = λ y m. behind y (List·Memᴰ·append-cases (F .before) (subst (List·Memᴰ y) (F .among) m));
+      earlier-worse = λ y m. earlier y (List·Memᴰ·append-cases (F .before) (subst (List·Memᴰ y) (F .among) m));
       later-no-better = λ y m. absurd (List·Memᴰ·not-nil m);
     }
       where
-        level : (y : Entered A) → (y ≡ b) ⊎ List·Memᴰ y (F .later) → worse side y x ≡ true
-        level y (inl e) = subst (λ (z : Entered A). worse side z x ≡ true) (sym e) h
+        level : (y : Entered A) → (y ≡ b) ⊎ List·Memᴰ y (F .later) → behind side y x ≡ true
+        level y (inl e) = subst (λ (z : Entered A). behind side z x ≡ true) (sym e) h
         level y (inr i) = strict side .past b y x h (F .later-no-better y i)
 
-        behind : (y : Entered A) → List·Memᴰ y (F .before) ⊎ List·Memᴰ y (b ∷ F .later) → worse side y x ≡ true
-        behind y (inl i) = strict side .past b y x h (strict side .asym y b (F .earlier-worse y i))
-        behind y (inr i) = level y (List·Memᴰ·cases-cons i)
+        earlier : (y : Entered A) → List·Memᴰ y (F .before) ⊎ List·Memᴰ y (b ∷ F .later) → behind side y x ≡ true
+        earlier y (inl i) = strict side .past b y x h (strict side .asym y b (F .earlier-worse y i))
+        earlier y (inr i) = level y (List·Memᴰ·cases-cons i)
 
-    best-alone : (x : Entered A) → FirstBest (worse side) (x ∷ []) x
+    best-alone : (x : Entered A) → FirstBest (behind side) (x ∷ []) x
     best-alone x = record { before = []; later = []; among = refl; earlier-worse = λ y m. absurd (List·Memᴰ·not-nil m); later-no-better = λ y m. absurd (List·Memᴰ·not-nil m) }
 
     -- which of the two it is, is asked by `better`
     better-best : (k : Kind) (n : ℕ) (xs : List (Entered A)) (b : Entered A) (r : Seen A)
-        → O .beats k (r .low) (r .high) (b .low) (b .high) ≡ worse side b (asEntered n r) → FirstBest (worse side) xs b
-        → Held worse (toPlay side) (xs ++ (asEntered n r ∷ [])) (better O k n (child (b .node) (b .low) (b .high)) r)
+        → O .beats k (r .low) (r .high) (b .low) (b .high) ≡ behind side b (asEntered n r) → FirstBest (behind side) xs b
+        → Held behind (toPlay side) (xs ++ (asEntered n r ∷ [])) (better O k n (child (b .node) (b .low) (b .high)) r)
     unfolding better
-    better-best k n xs b r is F = rw is (go (worse side b (asEntered n r)) refl)
+    better-best k n xs b r is F = rw is (go (behind side b (asEntered n r)) refl)
       where
-        go : (t : Bool) → worse side b (asEntered n r) ≡ t
-            → Held worse (toPlay side) (xs ++ (asEntered n r ∷ [])) (cond t (child n (r .low) (r .high)) (child (b .node) (b .low) (b .high)))
+        go : (t : Bool) → behind side b (asEntered n r) ≡ t
+            → Held behind (toPlay side) (xs ++ (asEntered n r ∷ [])) (cond t (child n (r .low) (r .high)) (child (b .node) (b .low) (b .high)))
         go true e = best-moves xs b (asEntered n r) e F
         go false e = best-stays xs b (asEntered n r) e F
 
     better-held : (k : Kind) (n : ℕ) (xs : List (Entered A)) (p : Play A) (r : Seen A)
-        → ((b : Entered A) → O .beats k (r .low) (r .high) (b .low) (b .high) ≡ worse side b (asEntered n r)) → Held worse (toPlay side) xs p
-        → Held worse (toPlay side) (xs ++ (asEntered n r ∷ [])) (better O k n p r)
+        → ((b : Entered A) → O .beats k (r .low) (r .high) (b .low) (b .high) ≡ behind side b (asEntered n r)) → Held behind (toPlay side) xs p
+        → Held behind (toPlay side) (xs ++ (asEntered n r ∷ [])) (better O k n p r)
     unfolding better
     better-held k n xs noPlay r is h =
-        subst (λ (l : List (Entered A)). FirstBest (worse side) (l ++ (asEntered n r ∷ [])) (asEntered n r)) (sym h) (best-alone (asEntered n r))
+        subst (λ (l : List (Entered A)). FirstBest (behind side) (l ++ (asEntered n r ∷ [])) (asEntered n r)) (sym h) (best-alone (asEntered n r))
     better-held k n xs (child m l b) r is F = better-best k n xs (record { node = m; low = l; high = b }) r (is (record { node = m; low = l; high = b })) F
 
-  update-held : (e : Frame A) (k : Kind) (n w : ℕ) (s : State A) (r : Seen A) (xs : List (Entered A)) → Held worse (sideOf k) xs (s .play)
-      → Held worse (sideOf k) (xs ++ (asEntered n r ∷ [])) (update O e k n w s r .play)
+  update-held : (e : Frame A) (k : Kind) (n w : ℕ) (s : State A) (r : Seen A) (xs : List (Entered A)) → Held behind (sideOf k) xs (s .play)
+      → Held behind (sideOf k) (xs ++ (asEntered n r ∷ [])) (update O e k n w s r .play)
   unfolding update prefer
   update-held e MAX n w s r xs h = better-held AtM MAX n xs (s .play) r (λ b. asks n r b .0) h
   update-held e MIN n w s r xs h = better-held AtN MIN n xs (s .play) r (λ b. asks n r b .1) h
@@ -116,17 +139,17 @@ module _ {A : Type 0} (O : Arith A) (worse : Side → Entered A → Entered A �
 
   module _ (R : Rules A) where
     after-held : (e : Frame A) (k : Kind) (rest : Forest A) (t : State A) (xs : List (Entered A)) (x : Entered A)
-        → Held worse (sideOf k) (xs ++ (x ∷ [])) (t .play)
-        → Held worse (sideOf k) (xs ++ (x ∷ []) ++ entered O R e k rest t) (scan O R e k rest t .play)
-        → Held worse (sideOf k) (xs ++ (x ∷ cond (stop O (R .margin) rest t) [] (entered O R e k rest t))) (seenAfter O R e k rest t .play)
+        → Held behind (sideOf k) (xs ++ (x ∷ [])) (t .play)
+        → Held behind (sideOf k) (xs ++ (x ∷ []) ++ entered O R e k rest t) (scan O R e k rest t .play)
+        → Held behind (sideOf k) (xs ++ (x ∷ cond (stop O (R .margin) rest t) [] (entered O R e k rest t))) (seenAfter O R e k rest t .play)
     after-held e k rest t xs x h i =
-        both (λ (l : List (Entered A)) (r : Seen A). Held worse (sideOf k) (xs ++ (x ∷ l)) (r .play)) (stop O (R .margin) rest t) (rw (cut-play e k t) h)
-        (subst (λ (l : List (Entered A)). Held worse (sideOf k) l (scan O R e k rest t .play)) (append-assoc xs (x ∷ []) (entered O R e k rest t)) i)
+        both (λ (l : List (Entered A)) (r : Seen A). Held behind (sideOf k) (xs ++ (x ∷ l)) (r .play)) (stop O (R .margin) rest t) (rw (cut-play e k t) h)
+        (subst (λ (l : List (Entered A)). Held behind (sideOf k) l (scan O R e k rest t .play)) (append-assoc xs (x ∷ []) (entered O R e k rest t)) i)
 
-    scan-held : (e : Frame A) (k : Kind) (f : Forest A) (s : State A) (xs : List (Entered A)) → Held worse (sideOf k) xs (s .play)
-        → Held worse (sideOf k) (xs ++ entered O R e k f s) (scan O R e k f s .play)
+    scan-held : (e : Frame A) (k : Kind) (f : Forest A) (s : State A) (xs : List (Entered A)) → Held behind (sideOf k) xs (s .play)
+        → Held behind (sideOf k) (xs ++ entered O R e k f s) (scan O R e k f s .play)
     unfolding scan entered finish
-    scan-held e k end s xs h = subst (λ (l : List (Entered A)). Held worse (sideOf k) l (s .play)) (sym (append-nil xs)) h
+    scan-held e k end s xs h = subst (λ (l : List (Entered A)). Held behind (sideOf k) l (s .play)) (sym (append-nil xs)) h
     scan-held e k (leaf n w v rest) s xs h =
         let r : Seen A = met R e (s .read) (point n v (s .read)) in
         let t : State A = update O e k n w s r in
@@ -138,34 +161,19 @@ module _ {A : Type 0} (O : Arith A) (worse : Side → Entered A → Entered A �
         let j = update-held e k n w s r xs h in
         after-held e k rest t xs (asEntered n r) j (scan-held e k rest t (xs ++ (asEntered n r ∷ [])) j)
 
-    begin-held : (e : Frame A) (k : Kind) (a b : A) (l : List ℕ) → Held worse (sideOf k) [] (begin e k a b l .play)
+    begin-held : (e : Frame A) (k : Kind) (a b : A) (l : List ℕ) → Held behind (sideOf k) [] (begin e k a b l .play)
     unfolding begin
     begin-held e MAX a b l = refl
     begin-held e MIN a b l = refl
     begin-held e CHANCE a b l = refl
 
-    -- the first child is entered
-    entered-some : (e : Frame A) (k : Kind) (f : Forest A) (s : State A) → isEnd f ≡ false → entered O R e k f s ≡ [] → ⊥
-    unfolding entered
-    entered-some e k end s x q = true-ne-false x
-    entered-some e k (leaf n w v rest) s x q = let z : _≡_ {A = ℕ} 0 1 = cc in omega arith
-    entered-some e k (inner n w c under rest) s x q = let z : _≡_ {A = ℕ} 0 1 = cc in omega arith
-
-    pub root-entered : (f : Forest A) → R .full [] ≡ false → isEnd (children f) ≡ false → enteredRoot O R f ≡ [] → ⊥
-    unfolding enteredRoot
-    root-entered end z x q = true-ne-false x
-    root-entered (leaf n w v rest) z x q = true-ne-false x
-    root-entered (inner n w k under rest) z x q =
-        let e : Frame A = R .frame n under in
-        entered-some e k under (begin e k (e .bottom) (e .top) []) x (rw z at q)
-
     -- a node met unread names no play
-    spent-held : (q : Root) (e : Frame A) (l : List ℕ) → Held worse q [] (metSpent e l .play)
+    spent-held : (q : Root) (e : Frame A) (l : List ℕ) → Held behind q [] (metSpent e l .play)
     unfolding metSpent
     spent-held nobody e l = refl
     spent-held (toPlay side) e l = refl
 
-    pub root-held : (f : Forest A) → Held worse (rootOf f) (enteredRoot O R f) (searchRoot O R f .play)
+    pub root-held : (f : Forest A) → Held behind (rootOf f) (enteredRoot O R f) (searchRoot O R f .play)
     unfolding searchRoot search point enteredRoot
     root-held end = refl
     root-held (leaf n w v rest) =
@@ -173,23 +181,16 @@ module _ {A : Type 0} (O : Arith A) (worse : Side → Entered A → Entered A �
     root-held (inner n w k under rest) =
         let e : Frame A = R .frame n under in
         let s : State A = begin e k (e .bottom) (e .top) [] in
-        both (λ (l : List (Entered A)) (r : Seen A). Held worse (sideOf k) l (r .play)) (R .full []) (spent-held (sideOf k) e [])
+        both (λ (l : List (Entered A)) (r : Seen A). Held behind (sideOf k) l (r .play)) (R .full []) (spent-held (sideOf k) e [])
         (scan-held e k under s [] (begin-held e k (e .bottom) (e .top) []))
 
     -- where the root is not met unread
-    pub root-named : (f : Forest A) → R .full [] ≡ false → Filled f → Chosen worse (rootOf f) (enteredRoot O R f) (searchRoot O R f .play)
+    pub root-named : (f : Forest A) → R .full [] ≡ false → Filled f → Chosen behind (rootOf f) (enteredRoot O R f) (searchRoot O R f .play)
     root-named end z x = root-held end
     root-named (leaf n w v rest) z x = root-held (leaf n w v rest)
     root-named (inner n w k under rest) z x =
         let f : Forest A = inner n w k under rest in
-        held-chosen worse (sideOf k) (enteredRoot O R f) (searchRoot O R f .play) (root-entered f z (x .0)) (root-held f)
-
-    -- where it is
-    pub root-unread : (f : Forest A) → R .full [] ≡ true → nodeOf (searchRoot O R f .play) ≡ none
-    unfolding searchRoot search metSpent
-    root-unread end z = refl
-    root-unread (leaf n w v rest) z = rw z refl
-    root-unread (inner n w k under rest) z = rw z refl
+        held-chosen behind (sideOf k) (enteredRoot O R f) (searchRoot O R f .play) (root-entered O R f z (x .0)) (root-held f)
 
 -- ---- the integers
 

@@ -7,9 +7,11 @@ use borrow.Author.Tests.{ltb-true, ltb-false, lt-ltb, le-ltb}
 use lib.Dec.{ltb}
 use lib.IntN.{ℤ, pos, negsuc}
 use lib.Signed.{ltZ}
+use Rattle.field.proofs.Reader.{by-cases}
 use Rattle.line.proofs.Signs.{true-ne-false}
 use Rattle.table.specs.Root.{Side, AtM, AtN}
 use Rattle.search.specs.Search.{below}
+use Rattle.search.proofs.Below.{tied, untied, by-first, by-second}
 use Rattle.promise.specs.Entered.{Entered, worse}
 
 -- where a is less than c, b is above a or below c
@@ -17,36 +19,12 @@ pub record Strict {A : Type 0} (less : A → A → Bool) : Type 0 where
   pub asym : (a b : A) → less a b ≡ true → less b a ≡ false
   pub past : (a b c : A) → less a c ≡ true → less a b ≡ false → less b c ≡ true
 
-split : {P : Type 0} (b : Bool) → (b ≡ true → P) → (b ≡ false → P) → P
-split true f g = f refl
-split false f g = g refl
-
--- p || (not q && r), as `below` has it: where it is true, where it is not, and how it becomes true
-tied : (p q r : Bool) → (p || (not q && r)) ≡ true → p ≡ false → (q ≡ false) × (r ≡ true)
-tied true q r h e = absurd (true-ne-false e)
-tied false true r h e = absurd (true-ne-false (sym h))
-tied false false r h e = (refl, h)
-
-untied : (p q r : Bool) → (p || (not q && r)) ≡ false → (p ≡ false) × (q ≡ false → r ≡ false)
-untied true q r h = absurd (true-ne-false h)
-untied false true r h = (refl, λ e. absurd (true-ne-false e))
-untied false false r h = (refl, λ e. h)
-
-by-first : (p q r : Bool) → p ≡ true → (p || (not q && r)) ≡ true
-by-first true q r e = refl
-by-first false q r e = absurd (true-ne-false (sym e))
-
-by-second : (p q r : Bool) → q ≡ false → r ≡ true → (p || (not q && r)) ≡ true
-by-second true q r e f = refl
-by-second false true r e f = absurd (true-ne-false e)
-by-second false false r e f = f
-
 module _ {A : Type 0} (less : A → A → Bool) (strict : Strict less) where
   -- the same from the other side
   reversed : Strict (λ (a b : A). less b a)
   reversed = record {
     asym = λ a b h. strict .asym b a h;
-    past = λ a b c h k. split (less c b) (λ e. e) (λ e. absurd (true-ne-false (sym (strict .past c b a h e) ∙ k)));
+    past = λ a b c h k. by-cases (less c b) (λ e. e) (λ e. absurd (true-ne-false (sym (strict .past c b a h e) ∙ k)));
   }
 
   below-asym : (a b x y : A) → below less a b x y ≡ true → below less b a y x ≡ false
@@ -64,13 +42,13 @@ module _ {A : Type 0} (less : A → A → Bool) (strict : Strict less) where
   unfolding below
   below-past a b c x y z h k =
       let n = untied (less a b) (less b a) (less x y) k in
-      split (less a c)
+      by-cases (less a c)
       (λ ac. by-first (less b c) (less c b) (less y z) (strict .past a b c ac (n .0)))
       (λ ac.
       let t = tied (less a c) (less c a) (less x z) h ac in
-      split (less b a)
+      by-cases (less b a)
       (λ ba. by-first (less b c) (less c b) (less y z) (reversed .past a c b ba (t .0)))
-      (λ ba. by-second (less b c) (less c b) (less y z) (split (less c b) (λ cb. absurd (true-ne-false (sym (strict .past c a b cb (t .0)) ∙ n .0))) (λ cb. cb)) (strict .past x y z (t .1) (n .1 ba))))
+      (λ ba. by-second (less b c) (less c b) (less y z) (by-cases (less c b) (λ cb. absurd (true-ne-false (sym (strict .past c a b cb (t .0)) ∙ n .0))) (λ cb. cb)) (strict .past x y z (t .1) (n .1 ba))))
 
 module _ {A : Type 0} (less : A → A → Bool) (strict : Strict less) where
   by-two : (f g : Entered A → A) → Strict (λ (x y : Entered A). below less (f x) (f y) (g x) (g y))

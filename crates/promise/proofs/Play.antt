@@ -9,7 +9,7 @@ use Rattle.table.specs.Tree.{Kind, MAX, MIN, CHANCE, Forest, end, leaf, inner}
 use Rattle.table.specs.Inside.{sealed}
 use Rattle.search.specs.Search.{Frame, Play, noPlay, child, Seen, State, Rules, begin, lower, upper, safer, prefer, update, finish, cut, stop, point, metSpent, met, scan, search}
 use Rattle.search.specs.Inside.{natural}
-use Rattle.search.proofs.Steps.{seenUnder, seenAfter}
+use Rattle.search.proofs.Steps.{cond-is, seenUnder, seenAfter}
 use Rattle.search.proofs.Below.{below-le, below-ge}
 use Rattle.search.proofs.Heights.{Within, start, total, worth}
 use Rattle.search.proofs.Contain.{Holding, hold-point, hold-under, hold-met, contained}
@@ -44,7 +44,7 @@ module _ (R : Rules ℕ) (g : Forest ℕ) where
   unfolding prefer safer
   mark-max e n lo hi noPlay r v c h j = (v, c, omega arith, h .1)
   mark-max e n lo hi (child m l b) r v c h j =
-      choose (Marked (R .frame) g e MAX (max lo (r .low)) (max hi (r .high))) (natural .beats MAX (r .low) (r .high) l b)
+      cond-is (Marked (R .frame) g e MAX (max lo (r .low)) (max hi (r .high))) (natural .beats MAX (r .low) (r .high) l b)
       (λ p. (v, c, omega (arith, below-le l (r .low) b (r .high) p, j .2), h .1))
       (λ p. (j .0, j .1, omega (arith, below-ge l (r .low) b (r .high) p, j .2), j .3))
 
@@ -53,7 +53,7 @@ module _ (R : Rules ℕ) (g : Forest ℕ) where
   unfolding prefer safer
   mark-min e n lo hi noPlay r v c h j = (v, c, omega arith, h .2)
   mark-min e n lo hi (child m l b) r v c h j =
-      choose (Marked (R .frame) g e MIN (min lo (r .low)) (min hi (r .high))) (natural .beats MIN (r .low) (r .high) l b)
+      cond-is (Marked (R .frame) g e MIN (min lo (r .low)) (min hi (r .high))) (natural .beats MIN (r .low) (r .high) l b)
       (λ p. (v, c, omega (arith, below-le (r .high) b (r .low) l p, j .2), h .2))
       (λ p. (j .0, j .1, omega (arith, below-ge (r .high) b (r .low) l p, j .2), j .3))
 

@@ -1,7 +1,7 @@
 -- The search of a tree turned about is the search turned about. Assumes nothing.
 use Prim.Native.Nat.{ℕ, _+_, _*_, _-_, _/_, min, max, _≤_}
 use mathlib.Core.Path.{_≡_, refl, ap, ap₂, _∙_}
-use mathlib.Core.Bool.{Bool, false, not, _&&_}
+use mathlib.Core.Bool.{false, not, _&&_}
 use mathlib.Core.List.{List, []}
 use native.Mathlib.Nat.{mul-div-le, le-trans}
 use native.Mathlib.Omega.{arith}

@@ -49,13 +49,13 @@ module _ {A : Type 0} where
   worse less AtM x y = below less (x .low) (y .low) (x .high) (y .high)
   worse less AtN x y = below less (y .high) (x .high) (y .low) (x .low)
 
-  -- "a tie still left goes to the first": every child entered before the best is worse, and the best is worse than none entered later
-  pub record FirstBest (worse : Entered A → Entered A → Bool) (xs : List (Entered A)) (best : Entered A) : Type 0 where
+  -- "a tie still left goes to the first": every child entered before the best is behind it, and the best is behind none entered later
+  pub record FirstBest (behind : Entered A → Entered A → Bool) (xs : List (Entered A)) (best : Entered A) : Type 0 where
     pub before : List (Entered A)
     pub later : List (Entered A)
     pub among : xs ≡ before ++ (best ∷ later)
-    pub earlier-worse : (x : Entered A) → List·Memᴰ x before → worse x best ≡ true
-    pub later-no-better : (x : Entered A) → List·Memᴰ x later → worse best x ≡ false
+    pub earlier-worse : (x : Entered A) → List·Memᴰ x before → behind x best ≡ true
+    pub later-no-better : (x : Entered A) → List·Memᴰ x later → behind best x ≡ false
 
 -- in the search of a table at the margin ε, until the budget is spent
 abbrev pub enteredOf : Table → (ε : ℕ) (full : List ℕ → Bool) → List (Entered ℤ)

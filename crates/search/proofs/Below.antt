@@ -1,31 +1,42 @@
 -- What holds of `below`, by which plays are compared. Document 02, Item 6. Assumes nothing.
 use Prim.Native.Nat.{ℕ, _≤_}
-use mathlib.Core.Path.{_≡_, refl, ap₂}
+use mathlib.Core.Path.{_≡_, refl, sym, ap₂}
 use mathlib.Core.Bool.{Bool, true, false, not, _&&_, _||_}
 use native.Mathlib.Omega.{arith}
-use borrow.Author.Tests.{ltb-false, lt-ltb, le-ltb}
-use lib.Dec.{T as Holds, ltb, ltb→lt, nltb→le}
+use borrow.Author.Tests.{ltb-true, ltb-false, lt-ltb, le-ltb}
+use lib.Dec.{ltb}
+use Rattle.field.proofs.Reader.{by-cases}
+use Rattle.line.proofs.Signs.{true-ne-false}
 use Rattle.search.specs.Search.{below}
 
-or-yes : (a b : Bool) {P : Type 0} → (Holds a → P) → (Holds b → P) → Holds (a || b) → P
-or-yes true b f g h = f tt
-or-yes false b f g h = g h
+-- p || (not q && r), as `below` has it: where it is true and p is not, where it is not, and how it becomes true
+pub tied : (p q r : Bool) → (p || (not q && r)) ≡ true → p ≡ false → (q ≡ false) × (r ≡ true)
+tied true q r h e = absurd (true-ne-false e)
+tied false true r h e = absurd (true-ne-false (sym h))
+tied false false r h e = (refl, h)
 
-or-no : (a b : Bool) → Holds (not (a || b)) → Holds (not a)
-or-no true b h = h
-or-no false b h = tt
+pub untied : (p q r : Bool) → (p || (not q && r)) ≡ false → (p ≡ false) × (q ≡ false → r ≡ false)
+untied true q r h = absurd (true-ne-false h)
+untied false true r h = (refl, λ e. absurd (true-ne-false e))
+untied false false r h = (refl, λ e. h)
 
-and-yes : (a b : Bool) → Holds (a && b) → Holds a
-and-yes true b h = tt
-and-yes false b h = h
+pub by-first : (p q r : Bool) → p ≡ true → (p || (not q && r)) ≡ true
+by-first true q r e = refl
+by-first false q r e = absurd (true-ne-false (sym e))
 
-pub below-le : (a b x y : ℕ) → Holds (below ltb a b x y) → a ≤ b
+pub by-second : (p q r : Bool) → q ≡ false → r ≡ true → (p || (not q && r)) ≡ true
+by-second true q r e f = refl
+by-second false true r e f = absurd (true-ne-false e)
+by-second false false r e f = f
+
+pub below-le : (a b x y : ℕ) → below ltb a b x y ≡ true → a ≤ b
 unfolding below
-below-le a b x y = or-yes (ltb a b) _ (λ h. omega (arith, ltb→lt a b h)) (λ h. nltb→le b a (and-yes (not (ltb b a)) _ h))
+below-le a b x y h =
+    by-cases (ltb a b) (λ e. omega (arith, ltb-true a b e)) (λ e. ltb-false b a (tied (ltb a b) (ltb b a) (ltb x y) h e .0))
 
-pub below-ge : (a b x y : ℕ) → Holds (not (below ltb a b x y)) → b ≤ a
+pub below-ge : (a b x y : ℕ) → below ltb a b x y ≡ false → b ≤ a
 unfolding below
-below-ge a b x y h = nltb→le a b (or-no (ltb a b) _ h)
+below-ge a b x y h = ltb-false a b (untied (ltb a b) (ltb b a) (ltb x y) h .0)
 
 -- where there is a tie, and where there is none
 pub below-tie : (a b x y : ℕ) → a ≡ b → below ltb a b x y ≡ ltb x y

@@ -12,6 +12,11 @@ cond-map h x y false = refl
 pub cond-past : {A : Type 0} (b : Bool) (x y : A) → b ≡ false → cond b x y ≡ y
 cond-past b x y e = rw e refl
 
+-- a property of either answer of a test, by which it is
+pub cond-is : {A : Type 0} {x y : A} (P : A → Type 0) (b : Bool) → (b ≡ true → P x) → (b ≡ false → P y) → P (cond b x y)
+cond-is P true f g = f refl
+cond-is P false f g = g refl
+
 -- a property of either pair of answers of one test
 pub both : {A B : Type 0} {x y : A} {u v : B} (P : A → B → Type 0) (b : Bool) → P x u → P y v → P (cond b x y) (cond b u v)
 both P true h k = h

@@ -1,4 +1,5 @@
--- The search with the play of document 01 alone, as it was before document 02's Item 6. Only the theorem that bounds and leaves are as before names it.
+-- The search with the play of document 01 alone, as it was before document 02's Item 6: for the theorem that bounds and leaves are as before, and for
+-- what ties it would name otherwise.
 use Prim.Native.Nat.{ℕ}
 use mathlib.Core.Bool.{Bool, false}
 use mathlib.Core.List.{List}

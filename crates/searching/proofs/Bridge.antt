@@ -1,12 +1,12 @@
 -- The code's states stand for those of Algorithm 1 over heights. Assumes nothing.
 -- Of the best child the code keeps the number and the bound by which a tie is broken: its low is the low of an M so far, and its high the high of an N.
 use Prim.Native.Nat.{ℕ, _+_, _*_, _≤_, _<_}
-use mathlib.Core.Path.{_≡_, refl, sym, ap, ap₂, subst, _∙_}
-use mathlib.Core.Bool.{Bool, true, false, not, _||_, cond}
+use mathlib.Core.Path.{_≡_, refl, sym, ap, ap₂, _∙_}
+use mathlib.Core.Bool.{Bool, true, false, cond}
 use mathlib.Core.List.{List, [], _∷_, _++_, append-nil, append-assoc}
 use native.Mathlib.Omega.{arith}
 use borrow.Author.Tests.{ne-eqb}
-use lib.Dec.{T as Holds, eqb, ltb, leb, leb→le, le→leb}
+use lib.Dec.{ltb, leb, leb→le, le→leb}
 use lib.ListN.{length, length-append}
 use Rattle.numbers.proofs.Signs.{same-test}
 use Rattle.line.proofs.Signs.{true-ne-false}
@@ -22,6 +22,7 @@ use Rattle.steps.specs.declared.Ends.{Ends}
 use Rattle.steps.specs.declared.State.{State}
 use Rattle.steps.specs.declared.Window.{Window}
 use Rattle.steps.specs.Inside.{frameAt, lift, windowFor, takes, after, rulesOf, playAt, leafSeen}
+use Rattle.steps.proofs.Takes.{first-taken, later-taken}
 use Rattle.searching.specs.Inside.{seenIn}
 
 -- ---- the leaves read before change nothing else
@@ -199,34 +200,27 @@ pub plays-number : (e : Frame ℕ) (k : Kind) (s : State) (p : Play ℕ) → Pla
 plays-number e k s noPlay h = ap playAt (h .0)
 plays-number e k s (child m l x) h = ap playAt (h .0) ∙ rw (ne-eqb m 0 (λ e. omega (arith, h .1))) refl
 
--- the first child is taken; later ones where they beat the best
-first-taken : (play : ℕ) (b : Bool) → play ≡ 0 → (eqb play 0 || b) ≡ true
-first-taken play b e = rw e refl
-
-later-taken : (play : ℕ) (b c : Bool) → 0 < play → b ≡ c → (eqb play 0 || b) ≡ c
-later-taken play b c p q = rw (ne-eqb play 0 (λ e. omega arith), q) refl
-
 module _ (e : Frame ℕ) (i w m low high : ℕ) (s : State) (q : s .play ≡ m) (p : 0 < m) (z : 0 < i) where
   -- a later child of an M: it is better than the best so far, or not
   max-later : (b : Bool) → below ltb (s .low) low (s .other) high ≡ b
       → Plays e MAX (after e MAX i w s low high) (cond b (child i low high) (child m (s .low) (s .other)))
   unfolding update
   max-later true t =
-      let x : takes MAX s low high ≡ true = later-taken (s .play) _ true (omega arith) t in
-      (rw x refl, z, (omega (arith, below-le (s .low) low (s .other) high (subst Holds (sym t) tt)), rw x refl))
+      let x : takes MAX s low high ≡ true = later-taken (s .play) _ true (λ z. omega arith) t in
+      (rw x refl, z, (omega (arith, below-le (s .low) low (s .other) high t), rw x refl))
   max-later false t =
-      let x : takes MAX s low high ≡ false = later-taken (s .play) _ false (omega arith) t in
-      (rw x q, p, (omega (arith, below-ge (s .low) low (s .other) high (subst (λ (b : Bool). Holds (not b)) (sym t) tt)), rw x refl))
+      let x : takes MAX s low high ≡ false = later-taken (s .play) _ false (λ z. omega arith) t in
+      (rw x q, p, (omega (arith, below-ge (s .low) low (s .other) high t), rw x refl))
 
   min-later : (b : Bool) → below ltb high (s .high) low (s .other) ≡ b
       → Plays e MIN (after e MIN i w s low high) (cond b (child i low high) (child m (s .other) (s .high)))
   unfolding update
   min-later true t =
-      let x : takes MIN s low high ≡ true = later-taken (s .play) _ true (omega arith) t in
-      (rw x refl, z, (omega (arith, below-le high (s .high) low (s .other) (subst Holds (sym t) tt)), rw x refl))
+      let x : takes MIN s low high ≡ true = later-taken (s .play) _ true (λ z. omega arith) t in
+      (rw x refl, z, (omega (arith, below-le high (s .high) low (s .other) t), rw x refl))
   min-later false t =
-      let x : takes MIN s low high ≡ false = later-taken (s .play) _ false (omega arith) t in
-      (rw x q, p, (omega (arith, below-ge high (s .high) low (s .other) (subst (λ (b : Bool). Holds (not b)) (sym t) tt)), rw x refl))
+      let x : takes MIN s low high ≡ false = later-taken (s .play) _ false (λ z. omega arith) t in
+      (rw x q, p, (omega (arith, below-ge high (s .high) low (s .other) t), rw x refl))
 
 -- A is what the child i gave
 pub plays-after : (e : Frame ℕ) (k : Kind) (i w : ℕ) (s : State) (p : Play ℕ) (A : Seen ℕ) → 0 < i → e .bottom ≤ A .low → A .high ≤ e .top → Plays e k s p

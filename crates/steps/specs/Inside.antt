@@ -37,7 +37,7 @@ takes MAX s low high = eqb (s .play) 0 || below ltb (s .low) low (s .other) high
 takes MIN s low high = eqb (s .play) 0 || below ltb high (s .high) low (s .other)
 takes CHANCE s low high = false
 
--- the best child's other bound, of a child's two
+-- of a child's two bounds the one that breaks a tie
 abbrev pub otherOf : Kind → (low high : ℕ) → ℕ
 otherOf MAX low high = high
 otherOf MIN low high = low

@@ -59,7 +59,8 @@ pub fn stopped(g: Rule, s: State) -> bool
     s.beta <= s.alpha + g.margin
 }
 
-// Whether a child takes the place of the best so far: the first entered does, and then each that is better. Here a is below b, or equal and x below y.
+// Whether a child takes the place of the best so far: the first entered does, and then each that is better, which means that a is below b, or that they
+// are equal and x is below y.
 fn beats(play: usize, a: u64, b: u64, x: u64, y: u64) -> bool
     ensures { λ r. ⌜ r ≡ (eqb play 0 || below ltb a b x y) ⌝ }
 {
@@ -77,24 +78,19 @@ pub fn max_after(v: Ends, i: usize, s: State, low: u64, high: u64) -> State
     let h = max_of(s.high, high);
     let a = max_of(s.alpha, l);
     let b = min_of(s.beta, v.top);
-    if beats(s.play, s.low, low, s.other, high) {
-        return State {
-            alpha: a,
-            beta: b,
-            low: l,
-            high: h,
-            play: i,
-            other: high,
-        };
-    }
-    State {
+    let mut t = State {
         alpha: a,
         beta: b,
         low: l,
         high: h,
         play: s.play,
         other: s.other,
+    };
+    if beats(s.play, s.low, low, s.other, high) {
+        t.play = i;
+        t.other = high;
     }
+    t
 }
 
 // After the child i of an N, lines 17, 18, 22 and 23: until the last child its low is its own bottom.
@@ -105,24 +101,19 @@ pub fn min_after(v: Ends, i: usize, s: State, low: u64, high: u64) -> State
     let h = min_of(s.high, high);
     let a = max_of(s.alpha, v.bottom);
     let b = min_of(s.beta, h);
-    if beats(s.play, high, s.high, low, s.other) {
-        return State {
-            alpha: a,
-            beta: b,
-            low: l,
-            high: h,
-            play: i,
-            other: low,
-        };
-    }
-    State {
+    let mut t = State {
         alpha: a,
         beta: b,
         low: l,
         high: h,
         play: s.play,
         other: s.other,
+    };
+    if beats(s.play, high, s.high, low, s.other) {
+        t.play = i;
+        t.other = low;
     }
+    t
 }
 
 // The window of a C's child of weight w, lines 9 and 10, rounded outward.

@@ -1,12 +1,15 @@
 -- `steps::beats` meets its contract. Assumes nothing.
-use Rattle.steps.proofs.Takes.{first-beats, tie-beats, apart-beats}
+use mathlib.Core.Path.{sym}
+use lib.Dec.{ltb}
+use Rattle.search.specs.Search.{below}
+use Rattle.steps.proofs.Takes.{first-taken, tie-beats, apart-beats}
 use Rattle.steps.proofs.beats.Statement.{statement}
 use Rattle.steps.proofs.beats.Tie as tie
 
 returns : tie.Need-returns
 returns c =
     let a = c .before .args in
-    first-beats (a .play) (a .a) (a .b) (a .x) (a .y) (c .if1 .taken)
+    sym (first-taken (a .play) (below ltb (a .a) (a .b) (a .x) (a .y)) (c .if1 .taken))
 
 returns-2 : tie.Need-returns-2
 returns-2 c =
