@@ -38,8 +38,8 @@ still equal it is the first.
 With --budget N, 0 to 1,024, at most N leaves are read. Where that is too few,
 the budget is spent: the worth still lies from low to high, and the play is worth
 at least low at an M root, at most high at an N root, but the margin need not be
-kept. A play that was not looked into then counts with the two ends as its bounds,
-and may be the one named.
+kept. A play that the search comes to when no read is left counts with the two
+ends as its bounds, and may be the one named.
 ",
         MARGINS,
     ],
@@ -108,7 +108,7 @@ impl Searched {
         if let Play::Child { node, .. } = found.play {
             let under = node..table.nodes[node].stop;
             if !found.leaves.iter().any(|leaf| under.contains(leaf)) {
-                // With a spent budget such a play has the ends as its bounds.
+                // A play that is entered with a read left has a leaf of it read.
                 played.note = ", not looked into";
             }
         }
