@@ -5,7 +5,7 @@
 //! number.
 
 use compare::hold::budget::{
-    hold_to, no_budget, questions, Asked, Comparison, Steps, AFTER_UNREAD,
+    hold_to, no_budget, questions, turning_points, Asked, Comparison, AFTER_UNREAD,
 };
 use compare::hold::numbers::ROOM;
 use compare::hold::searching::Expected;
@@ -154,7 +154,7 @@ fn reads_that_end_in_a_chance_node() {
         let table = second::read(&text).expect("valid");
         let mut asked = Vec::new();
         for budget in budgets_in_chance_nodes(&table, &mut random) {
-            for margin in turning_points(&table, budget) {
+            for margin in turning_points(&table, Some(budget)) {
                 let beside = [margin - 1, margin, margin + 1];
                 asked.extend(beside.map(|margin| Asked { margin, budget }));
             }
@@ -194,17 +194,6 @@ fn budgets_in_chance_nodes(table: &Table, random: &mut Random) -> Vec<i64> {
         random.between(least, most)
     };
     (0..2).map(one).collect()
-}
-
-/// The margins, from the least, at each of which a cut test of the search within this
-/// budget just begins to cut.
-fn turning_points(table: &Table, budget: i64) -> Vec<i64> {
-    let next = |margin: i64| {
-        let steps = Steps::of(table, Terms::within(margin, budget));
-        let gaps = steps.tests.iter().map(|test| test.gap);
-        gaps.filter(|gap| *gap > margin).min()
-    };
-    std::iter::successors(next(0), |margin| next(*margin)).collect()
 }
 
 /// Counts where another way to round a window would have changed the answer of a
@@ -247,15 +236,17 @@ const LEAF_BETWEEN: &str = "\
 /// whether the budget was spent; and the leaves read.
 type Known = ((i64, i64), (i64, i64, usize, bool), &'static [u16]);
 
-/// Table A. With margin 3 the first N is cut after its first leaf.
+/// Table A. With margin 3 the first N is cut after its first leaf. Where one leaf is read,
+/// that N is 0 to 3; the second one is met unread and so 0 to 10, which makes it the play
+/// (Item 6).
 const OF_TABLE_A: &[Known] = &[
     ((0, 0), (0, 10, 0, true), &[]),
-    ((0, 1), (0, 10, 1, true), &[2]),
+    ((0, 1), (0, 10, 4, true), &[2]),
     ((0, 2), (3, 10, 1, true), &[2, 3]),
     ((0, 3), (3, 3, 1, false), &[2, 3, 5]),
     ((0, 4), (3, 3, 1, false), &[2, 3, 5]),
     ((0, 1_024), (3, 3, 1, false), &[2, 3, 5]),
-    ((3, 1), (0, 10, 1, true), &[2]),
+    ((3, 1), (0, 10, 4, true), &[2]),
     ((3, 2), (0, 3, 1, false), &[2, 5]),
     ((10, 0), (0, 10, 0, true), &[]),
     ((10, 1), (0, 10, 1, false), &[2]),

@@ -9,7 +9,8 @@ use super::{code, span};
 use crate::engine;
 use crate::random::Random;
 use crate::second::{
-    self, Found, Kind, Refusal, Step, Table, Terms, GREATEST_BUDGET, GREATEST_MARGIN, MOST_NODES,
+    self, Entered, Found, Kind, Refusal, Step, Table, Terms, GREATEST_BUDGET, GREATEST_MARGIN,
+    MOST_NODES,
 };
 
 /// What a call is asked for.
@@ -278,7 +279,9 @@ fn count_unread(seen: &mut Seen, table: &Table, asked: Asked, found: Found) {
         let sort = format!("a node met unread under {kind:?}");
         seen.count(&sort, below().any(under));
         // A cut after such a child changes no answer, as what it leaves out would be met
-        // unread; those before count for more.
+        // unread; those before count for more. This is so at the root too: a play met
+        // unread may be named only where the bound that decides is still an end, and a
+        // margin that cuts there is as wide as the ends, so that one leaf is all it reads.
         for (when, unread) in [(" while reads are left", false), (AFTER_UNREAD, true)] {
             let tests = || steps.tests.iter().filter(|test| test.unread == unread);
             let mut count = |sort: &str, is_one: &dyn Fn(i64) -> bool| {
@@ -291,28 +294,30 @@ fn count_unread(seen: &mut Seen, table: &Table, asked: Asked, found: Found) {
             count("just not cut", &|gap| gap == asked.margin + 1);
         }
     }
+    let unread_play = below().find(|node| nodes[**node].parent == Some(0));
+    let named_unread = found.play.is_some_and(|play| steps.unread.contains(&play));
     for side in SIDES {
-        let here = |is_one: bool| root == side && is_one;
-        let within = |node: &usize| {
-            found
-                .play
-                .is_some_and(|p| (p..nodes[p].stop).contains(node))
+        let mut count = |sort: &str, is_one: bool| {
+            seen.count(&format!("{sort} at {side:?}"), root == side && is_one);
         };
-        let sort = format!("a node met unread in the play at {side:?}");
-        seen.count(&sort, here(below().any(within)));
-        let play = |node: &usize| nodes[*node].parent == Some(0);
-        let unread = here(below().any(play));
-        seen.count(&format!("a play met unread at {side:?}"), unread);
-        let level = match side {
+        let within = |node: &usize| {
+            let under = |play: usize| (play + 1..nodes[play].stop).contains(node);
+            found.play.is_some_and(under)
+        };
+        count("a node met unread under the play", below().any(within));
+        count("a play met unread", unread_play.is_some());
+        count("a play met unread named", named_unread);
+    }
+    // A play met unread has the two ends as its bounds, so it is named only where the
+    // bound that decides is still an end, and the first of several (Item 6).
+    if named_unread {
+        assert_eq!(found.play, unread_play.copied(), "{found:?}");
+        let end = match root {
             Kind::Max => found.low == table.lowest * table.grains,
             _ => found.high == table.highest * table.grains,
         };
-        let sort = format!("a play met unread as good as the one at {side:?}");
-        seen.count(&sort, unread && level);
+        assert!(end, "{found:?}");
     }
-    // The first play is entered while reads are left, and nothing met unread beats it.
-    let play = found.play.unwrap_or(0);
-    assert!(play == 0 || !steps.unread.contains(&play), "{found:?}");
 }
 
 fn count_answer(seen: &mut Seen, table: &Table, worths: &[i64], asked: Asked, found: Found) {
@@ -338,6 +343,8 @@ pub struct Steps {
     /// The nodes met when no read was left.
     pub unread: Vec<usize>,
     pub tests: Vec<Test>,
+    /// The root's children that were entered, in line order.
+    pub entered: Vec<Entered>,
 }
 
 /// A cut test.
@@ -353,7 +360,7 @@ pub struct Test {
 
 impl Steps {
     pub fn of(table: &Table, terms: Terms) -> Steps {
-        let (mut unread, mut tests) = (Vec::new(), Vec::new());
+        let (mut unread, mut tests, mut entered) = (Vec::new(), Vec::new(), Vec::new());
         let mut list = [PATTERN; MOST_NODES];
         let searched = second::search_watched(table, terms, &mut list, |step| match step {
             Step::Unread(node) => {
@@ -375,10 +382,30 @@ impl Steps {
                     unread: last.is_some(),
                 });
             }
+            Step::Play(play) => entered.push(play),
         });
         searched.expect("an answer");
-        Steps { unread, tests }
+        Steps {
+            unread,
+            tests,
+            entered,
+        }
     }
+}
+
+/// The margins, from the least, at each of which a cut test of the search within this
+/// budget, or without one, just begins to cut.
+pub fn turning_points(table: &Table, budget: Option<i64>) -> Vec<i64> {
+    let next = |margin: i64| {
+        let terms = Terms {
+            budget,
+            ..Terms::of(margin)
+        };
+        let tests = Steps::of(table, terms).tests;
+        let gaps = tests.iter().map(|test| test.gap);
+        gaps.filter(|gap| *gap > margin).min()
+    };
+    std::iter::successors(next(0), |margin| next(*margin)).collect()
 }
 
 /// Margins with budgets for a table: fewer leaves than the search reads, as many or

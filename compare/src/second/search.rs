@@ -1,5 +1,6 @@
-//! The bounded search, Algorithm 1 of document 000 in grains, and its leaf budget
-//! (document 02, Item 3): refusals 12, 17 and 11.
+//! The bounded search, Algorithm 1 of document 000 in grains, with its leaf budget
+//! (document 02, Item 3) and its choice among equal plays (Item 6): refusals 12, 17
+//! and 11.
 
 use super::table::*;
 
@@ -48,6 +49,7 @@ pub struct Terms {
     /// In leaves; none where there is no budget.
     pub budget: Option<i64>,
     pub rounding: Rounding,
+    pub ties: Ties,
 }
 
 impl Terms {
@@ -57,6 +59,7 @@ impl Terms {
             margin,
             budget: None,
             rounding: Rounding::Outward,
+            ties: Ties::Safer,
         }
     }
 
@@ -80,6 +83,55 @@ pub enum Rounding {
     BetaDown,
 }
 
+/// Which play is named where several share the highest low at an M root, or the lowest
+/// high at an N root. Document 02, Item 6 wants the safer; the other ways are there for
+/// tests to count where one would have named another play.
+#[derive(Clone, Copy, Debug, PartialEq, Eq)]
+pub enum Ties {
+    /// Item 6: at M the one with the highest high, at N the one with the lowest low; of
+    /// several such the first.
+    Safer,
+    /// Document 01 alone: the first.
+    First,
+    /// As Item 6, but of several such the last.
+    Last,
+    /// The highest low at N; at M as Item 6.
+    HighestLowAtMin,
+    /// The lowest high at M; at N as Item 6.
+    LowestHighAtMax,
+}
+
+impl Ties {
+    /// The play at a root of this kind, of those entered in line order; none at a C or
+    /// L, or where none was entered.
+    fn play(self, root: Kind, entered: &[Entered]) -> Option<usize> {
+        // The best play has the least pair of numbers.
+        let pair: fn(Bounds) -> (i64, i64) = match (root, self) {
+            (Kind::Max, Ties::First) => |found| (-found.low, 0),
+            (Kind::Max, Ties::LowestHighAtMax) => |found| (-found.low, found.high),
+            (Kind::Max, _) => |found| (-found.low, -found.high),
+            (Kind::Min, Ties::First) => |found| (found.high, 0),
+            (Kind::Min, Ties::HighestLowAtMin) => |found| (found.high, -found.low),
+            (Kind::Min, _) => |found| (found.high, found.low),
+            (Kind::Chance | Kind::Leaf, _) => return None,
+        };
+        // Of several that are equal this takes the first that it meets.
+        let best = match self {
+            Ties::Last => entered.iter().rev().min_by_key(|play| pair(play.bounds)),
+            _ => entered.iter().min_by_key(|play| pair(play.bounds)),
+        };
+        best.map(|play| play.node)
+    }
+}
+
+/// A child of the root that was entered, and what was found there. By Item 6 one that is
+/// met when no read is left counts as entered, with the two ends as its bounds.
+#[derive(Clone, Copy, Debug, PartialEq, Eq)]
+pub struct Entered {
+    pub node: usize,
+    pub bounds: Bounds,
+}
+
 /// What is shown of a search on its way.
 #[derive(Clone, Copy, Debug)]
 pub enum Step {
@@ -88,6 +140,8 @@ pub enum Step {
     Test(usize, Window),
     /// A node met when no read is left.
     Unread(usize),
+    /// A child of the root, when all of it is searched that will be.
+    Play(Entered),
 }
 
 /// The search, where each step is shown to `watch`.
@@ -124,19 +178,14 @@ pub fn search_watched(
         read: 0,
         most,
         spent: false,
+        entered: Vec::new(),
         watch,
     };
-    let (bounds, play) = match table.nodes[0].kind {
-        _ if most == 0 => (search.unread(0), None),
-        Kind::Leaf => (search.leaf(0), None),
-        Kind::Max => search.max(0, whole).playing(),
-        Kind::Min => search.min(0, whole).playing(),
-        Kind::Chance => (search.chance(0, whole), None),
-    };
+    let bounds = search.enter(0, || whole);
     Ok(Found {
         low: bounds.low,
         high: bounds.high,
-        play,
+        play: terms.ties.play(table.nodes[0].kind, &search.entered),
         read: search.read,
         spent: search.spent,
     })
@@ -226,18 +275,6 @@ impl Window {
     }
 }
 
-/// The bounds of an M or N, and the child to play there.
-struct Choice {
-    bounds: Bounds,
-    play: usize,
-}
-
-impl Choice {
-    fn playing(self) -> (Bounds, Option<usize>) {
-        (self.bounds, Some(self.play))
-    }
-}
-
 struct Search<'a, W> {
     nodes: &'a [Node],
     grains: i64,
@@ -248,6 +285,8 @@ struct Search<'a, W> {
     /// The most leaves to read.
     most: usize,
     spent: bool,
+    /// The root's children, in line order.
+    entered: Vec<Entered>,
     watch: W,
 }
 
@@ -255,15 +294,19 @@ impl<W: FnMut(Step)> Search<'_, W> {
     /// Searches a node by the rule of its kind if a read is left. A leaf needs no
     /// window.
     fn enter(&mut self, node: usize, window: impl FnOnce() -> Window) -> Bounds {
-        if self.read == self.most {
-            return self.unread(node);
-        }
-        match self.nodes[node].kind {
+        let bounds = match self.nodes[node].kind {
+            _ if self.read == self.most => self.unread(node),
             Kind::Leaf => self.leaf(node),
-            Kind::Max => self.max(node, window()).bounds,
-            Kind::Min => self.min(node, window()).bounds,
+            Kind::Max => self.max(node, window()),
+            Kind::Min => self.min(node, window()),
             Kind::Chance => self.chance(node, window()),
+        };
+        if self.nodes[node].parent == Some(0) {
+            let entered = Entered { node, bounds };
+            self.entered.push(entered);
+            (self.watch)(Step::Play(entered));
         }
+        bounds
     }
 
     /// A node met when no read is left, of whatever kind.
@@ -284,54 +327,44 @@ impl<W: FnMut(Step)> Search<'_, W> {
         }
     }
 
-    fn max(&mut self, node: usize, mut window: Window) -> Choice {
+    fn max(&mut self, node: usize, mut window: Window) -> Bounds {
         let stop = self.nodes[node].stop;
         let mut bounds = self.ends();
         let mut best_high = self.scale.least;
         let mut child = node + 1;
-        // No low is below the least value, so if none is above it, the first
-        // child has the highest.
-        let mut play = child;
         loop {
             let found = self.enter(child, || window);
-            if found.low > bounds.low {
-                play = child;
-            }
             best_high = best_high.max(found.high);
             bounds.low = bounds.low.max(found.low);
             window.narrow(bounds);
             child = self.nodes[child].stop;
             if child == stop {
                 bounds.high = best_high;
-                return Choice { bounds, play };
+                return bounds;
             }
             if self.cuts(node, window) {
-                return Choice { bounds, play };
+                return bounds;
             }
         }
     }
 
-    fn min(&mut self, node: usize, mut window: Window) -> Choice {
+    fn min(&mut self, node: usize, mut window: Window) -> Bounds {
         let stop = self.nodes[node].stop;
         let mut bounds = self.ends();
         let mut best_low = self.scale.greatest;
         let mut child = node + 1;
-        let mut play = child;
         loop {
             let found = self.enter(child, || window);
-            if found.high < bounds.high {
-                play = child;
-            }
             best_low = best_low.min(found.low);
             bounds.high = bounds.high.min(found.high);
             window.narrow(bounds);
             child = self.nodes[child].stop;
             if child == stop {
                 bounds.low = best_low;
-                return Choice { bounds, play };
+                return bounds;
             }
             if self.cuts(node, window) {
-                return Choice { bounds, play };
+                return bounds;
             }
         }
     }
