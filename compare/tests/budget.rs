@@ -12,6 +12,7 @@ use compare::hold::searching::Expected;
 use compare::hold::seen::Seen;
 use compare::hold::span;
 use compare::hold::tally::OF_TABLES;
+use compare::hold::ties::{self, AWAY, BEHIND};
 use compare::random::{number_from_environment, Random};
 use compare::second::{
     self, Found, Kind, Refusal, Rounding, Table, Terms, GREATEST_BUDGET, GREATEST_MARGIN,
@@ -75,30 +76,37 @@ fn random_texts() {
 // ---------------------------------------------------------------------------
 
 /// Every table of up to six nodes over a few entries, with every budget up to one
-/// more than its leaves; each leaf is worth -1 or 2, and T is 2.
+/// more than its leaves; each leaf is worth -1 or 2, and T is 2. Plays that tie are
+/// counted too (Item 6).
 #[test]
 fn every_small_table() {
     let mut comparison = Comparison::new("searching every small table within every budget");
     let mut random = Random::new(comparison.tally.seed);
+    let mut tied = Seen::default();
     for_each((-1, 2), &six_nodes(&["-1", "2"]), &mut |text| {
-        // Refused texts are compared in other tests.
-        if let Err(refusal) = second::read(text) {
-            return matches!(refusal.number, 8 | 9);
-        }
-        let table = comparison.hold(text, &mut random, |table, _| {
-            let table = table.expect("accepted");
-            let span = span(table);
-            let margins = [0, span / 3, span / 2, span - 1, span];
-            let budgets = 0..=table.leaves as i64 + 1;
-            let pairs = margins.map(|margin| {
-                let asked = |budget| Asked { margin, budget };
-                budgets.clone().map(asked).collect::<Vec<_>>()
-            });
-            pairs.concat()
+        let table = match second::read(text) {
+            Ok(table) => table,
+            // Refused texts are compared in other tests.
+            Err(refusal) => return matches!(refusal.number, 8 | 9),
+        };
+        let span = span(&table);
+        let margins = [0, span / 3, span / 2, span - 1, span];
+        let budgets = 0..=table.leaves as i64 + 1;
+        let pairs = margins.map(|margin| {
+            let asked = |budget| Asked { margin, budget };
+            budgets.clone().map(asked).collect::<Vec<_>>()
         });
-        table.is_ok()
+        let pairs = pairs.concat();
+        for asked in &pairs {
+            ties::hold(&mut tied, &table, asked.terms());
+        }
+        comparison.hold(text, &mut random, |_, _| pairs).is_ok()
     });
     comparison.tally.report();
+    // No bounds but the ends, or too few plays, for those that are spared.
+    tied.demand_but(300, |sort| {
+        [AWAY, BEHIND].iter().any(|spared| sort.starts_with(spared))
+    });
     let answers = &comparison.answers;
     answers.demand_but(10, |sort| sort.ends_with(AFTER_UNREAD));
     let answers = comparison.tally.counts[0];

@@ -8,7 +8,7 @@ use compare::random::{seed, Random};
 use compare::second::{self, root_children, Kind, Table, MOST_CHANCES, MOST_TOTAL};
 use compare::texts::examples::escaped;
 use compare::texts::knobs::{Kinds, Knobs, Order, Shape, Utilities, Weights, ROLLS, WIDEST};
-use compare::texts::{self, bench, level, matches, windows};
+use compare::texts::{self, bench, level, matches, ties, windows};
 
 /// A setting and its name.
 type Setting = (&'static str, fn(&mut Random) -> Knobs);
@@ -340,6 +340,59 @@ fn windows_are_under_heavy_children() {
         seen.count_chances(&table);
     }
     seen.demand_but(300, |sort| sort == "K 0");
+}
+
+/// Tables whose plays are alike are valid, have two plays to eight and up to two C on a
+/// path; plays are often the same in all but their place, or but for one leaf too.
+#[test]
+fn plays_are_alike() {
+    let mut seen = Seen::default();
+    for number in 0..2_000 {
+        let text = ties::alike(&mut Random::of_case(seed(), number));
+        let place = || format!("case {number}:\n{}", escaped(&text));
+        let table =
+            second::read(&text).unwrap_or_else(|refusal| panic!("{refusal:?} at {}", place()));
+        assert!((2..=8).contains(&root_children(&table)), "{}", place());
+        assert!(table.chances <= 2, "{}", place());
+        seen.count_root(&SIDES, &table);
+        seen.count_chances(&table);
+        let plays = plays(&table);
+        let apart = |leaves| {
+            let mut pairs = plays.windows(2);
+            pairs.any(|pair| leaves_apart(&pair[0], &pair[1]) == Some(leaves))
+        };
+        seen.count("two plays that are the same", apart(0));
+        seen.count("two plays with one leaf apart", apart(1));
+    }
+    seen.demand_but(60, |sort| ["K 3", "K 4"].contains(&sort));
+}
+
+/// The lines of each play at the root, without what tells their place.
+fn plays(table: &Table) -> Vec<Vec<second::Node>> {
+    let nodes = table.nodes.iter().enumerate();
+    let plays = nodes.filter(|(_, node)| node.parent == Some(0));
+    let moved = |play: usize, node: &second::Node| second::Node {
+        parent: node.parent.and_then(|parent| parent.checked_sub(play)),
+        stop: node.stop - play,
+        ..node.clone()
+    };
+    let lines = |(play, node): (usize, &second::Node)| {
+        let run = &table.nodes[play..node.stop];
+        run.iter().map(|node| moved(play, node)).collect()
+    };
+    plays.map(lines).collect()
+}
+
+/// How many leaves differ, where that is all the difference.
+fn leaves_apart(one: &[second::Node], other: &[second::Node]) -> Option<usize> {
+    let bare = |node: &second::Node| second::Node {
+        utility: None,
+        ..node.clone()
+    };
+    let alike = one.iter().map(bare).eq(other.iter().map(bare));
+    let pairs = one.iter().zip(other);
+    let apart = pairs.filter(|(one, other)| one != other).count();
+    alike.then_some(apart)
 }
 
 /// The benchmark's figures are compared with those of earlier runs, so every byte

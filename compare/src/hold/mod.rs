@@ -12,6 +12,7 @@ pub mod rolling;
 pub mod searching;
 pub mod seen;
 pub mod tally;
+pub mod ties;
 pub mod turning;
 pub mod worth;
 

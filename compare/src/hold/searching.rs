@@ -2,7 +2,7 @@
 //! leaves read, G, the difference of the bounds, whether the budget was spent, and
 //! every entry of the leaf list; and that all else in what was lent is left as it was.
 //! What the search promises of the exact worth is held to the answers too. The search
-//! with a budget has more to it in `budget`.
+//! with a budget has more to it in `budget`, plays that tie in `ties`.
 
 use std::fmt::Arguments;
 

@@ -1,6 +1,6 @@
 //! Example texts: document 01's tables, tables where the play is forced or nearly
-//! so or where plays are level or nearly so, chains, and one table or more for each
-//! refusal.
+//! so, where plays are level or nearly so or where they tie, chains, and one table or
+//! more for each refusal.
 
 use crate::second::LINE;
 
@@ -114,6 +114,23 @@ pub const THREE_PLAYS_TURNED: &str = "\
 ...5.C....0.............
 ...6.L....5....2......-2
 ...7.L....5....2......-4
+";
+
+/// Three plays at a root M, an N each. At margin 3 every N is cut after its first leaf, so
+/// that all have the lowest end as their low; the second and the third have the higher
+/// high.
+pub const CUT_PLAYS: &str = "\
+..10...1.......0......10
+...0.M..................
+...1.N....0.............
+...2.L....1............2
+...3.L....1............9
+...4.N....0.............
+...5.L....4............3
+...6.L....4............5
+...7.N....0.............
+...8.L....7............3
+...9.L....7............4
 ";
 
 /// Three plays at a root M where a point is 1,296 grains: a leaf of 5; two C one

@@ -5,7 +5,8 @@
 //! sets it, `grow` makes a draft by it, and `draft` writes that out. The damages,
 //! the inputs of the margin program and the matches begin with its tables. Only
 //! those of `level` are made otherwise, by a plan of what their plays lose, and some
-//! matches of such tables; and those of `windows`, whose windows under C are narrow.
+//! matches of such tables; those of `windows`, whose windows under C are narrow; and
+//! those of `ties`, whose plays are much alike.
 
 pub mod bench;
 pub mod broken;
@@ -20,6 +21,7 @@ pub mod level;
 pub mod matches;
 mod settings;
 pub mod small;
+pub mod ties;
 pub mod windows;
 
 use crate::random::Random;
