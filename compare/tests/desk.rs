@@ -440,15 +440,43 @@ read\t0
 grain\t4
 ";
 
-/// Searches of table B within a budget, by the words and the fields that are printed.
+/// Table A, where the first play is 0 to 3 and the second, met unread, 0 to 10 (document
+/// 02, Item 6).
+const UNREAD_PLAY: &str = "\
+margin  0.000 points (0g)
+budget  1 leaf, spent
+low     0.000 points (0g)
+high    10.000 points (10g)
+apart   10.000 points (10g)
+play    2, node 4
+leaves  1 of 4 read
+leaf    2
+grain   1g to the point
+";
+
+const UNREAD_PLAY_IN_FIELDS: &str = "\
+margin\t0\t0.000
+budget\t1\t1
+low\t0\t0.000
+high\t10\t10.000
+apart\t10\t10.000
+play\t2\t4
+leaves\t4
+read\t1
+leaf\t2
+grain\t1
+";
+
+/// Searches within a budget, by the words and the fields that are printed.
 #[test]
 fn budgets_by_the_words_printed() {
-    let (file, text) = example("b");
-    for (question, words, fields) in [
-        (within("0", "1"), SPENT, SPENT_IN_FIELDS),
-        (within("3", "1024"), NOT_SPENT, NOT_SPENT_IN_FIELDS),
-        (within("0g", "0"), NO_LEAF, NO_LEAF_IN_FIELDS),
+    for (name, question, words, fields) in [
+        ("b", within("0", "1"), SPENT, SPENT_IN_FIELDS),
+        ("b", within("3", "1024"), NOT_SPENT, NOT_SPENT_IN_FIELDS),
+        ("b", within("0g", "0"), NO_LEAF, NO_LEAF_IN_FIELDS),
+        ("a", within("0", "1"), UNREAD_PLAY, UNREAD_PLAY_IN_FIELDS),
     ] {
+        let (file, text) = example(name);
         for (form, printed) in [(Form::People, words), (Form::Tsv, fields)] {
             let answer = question.answer(&text, form).expect("an answer");
             assert_eq!(answer, printed, "{question:?}");

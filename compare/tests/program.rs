@@ -176,7 +176,8 @@ fn random_inputs() {
         let text = match number % 8 {
             0 => texts::make(Knobs::close, &mut random),
             1 => texts::make(Knobs::dice, &mut random),
-            2 | 3 => texts::make(Knobs::any, &mut random),
+            2 => texts::make(Knobs::any, &mut random),
+            3 => texts::ties::alike(&mut random),
             _ => texts::case(&mut random).text,
         };
         let table = second::read(&text);
@@ -307,6 +308,30 @@ leaf................5
 leaf................6
 ";
 
+/// Three plays that tie, two of which have the higher high, at margin 3; and the same
+/// turned (document 02, Item 6).
+const OUTPUT_CUT_PLAYS: &str = "\
+low.................0
+high................3
+grain...............1
+play................2
+leaves..............3
+leaf................2
+leaf................5
+leaf................8
+";
+
+const OUTPUT_CUT_PLAYS_TURNED: &str = "\
+low................-3
+high................0
+grain...............1
+play................2
+leaves..............3
+leaf................2
+leaf................5
+leaf................8
+";
+
 const OUTPUT_LONE_LEAF: &str = "\
 low.................7
 high................7
@@ -339,6 +364,8 @@ fn known() -> Vec<(Vec<u8>, String)> {
     let b = dotted(TABLE_B);
     let with_margin = |line: &str, text: &[u8]| [line.as_bytes(), text].concat();
     let other_a = TABLE_A.replace("...2.L....1............3", "...2.L....1............1");
+    let mut turned = dotted(CUT_PLAYS);
+    second::turn(&dotted(CUT_PLAYS), &mut turned).expect("a valid table");
     let mut all = vec![
         (with_margin(&blanks(INPUT_B), &b), blanks(OUTPUT_B)),
         (
@@ -352,6 +379,14 @@ fn known() -> Vec<(Vec<u8>, String)> {
         (
             with_margin("             0\n", &dotted(&other_a)),
             blanks(OUTPUT_SECOND),
+        ),
+        (
+            with_margin("             3\n", &dotted(CUT_PLAYS)),
+            blanks(OUTPUT_CUT_PLAYS),
+        ),
+        (
+            with_margin("             3\n", &turned),
+            blanks(OUTPUT_CUT_PLAYS_TURNED),
         ),
         // The table is all after byte 15; there is none in these.
         (Vec::new(), refused(1, 0)),
