@@ -17,6 +17,7 @@ use compare::hold::seen::{Seen, ROOTS, SIDES};
 use compare::random::Random;
 use compare::second::desk::{self, Form, FORMS};
 use compare::second::{self, root_children, Refusal, Table, GREATEST_BUDGET};
+use compare::texts;
 use compare::texts::examples::*;
 use compare::texts::knobs::{Kinds, Knobs};
 
@@ -448,7 +449,7 @@ budget  1 leaf, spent
 low     0.000 points (0g)
 high    10.000 points (10g)
 apart   10.000 points (10g)
-play    2, node 4
+play    2, node 4, not looked into
 leaves  1 of 4 read
 leaf    2
 grain   1g to the point
@@ -503,15 +504,24 @@ fn budgets_by_the_words_printed() {
 fn random_budgets() {
     let mut comparison = Comparison::new("desk on random budgets");
     let mut seen = Seen::default();
-    for number in 0..360 {
+    for number in 0..420 {
         let random = &mut Random::of_case(comparison.tally.seed, number);
-        let text = random_text(number, random);
+        // The last tables are for plays that are not looked into.
+        let is_tied = number >= 360;
+        let text = match is_tied {
+            true => texts::ties::alike(random),
+            false => random_text(number, random),
+        };
         let table = second::read(&text).expect("valid");
         let margin = match random.below(12) {
             0 => "-1".to_string(),
             _ => random_margin(&table, random),
         };
-        let question = SearchWithin(margin, random_budget(&table, random));
+        let budget = match is_tied {
+            true => random.between(1, 2).to_string(),
+            false => random_budget(&table, random),
+        };
+        let question = SearchWithin(margin, budget);
         let form = random.pick(&FORMS);
         let answer = comparison.hold(&question, &text, form, Way::Input);
         let refused = answer.as_ref().err().map(|refusal| refusal.number);
@@ -534,9 +544,12 @@ fn random_budgets() {
         }
         seen.count("a budget of one leaf", has("budget  1 leaf, "));
         seen.count("no play of 0 leaves", has("none: a budget of 0"));
+        seen.count("a play not looked into", has(", not looked into\n"));
+        let looked_into = has(", spent\n") && !has(", not looked into\n") && !has("none: ");
+        seen.count("a play looked into, the budget spent", looked_into);
         seen.count("no play at a C or L", has("none: nobody"));
     }
-    comparison.demand(360);
+    comparison.demand(420);
     seen.demand(2);
 }
 
@@ -784,7 +797,9 @@ fn examples_in_the_description() {
         ("level", Judge(2), "judge 2"),
         ("forced", Judge(3), "judge 3"),
         ("b", Search("3".to_string()), "search 3"),
+        ("ties", Search("3".to_string()), "search 3"),
         ("a", within("0", "2"), "search --budget 2 0"),
+        ("a", within("0", "1"), "search --budget 1 0"),
         ("a", Rollout(Vec::new()), "rollout"),
         ("b", Show, "show"),
         ("b", ShowTo("3".to_string()), "show --margin 3"),
@@ -802,7 +817,7 @@ fn examples_in_the_description() {
 /// The refused budget in the description is what the program prints.
 #[test]
 fn refused_budget_in_the_description() {
-    let described = block("docs/DESK.md", "budget is refused where the table");
+    let described = block("docs/DESK.md", "Another budget is refused where the table");
     assert!(described.starts_with("desk: examples/a.txt: refused 17\n"));
     let words = ["search", "--budget", "2000", "0", "examples/a.txt"];
     let ran = run(&words, &[]);

@@ -186,6 +186,15 @@ impl Searched {
         Some((play.expect("a child of the root").number, node))
     }
 
+    /// Whether a leaf of the search's play was read.
+    fn looks_into_its_play(&self, table: &Table) -> bool {
+        self.read.iter().any(|&leaf| {
+            let up = |node: &usize| table.nodes[*node].parent;
+            let mut path = std::iter::successors(Some(usize::from(leaf)), up);
+            path.any(|node| self.found.play == Some(node))
+        })
+    }
+
     /// High minus low.
     fn apart(&self) -> i64 {
         self.found.high - self.found.low

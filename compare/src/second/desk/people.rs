@@ -22,7 +22,7 @@ pub fn worth(table: &Table, worth: i64) -> String {
 pub fn judge(table: &Table, judged: Option<(&Play, usize)>, plays: &[Play]) -> String {
     let mut answer = match (judged, plays) {
         (None, [only]) => forced(only),
-        _ => play(table, judged.map(|(play, _)| (play.number, play.node))),
+        _ => play(table, judged.map(|(play, _)| (play.number, play.node)), ""),
     };
     if let Some((play, level)) = judged {
         answer += &amount("loss", table, play.loss);
@@ -202,7 +202,11 @@ fn found(table: &Table, searched: &Searched) -> String {
     if searched.budget.is_some() {
         answer += &amount("apart", table, searched.apart());
     }
-    answer += &play(table, searched.play(table));
+    let note = match searched.looks_into_its_play(table) {
+        true => "",
+        false => ", not looked into",
+    };
+    answer += &play(table, searched.play(table), note);
     answer + &leaves(table, searched.read.len())
 }
 
@@ -227,9 +231,10 @@ fn header(table: &Table) -> String {
     )
 }
 
-fn play(table: &Table, play: Option<(usize, usize)>) -> String {
+/// A play, if there is one, and what is said behind it.
+fn play(table: &Table, play: Option<(usize, usize)>, note: &str) -> String {
     let written = match play {
-        Some((number, node)) => format!("{number}, node {node}"),
+        Some((number, node)) => format!("{number}, node {node}{note}"),
         None => match table.nodes[0].kind {
             Kind::Max | Kind::Min => "none: a budget of 0 reads no leaf".to_string(),
             kind => {
