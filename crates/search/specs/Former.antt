@@ -1,5 +1,5 @@
--- The search with the play of document 01 alone, as it was before document 02's Item 6: for the theorem that bounds and leaves are as before, and for
--- what ties it would name otherwise.
+-- The search with the play of document 01 alone, as it was before document 02's Item 6. It serves the theorem that bounds and leaves are as before, and
+-- examples in which it names another play.
 use Prim.Native.Nat.{ℕ}
 use mathlib.Core.Bool.{Bool, false}
 use mathlib.Core.List.{List}

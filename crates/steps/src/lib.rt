@@ -1,7 +1,7 @@
 // One step of the bounded search: the window of a child, the state after it, a leaf read, and a node met when no read is left. Lines are those of
 // Algorithm 1 of document 000, numbers are in grains above the lowest end.
 ghost use mathlib.Core.Path.{_≡_};
-ghost use mathlib.Core.Bool.{_||_};
+ghost use mathlib.Core.Bool.{_||_, cond};
 ghost use Prim.Native.Nat.{_+_, _*_, _<_, _≤_};
 ghost use lib.Dec.{eqb, ltb};
 ghost use lib.ListN.{length, getD};
@@ -34,6 +34,12 @@ pub struct State {
     pub high: u64,
     pub play: usize,
     pub other: u64,
+}
+
+// The best child's node and its other bound, as in a state.
+struct Best {
+    node: usize,
+    other: u64,
 }
 
 // The window of a node.
@@ -70,6 +76,20 @@ fn beats(play: usize, a: u64, b: u64, x: u64, y: u64) -> bool
     if a == b { x < y } else { a < b }
 }
 
+// The child i, whose bound to break a tie is `other`, or the best so far.
+fn prefer(takes: bool, i: usize, other: u64, s: State) -> Best
+    ensures { λ r. ⌜ (r .node ≡ cond takes i (s .play)) × (r .other ≡ cond takes other (s .other)) ⌝ }
+{
+    if takes {
+        Best { node: i, other }
+    } else {
+        Best {
+            node: s.play,
+            other: s.other,
+        }
+    }
+}
+
 // After the child i of an M, lines 14, 15, 22 and 23: until the last child its high is its own top.
 pub fn max_after(v: Ends, i: usize, s: State, low: u64, high: u64) -> State
     ensures { λ r. ⌜ r ≡ after (frameAt v 0) MAX i 0 s low high ⌝ }
@@ -78,19 +98,16 @@ pub fn max_after(v: Ends, i: usize, s: State, low: u64, high: u64) -> State
     let h = max_of(s.high, high);
     let a = max_of(s.alpha, l);
     let b = min_of(s.beta, v.top);
-    let mut t = State {
+    let takes = beats(s.play, s.low, low, s.other, high);
+    let p = prefer(takes, i, high, s);
+    State {
         alpha: a,
         beta: b,
         low: l,
         high: h,
-        play: s.play,
-        other: s.other,
-    };
-    if beats(s.play, s.low, low, s.other, high) {
-        t.play = i;
-        t.other = high;
+        play: p.node,
+        other: p.other,
     }
-    t
 }
 
 // After the child i of an N, lines 17, 18, 22 and 23: until the last child its low is its own bottom.
@@ -101,19 +118,16 @@ pub fn min_after(v: Ends, i: usize, s: State, low: u64, high: u64) -> State
     let h = min_of(s.high, high);
     let a = max_of(s.alpha, v.bottom);
     let b = min_of(s.beta, h);
-    let mut t = State {
+    let takes = beats(s.play, high, s.high, low, s.other);
+    let p = prefer(takes, i, low, s);
+    State {
         alpha: a,
         beta: b,
         low: l,
         high: h,
-        play: s.play,
-        other: s.other,
-    };
-    if beats(s.play, high, s.high, low, s.other) {
-        t.play = i;
-        t.other = low;
+        play: p.node,
+        other: p.other,
     }
-    t
 }
 
 // The window of a C's child of weight w, lines 9 and 10, rounded outward.

@@ -1,12 +1,9 @@
 -- `steps::min_after` meets its contract. Assumes nothing.
-use mathlib.Core.Path.{_≡_, refl, sym, _∙_}
-use mathlib.Core.Bool.{true, false}
 use native.Mathlib.Omega.{arith}
 use borrow.Author.Needs.{needs}
-use Rattle.table.specs.Tree.{MIN}
 use Rattle.search.specs.Search.{update}
-use Rattle.steps.specs.Inside.{takes}
 use Rattle.steps.proofs.Sizes.{state-eq}
+use Rattle.steps.proofs.Takes.{chosen-by}
 use Rattle.steps.proofs.min_after.Statement.{statement}
 use Rattle.steps.proofs.min_after.Tie as tie
 
@@ -25,21 +22,17 @@ min-of-requires-3 c κs = search needs
 beats-requires : tie.Need-beats-requires
 beats-requires c κs = search needs
 
+prefer-requires : tie.Need-prefer-requires
+prefer-requires c κs = search needs
+
 returns : tie.Need-returns
 unfolding update
 returns c =
-    let a = c .before .before .before .before .before .before .args in
-    let t : takes MIN (a .s) (a .low) (a .high) ≡ true = sym (c .before .beats .ensures) ∙ c .if1 .taken in
-    state-eq _ _ (omega arith) (omega arith) (omega arith) (omega arith) (rw t refl) (rw t refl)
-
-returns-2 : tie.Need-returns-2
-unfolding update
-returns-2 c =
-    let a = c .before .before .before .before .before .before .args in
-    let t : takes MIN (a .s) (a .low) (a .high) ≡ false = sym (c .before .beats .ensures) ∙ c .if1 .left in
-    state-eq _ _ (omega arith) (omega arith) (omega arith) (omega arith) (rw t refl) (rw t refl)
+    let (node, other) = c .prefer .ensures in
+    let asked = c .before .beats .ensures in
+    state-eq _ _ (omega arith) (omega arith) (omega arith) (omega arith) (chosen-by _ _ node asked) (chosen-by _ _ other asked)
 
 pub min-after-spec : {M : Type 1} → statement M
 min-after-spec =
     tie.close
-    (tie.spec min-of-requires min-of-requires-2 max-of-requires min-of-requires-3 beats-requires returns returns-2)
+    (tie.spec min-of-requires min-of-requires-2 max-of-requires min-of-requires-3 beats-requires prefer-requires returns)
