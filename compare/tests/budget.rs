@@ -5,7 +5,7 @@
 //! number.
 
 use compare::hold::budget::{
-    hold_to, no_budget, questions, turning_points, Asked, Comparison, AFTER_UNREAD,
+    self, hold_to, no_budget, questions, turning_points, Asked, Comparison, Known, AFTER_UNREAD,
 };
 use compare::hold::numbers::ROOM;
 use compare::hold::searching::Expected;
@@ -15,8 +15,7 @@ use compare::hold::tally::OF_TABLES;
 use compare::hold::ties::{self, AWAY, BEHIND};
 use compare::random::{number_from_environment, Random};
 use compare::second::{
-    self, Found, Kind, Refusal, Rounding, Table, Terms, GREATEST_BUDGET, GREATEST_MARGIN,
-    MOST_NODES,
+    self, Kind, Refusal, Rounding, Table, Terms, GREATEST_BUDGET, GREATEST_MARGIN, MOST_NODES,
 };
 use compare::texts::examples::*;
 use compare::texts::knobs::Knobs;
@@ -240,10 +239,6 @@ const LEAF_BETWEEN: &str = "\
 ...0.L.................7
 ";
 
-/// An answer in short: the margin and the budget; low, high, the play's node and
-/// whether the budget was spent; and the leaves read.
-type Known = ((i64, i64), (i64, i64, usize, bool), &'static [u16]);
-
 /// Table A. With margin 3 the first N is cut after its first leaf. Where one leaf is read,
 /// that N is 0 to 3; the second one is met unread and so 0 to 10, which makes it the play
 /// (Item 6).
@@ -310,10 +305,9 @@ const OF_LEAF_BETWEEN: &[Known] = &[
     ((0, 1), (7, 7, 0, false), &[0]),
 ];
 
-/// Texts, each with what is asked of it and what must come of that; and of the text
-/// turned.
+/// What is known of these tables.
 fn known() -> Vec<(Vec<u8>, Asked, Expected)> {
-    let tables = [
+    budget::known(&[
         (dotted(TABLE_A), 1, OF_TABLE_A),
         (dotted(TABLE_B), 4, OF_TABLE_B),
         (dotted(THREE_PLAYS), 4, OF_THREE_PLAYS),
@@ -321,30 +315,12 @@ fn known() -> Vec<(Vec<u8>, Asked, Expected)> {
         (dotted(FORCED_MIN), 1, OF_FORCED_MIN),
         (dotted(LONE_LEAF), 1, OF_LONE_LEAF),
         (dotted(LEAF_BETWEEN), 1, OF_LEAF_BETWEEN),
-    ];
-    let mut all = Vec::new();
-    for (text, grains, answers) in tables {
-        let mut turned = text.clone();
-        second::turn(&text, &mut turned).expect("a valid table");
-        for ((margin, budget), (low, high, play, spent), leaves) in answers.iter().copied() {
-            let mut expected = Expected::known(low, high, play, leaves, grains);
-            let (found, _) = expected.answer.as_mut().expect("an answer");
-            *found = Found { spent, ..*found };
-            let asked = Asked { margin, budget };
-            all.push((turned.clone(), asked, expected.turned()));
-            all.push((text.clone(), asked, expected));
-        }
-    }
-    all
+    ])
 }
 
 #[test]
 fn second_engine_has_the_known_answers() {
-    for (text, asked, expected) in known() {
-        let table = second::read(&text).expect("accepted");
-        let got = Expected::by(Ok(&table), asked.terms(), table.leaves);
-        assert_eq!(got, expected, "{asked:?}\n{}", escaped(&text));
-    }
+    budget::second_has(&known());
 }
 
 /// The known answers, with lists and numbers of all lengths; the proved engine must

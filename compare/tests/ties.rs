@@ -5,14 +5,14 @@
 //! The environment variable SEED sets the seed of the random tables, CASES their
 //! number.
 
-use compare::hold::budget::{self, turning_points, Asked};
+use compare::hold::budget::{self, turning_points, Asked, Known};
 use compare::hold::numbers::ROOM;
 use compare::hold::searching::{self, change_unread, keeps_its_promises, Expected};
 use compare::hold::seen::{Seen, SIDES};
 use compare::hold::tally::{say, Tally};
 use compare::hold::ties::{self, BEHIND};
 use compare::random::{number_from_environment, Random};
-use compare::second::{self, Found, Table, Terms, GREATEST_BUDGET};
+use compare::second::{self, Table, Terms, GREATEST_BUDGET};
 use compare::texts;
 use compare::texts::examples::*;
 use compare::texts::knobs::Knobs;
@@ -179,10 +179,6 @@ const BEHIND_AN_N: &str = "\
 ...8.L....6....2.......0
 ";
 
-/// An answer in short: the margin and the budget; low, high, the play's node and whether
-/// the budget was spent; and the leaves read.
-type Known = ((i64, i64), (i64, i64, usize, bool), &'static [u16]);
-
 /// Where no budget is named.
 const NONE: i64 = GREATEST_BUDGET;
 
@@ -272,43 +268,23 @@ const OF_BEHIND_AN_N: &[Known] = &[
     ((23, NONE), (24, 32, 1, false), &[2, 3]),
 ];
 
-/// Texts, each with what is asked of it and what must come of that; and of the text
-/// turned.
+/// What is known of these tables.
 fn known() -> Vec<(Vec<u8>, Asked, Expected)> {
-    let tables = [
-        (CUT_PLAYS, 1, OF_CUT_PLAYS),
-        (TABLE_A, 1, OF_TABLE_A),
-        (CUT_AT_MIN, 1, OF_CUT_AT_MIN),
-        (EQUAL_LEAVES, 1, OF_EQUAL_LEAVES),
-        (LOWEST_LEAVES, 1, OF_LOWEST_LEAVES),
-        (STILL_OPEN, 1, OF_STILL_OPEN),
-        (PART_READ, 4, OF_PART_READ),
-        (BEHIND_AN_N, 4, OF_BEHIND_AN_N),
-    ];
-    let mut all = Vec::new();
-    for (table, grains, answers) in tables {
-        let text = dotted(table);
-        let mut turned = text.clone();
-        second::turn(&text, &mut turned).expect("a valid table");
-        for ((margin, budget), (low, high, play, spent), leaves) in answers.iter().copied() {
-            let mut expected = Expected::known(low, high, play, leaves, grains);
-            let (found, _) = expected.answer.as_mut().expect("an answer");
-            *found = Found { spent, ..*found };
-            let asked = Asked { margin, budget };
-            all.push((turned.clone(), asked, expected.turned()));
-            all.push((text.clone(), asked, expected));
-        }
-    }
-    all
+    budget::known(&[
+        (dotted(CUT_PLAYS), 1, OF_CUT_PLAYS),
+        (dotted(TABLE_A), 1, OF_TABLE_A),
+        (dotted(CUT_AT_MIN), 1, OF_CUT_AT_MIN),
+        (dotted(EQUAL_LEAVES), 1, OF_EQUAL_LEAVES),
+        (dotted(LOWEST_LEAVES), 1, OF_LOWEST_LEAVES),
+        (dotted(STILL_OPEN), 1, OF_STILL_OPEN),
+        (dotted(PART_READ), 4, OF_PART_READ),
+        (dotted(BEHIND_AN_N), 4, OF_BEHIND_AN_N),
+    ])
 }
 
 #[test]
 fn second_engine_has_the_known_answers() {
-    for (text, asked, expected) in known() {
-        let table = second::read(&text).expect("accepted");
-        let got = Expected::by(Ok(&table), asked.terms(), table.leaves);
-        assert_eq!(got, expected, "{asked:?}\n{}", escaped(&text));
-    }
+    budget::second_has(&known());
 }
 
 /// The known answers, with a budget and where none is named without; the proved engine

@@ -12,6 +12,7 @@ use crate::second::{
     self, Entered, Found, Kind, Refusal, Step, Table, Terms, GREATEST_BUDGET, GREATEST_MARGIN,
     MOST_NODES,
 };
+use crate::texts::examples::escaped;
 
 /// What a call is asked for.
 #[derive(Clone, Copy, Debug)]
@@ -406,6 +407,38 @@ pub fn turning_points(table: &Table, budget: Option<i64>) -> Vec<i64> {
         gaps.filter(|gap| *gap > margin).min()
     };
     std::iter::successors(next(0), |margin| next(*margin)).collect()
+}
+
+/// An answer in short: the margin and the budget; low, high, the play's node and
+/// whether the budget was spent; and the leaves read.
+pub type Known = ((i64, i64), (i64, i64, usize, bool), &'static [u16]);
+
+/// Texts, each with what is asked of it and what must come of that; and of the text
+/// turned. A text has its grains in a point beside it.
+pub fn known(tables: &[(Vec<u8>, i64, &[Known])]) -> Vec<(Vec<u8>, Asked, Expected)> {
+    let mut all = Vec::new();
+    for (text, grains, answers) in tables {
+        let mut turned = text.clone();
+        second::turn(text, &mut turned).expect("a valid table");
+        for ((margin, budget), (low, high, play, spent), leaves) in answers.iter().copied() {
+            let mut expected = Expected::known(low, high, play, leaves, *grains);
+            let (found, _) = expected.answer.as_mut().expect("an answer");
+            *found = Found { spent, ..*found };
+            let asked = Asked { margin, budget };
+            all.push((turned.clone(), asked, expected.turned()));
+            all.push((text.clone(), asked, expected));
+        }
+    }
+    all
+}
+
+/// The second engine has the known answers.
+pub fn second_has(known: &[(Vec<u8>, Asked, Expected)]) {
+    for (text, asked, expected) in known {
+        let table = second::read(text).expect("accepted");
+        let got = Expected::by(Ok(&table), asked.terms(), table.leaves);
+        assert_eq!(got, *expected, "{asked:?}\n{}", escaped(text));
+    }
 }
 
 /// Margins with budgets for a table: fewer leaves than the search reads, as many or
