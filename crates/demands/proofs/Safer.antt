@@ -24,9 +24,11 @@ use Rattle.search_call.specs.declared.Bounded.the-variants.{Found}
 use Rattle.search_call.specs.Call.{boundsOf, searchCall, withinCall}
 use Rattle.search_call.proofs.Call.{inside-is}
 use Rattle.search_call.proofs.Answered.{answered, reads, answered-within, reads-within}
+use Rattle.promise.specs.Entered.{worse}
+use Rattle.promise.proofs.Named.{best-same}
 use Rattle.promise.proofs.Demand.{play-named}
 use Rattle.demands.specs.Budget.{AllKnown}
-use Rattle.demands.specs.Safer.{NamesBest, SaferNamed, SaferWithin, SameButPlay, AsBefore, AsBeforeWithin, ties, FormerTies}
+use Rattle.demands.specs.Safer.{NamesBest, OneBest, SaferNamed, SaferWithin, SameButPlay, AsBefore, AsBeforeWithin, ties, FormerTies}
 use Rattle.demands.proofs.Within.{fine-same}
 
 -- ---- the play, and all else
@@ -52,6 +54,9 @@ module _ (t : Table) (ε : ℕ) (full : List ℕ → Bool) where
 
   same-reads : searchedUntil t ε full .read ≡ formerUntil t ε full .read
   same-reads = ap (λ (r : Seen ℤ). r .read) (as-before t ε full)
+
+pub one-best : OneBest
+one-best side xs x y = best-same (worse ltZ side) xs x y
 
 -- a read is left
 some-left : (b : ℤ) (n : ℕ) → pos n ≡ b → ltZ (pos 0) b ≡ true → limited n [] ≡ false

@@ -29,6 +29,11 @@ use Rattle.demands.specs.Budget.{Known, known}
 abbrev pub NamesBest : Table → (ε : ℕ) (full : List ℕ → Bool) → Side → Play → Type 0
 NamesBest t ε full side p = (x : Entered ℤ) × (p ≡ Child (x .node)) × FirstBest (worse ltZ side) (enteredOf t ε full) x
 
+-- there is no more than one
+abbrev pub OneBest : Type 0
+OneBest =
+    (side : Side) (xs : List (Entered ℤ)) (x y : Entered ℤ) → FirstBest (worse ltZ side) xs x → FirstBest (worse ltZ side) xs y → x ≡ y
+
 -- "the play is compared with this rule in all searches": without a budget
 abbrev pub SaferNamed : Type 0
 SaferNamed =

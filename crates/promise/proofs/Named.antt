@@ -4,7 +4,7 @@ use Prim.Native.Nat.{ℕ}
 use mathlib.Core.Path.{_≡_, refl, sym, ap, subst, _∙_}
 use mathlib.Core.Logic.{_⊎_, inl, inr}
 use mathlib.Core.Bool.{Bool, true, false, cond}
-use mathlib.Core.List.{List, [], _∷_, _++_, append-nil, append-assoc, List·Memᴰ, List·Memᴰ·append-cases, List·Memᴰ·cases-cons, List·Memᴰ·eq-of-singleton, List·Memᴰ·not-nil}
+use mathlib.Core.List.{List, [], _∷_, _++_, append-nil, append-assoc, List·Memᴰ, List·Memᴰ·head, List·Memᴰ·tail, Memᴰ·append-right, List·Memᴰ·append-cases, List·Memᴰ·cases-cons, List·Memᴰ·eq-of-singleton, List·Memᴰ·not-nil}
 use mathlib.Core.Option.{none, some}
 use native.Mathlib.Omega.{arith}
 use lib.IntN.{ℤ}
@@ -191,6 +191,35 @@ module _ {A : Type 0} (O : Arith A) (behind : Side → Entered A → Entered A �
     root-named (inner n w k under rest) z x =
         let f : Forest A = inner n w k under rest in
         held-chosen behind (sideOf k) (enteredRoot O R f) (searchRoot O R f .play) (root-entered O R f z (x .0)) (root-held f)
+
+-- ---- no two children are both the first best
+
+module _ {A : Type 0} (behind : Entered A → Entered A → Bool) where
+  -- those in b are behind x, and x is behind none in l
+  abbrev Parts : List (Entered A) → Entered A → List (Entered A) → Type 0
+  Parts b x l = ((z : Entered A) → List·Memᴰ z b → behind z x ≡ true) × ((z : Entered A) → List·Memᴰ z l → behind x z ≡ false)
+
+  -- of two the one entered first would be behind the other, and would not
+  parts-apart : {P : Type 0} (l c m : List (Entered A)) (x y z : Entered A) → x ∷ l ≡ z ∷ c ++ (y ∷ m) → Parts [] x l → Parts (z ∷ c) y m → P
+  parts-apart l c m x y z q p r =
+      let first : x ≡ z = cc in
+      let rest : c ++ (y ∷ m) ≡ l = cc in
+      absurd (true-ne-false (sym (r .0 x (List·Memᴰ·head first)) ∙ p .1 y (subst (List·Memᴰ y) rest (Memᴰ·append-right c (List·Memᴰ·head refl)))))
+
+  parts-same : (b l c m : List (Entered A)) (x y : Entered A) → b ++ (x ∷ l) ≡ c ++ (y ∷ m) → Parts b x l → Parts c y m → x ≡ y
+  parts-same [] l [] m x y q p r = cc
+  parts-same [] l (z ∷ c) m x y q p r = parts-apart l c m x y z q p r
+  parts-same (z ∷ b) l [] m x y q p r = parts-apart m b l y x z (sym q) r p
+  parts-same (z ∷ b) l (w ∷ c) m x y q p r =
+      let u : Parts b x l = (λ a h. p .0 a (List·Memᴰ·tail h), p .1) in
+      let v : Parts c y m = (λ a h. r .0 a (List·Memᴰ·tail h), r .1) in
+      let rest : b ++ (x ∷ l) ≡ c ++ (y ∷ m) = cc in
+      parts-same b l c m x y rest u v
+
+  pub best-same : (xs : List (Entered A)) (x y : Entered A) → FirstBest behind xs x → FirstBest behind xs y → x ≡ y
+  best-same xs x y F G =
+      parts-same (F .before) (F .later) (G .before) (G .later) x y (sym (F .among) ∙ G .among) (F .earlier-worse, F .later-no-better)
+      (G .earlier-worse, G .later-no-better)
 
 -- ---- the integers
 
