@@ -1,14 +1,12 @@
 -- Demand 3 of the search of every accepted table, with a budget and without. Document 01, 'The search', and document 02, Items 3 and 6. Assumes nothing.
-use Prim.Native.Nat.{ℕ, _+_, _*_, _^_, _≤_, _<_}
+use Prim.Native.Nat.{ℕ, _+_, _*_, _≤_, _<_}
 use mathlib.Core.Path.{_≡_, refl, sym, ap, ap₂, subst, _∙_}
 use mathlib.Core.Bool.{Bool, true, false}
 use mathlib.Core.List.{List, []}
 use mathlib.Core.Option.{none, some}
-use native.Mathlib.Nat.{le-refl}
 use lib.ListN.{length}
 use lib.IntN.{ℤ, pos, _+ℤ_, _*ℤ_, +ℤ-assoc}
 use lib.Signed.{ltZ, leZ}
-use Rattle.numbers.proofs.Signs.{plus, minus, parts}
 use Rattle.numbers.proofs.Above.{le-above}
 use Rattle.line.specs.Refusal.{fine}
 use Rattle.table.specs.Tree.{Forest, isEnd}
@@ -18,25 +16,21 @@ use Rattle.table.specs.Accepted.{span, Filled, Balanced, Proper, Rooted}
 use Rattle.table.specs.Root.{Side, AtM, AtN, Root, nobody, toPlay, children, rootOf}
 use Rattle.table.proofs.Heights.{above, mapForest, heights-map}
 use Rattle.table.proofs.Accepted.{accepted-ranged, accepted-proper, accepted-filled, accepted-balanced, accepted-spans, heights-rooted, heights-proper, heights-filled, heights-balanced}
-use Rattle.table.proofs.Ends.{top}
 use Rattle.worth.specs.Worth.{worthOf}
 use Rattle.worth.specs.Inside.Heights.{heightWorth, SmallWorths}
 use Rattle.worth.proofs.Bounds.{own-totals}
 use Rattle.worth.proofs.Worth.{heights-small, shift as worth-shift}
 use Rattle.search.specs.Search.{Seen, unlimited, nodeOf}
-use Rattle.search.specs.Inside.{grained, heightRules, heightSearched}
+use Rattle.search.specs.Inside.{grained, heightSearched}
 use Rattle.search.specs.Whole.{whole, inGrains, rules, searched, searchedUntil}
 use Rattle.search.proofs.Grains.{plain, grains-filled}
-use Rattle.search.proofs.Table.{frames, tree-shift, tree-within, tree-positive, shifted}
+use Rattle.search.proofs.Table.{shifted}
 use Rattle.promise.specs.Play.{playWorth}
 use Rattle.promise.specs.Entered.{Entered, worse, FirstBest, enteredOf}
-use Rattle.promise.specs.Exact.{NoRemainder}
-use Rattle.promise.proofs.Fit.{Fit, fit}
 use Rattle.promise.proofs.Play.{Child}
 use Rattle.promise.proofs.Order.{worse-strict, strict-whole}
 use Rattle.promise.proofs.Named.{Held, Chosen, root-held, root-named, root-unread, root-entered, asks-whole, grains-root, grains-children}
 use Rattle.promise.proofs.Root.{OnSide, Played, near, holds, narrow, plays}
-use Rattle.promise.proofs.Remainder.{whole-root}
 use Rattle.promise.proofs.Children.{play-worth, root-same}
 
 -- ε more
@@ -59,9 +53,6 @@ module _ (s : List ℕ) (t : Table) (r : readText s ≡ fine t) where
 
   tree-fine : Tree (heightTree t)
   tree-fine = (heights-proper s t r, heights-filled s t r, heights-balanced s t r, heights-rooted s t r)
-
-  tree-fit : Fit (plain top-height) (t .head .total ^ 0) (grained G (heightTree t))
-  tree-fit = fit (t .head .total) (span (t .head)) (greatest (t .lines)) 0 0 false (heightTree t) (heights-proper s t r) (heights-balanced s t r)
 
   -- ---- the root and its children
 
@@ -148,16 +139,6 @@ module _ (s : List ℕ) (t : Table) (r : readText s ≡ fine t) where
           λ d. ap (leZ (base +ℤ pos (p .value))) high-is ∙ le-above base (p .value) (heights .high)
               (subst (λ (q : Root). OnSide q (heights .low) (heights .high) (heightWorth t) (p .value)) (root-is ∙ d) (p .side) .0),
         )
-
-    -- ---- the divisions of lines 20 and 21
-
-    -- "that division never leaves a remainder, and this is proved": of the search's divisions by T
-    pub no-remainder : NoRemainder t ε full
-    no-remainder =
-        rw (tree-shift s t r)
-        (whole-root (plus base) (minus base) base (parts base) top-height (heightRules 0 top-height ε full) (rules t ε full .frame) (λ n f. frames s t r f)
-        (λ n f. (refl, refl)) (record { bottom = 0; top = top-height; total = 0 }) (t .head .total ^ 0) (grained G (heightTree t)) (le-refl top-height)
-        (tree-within s t r) (tree-positive s t r) tree-fit)
 
   -- ---- without a budget
 

@@ -1,5 +1,3 @@
-pub mod Fit
-pub mod Exact
 pub mod Width
 pub mod Play
 pub mod Order
@@ -8,7 +6,6 @@ pub mod Worths
 pub mod Unread
 pub mod Root
 pub mod Children
-pub mod Remainder
 pub mod Demand
 pub mod Changed
 pub mod Turn

@@ -18,7 +18,7 @@ use Rattle.search.proofs.Heights.{worth, Within}
 use Rattle.search.proofs.Contain.{Holding, hold-point, hold-met, contained}
 use Rattle.search.proofs.Grains.{plain, within}
 use Rattle.search.proofs.Few.{none-some}
-use Rattle.promise.proofs.Fit.{Fit, fit}
+use Rattle.search.proofs.Fit.{Fit, fit}
 use Rattle.promise.proofs.Width.{width}
 use Rattle.promise.proofs.Play.{Child, Promise, named}
 use Rattle.promise.proofs.Worths.{worth-value}

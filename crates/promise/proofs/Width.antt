@@ -16,8 +16,8 @@ use Rattle.search.proofs.Heights.{Paid, Sound, Within, total}
 use Rattle.search.proofs.Contain.{contained}
 use Rattle.search.proofs.Safe.{drop, drop-top}
 use Rattle.search.proofs.Shift.{ceil-le}
-use Rattle.promise.proofs.Fit.{grade, Even, Fit}
-use Rattle.promise.proofs.Exact.{share, even, EvenR, even-begin, below}
+use Rattle.search.proofs.Fit.{grade, Even, Fit}
+use Rattle.search.proofs.Exact.{share, even, EvenR, even-begin, below}
 
 -- A child of a chance node whose bounds are further apart than the margin, inside its own window: the node's window is then shut.
 gap-a : (T ε w lo be rl bc x : ℕ) → 0 < T → w ≤ T → (be - lo) * T ≤ w * bc → T * x ≡ w * rl → bc ≤ rl + ε → lo + x + ε < be → ⊥

@@ -5,6 +5,9 @@ pub mod Safe
 pub mod Below
 pub mod Shift
 pub mod Grains
+pub mod Fit
+pub mod Exact
+pub mod Remainder
 pub mod Few
 pub mod Table
 pub mod Budget

@@ -1,6 +1,6 @@
 -- The search of an accepted table is the search over heights, from the lowest end up; no more leaves are read than there are, and its play is a
 -- node of the table. Document 01, 'The search'. Assumes nothing.
-use Prim.Native.Nat.{ℕ, _+_, _-_, _*_, _≤_, _<_}
+use Prim.Native.Nat.{ℕ, _+_, _-_, _*_, _^_, _≤_, _<_}
 use mathlib.Core.Path.{_≡_, refl, sym, ap, _∙_}
 use mathlib.Core.Bool.{Bool, false}
 use mathlib.Core.List.{List, []}
@@ -23,10 +23,13 @@ use Rattle.table.proofs.Ends.{top}
 use Rattle.search.specs.Search.{Frame, Play, noPlay, child, Seen, framed, begin, point, scan, search, searchRoot, nodeOf}
 use Rattle.search.specs.Whole.{whole, inGrains, rules, searchedUntil}
 use Rattle.search.specs.Inside.{natural, grained, heightRules, heightSearched}
+use Rattle.search.specs.Exact.{NoRemainder}
 use Rattle.search.proofs.Heights.{Within, Positive, shift}
 use Rattle.search.proofs.Contain.{contained, hold-point, hold-met}
 use Rattle.search.proofs.Shift.{Rel, RelFrame, RelPlay, RelSeen, shift-weigh, shifted-root}
 use Rattle.search.proofs.Grains.{plain, within, positive, grains-leaves, grains-shift}
+use Rattle.search.proofs.Fit.{Fit, fit}
+use Rattle.search.proofs.Remainder.{whole-root}
 use Rattle.search.proofs.Few.{EachNode, few-reads, play-among, children-below}
 
 same-node : (p q : ℕ) (u : Play ℕ) (v : Play ℤ) → RelPlay p q u v → nodeOf v ≡ nodeOf u
@@ -86,6 +89,9 @@ module _ (s : List ℕ) (t : Table) (r : readText s ≡ fine t) where
   tree-positive =
       positive (t .head .total) (span (t .head)) G (accepted-ranged s t r .some) (greatest (t .lines)) 0 0 MAX (heightTree t) (heights-proper s t r)
 
+  pub tree-fit : Fit (plain far) (t .head .total ^ 0) (grained G (heightTree t))
+  tree-fit = fit (t .head .total) (span (t .head)) (greatest (t .lines)) 0 0 false (heightTree t) (heights-proper s t r) (heights-balanced s t r)
+
   -- at the margin ε, until the budget is spent
   module _ (ε : ℕ) (full : List ℕ → Bool) where
     abbrev heights : Seen ℕ
@@ -131,3 +137,11 @@ module _ (s : List ℕ) (t : Table) (r : readText s ≡ fine t) where
     -- no more leaves are read than there are
     pub reads-few : length (searchedUntil t ε full .read) ≤ leaves (tree t)
     reads-few = rw (grains-leaves G (tree t)) at (few-reads whole (rules t ε full) (inGrains G (tree t)))
+
+    -- "that division never leaves a remainder, and this is proved": of the search's divisions by T
+    pub no-remainder : NoRemainder t ε full
+    no-remainder =
+        rw tree-shift
+        (whole-root (plus base) (minus base) base (parts base) far (heightRules 0 far ε full) (rules t ε full .frame) (λ n f. frames f)
+        (λ n f. (refl, refl)) (record { bottom = 0; top = far; total = 0 }) (t .head .total ^ 0) (grained G (heightTree t)) (le-refl far)
+        tree-within tree-positive tree-fit)

@@ -1,4 +1,5 @@
 pub mod Search
 pub mod Whole
+pub mod Exact
 pub mod Former
 pub mod Inside

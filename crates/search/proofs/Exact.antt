@@ -7,11 +7,11 @@ use native.Mathlib.Decide.{decLe}
 use native.Mathlib.Omega.{arith}
 use Rattle.field.proofs.Small.{choose}
 use Rattle.table.specs.Tree.{Kind, MAX, MIN, CHANCE, Forest, end, leaf, inner}
 use Rattle.search.specs.Search.{Frame, Seen, State, Rules, begin, lower, upper, update, finish, cut, stop, point, metSpent, met, scan}
 use Rattle.search.specs.Inside.{natural}
 use Rattle.search.proofs.Steps.{seenUnder, seenAfter}
 use Rattle.search.proofs.Heights.{Paid, Within, total}
-use Rattle.promise.proofs.Fit.{grade, Even, Fit}
+use Rattle.search.proofs.Fit.{grade, Even, Fit}
 
 pub dvd-max : (g : ℕ) {a b : ℕ} → g ∣ a → g ∣ b → g ∣ max a b
 dvd-max g {a} {b} p q = elim (decLe a b) [ yes h ↦ rw (max-eq-right h) q | no h ↦ let l : b ≤ a = omega arith in rw (max-eq-left l) p ]

@@ -9,17 +9,17 @@ use lib.IntN.{ℤ, pos, _+ℤ_, _-ℤ_, _*ℤ_}
 use Rattle.numbers.specs.Integers.{floorZ}
 use Rattle.numbers.proofs.Signs.{Is, is-unique, is-eq, is-minus, is-mul, is-floor}
 use Rattle.table.specs.Tree.{Kind, MAX, MIN, CHANCE, Forest, end, leaf, inner, isEnd, weigh}
 use Rattle.search.specs.Search.{Frame, Seen, State, Rules, begin, point, met, lower, upper, update, stop}
 use Rattle.search.specs.Whole.{whole}
 use Rattle.search.specs.Inside.{natural}
 use Rattle.search.proofs.Steps.{seenUnder}
 use Rattle.search.proofs.Heights.{Paid, Within, Positive, shift}
 use Rattle.search.proofs.Contain.{Holding, hold-point, hold-under, hold-met, contained}
 use Rattle.search.proofs.Safe.{Safe, safe-begin, safe-lower, safe-upper, safe-update}
 use Rattle.search.proofs.Shift.{Rel, RelFrame, RelState, RelSeen, Open, rel-begin, rel-lower, rel-upper, rel-update, rel-point, rel-met, rel-stop, open-begin, open-update, shifted}
-use Rattle.promise.specs.Exact.{AtChance, EachTaken, EachTakenRoot, WholeQuotients}
-use Rattle.promise.proofs.Fit.{grade, Even, Fit}
-use Rattle.promise.proofs.Exact.{share, even, EvenR, even-begin, even-met, below}
+use Rattle.search.specs.Exact.{AtChance, EachTaken, EachTakenRoot, WholeQuotients}
+use Rattle.search.proofs.Fit.{grade, Even, Fit}
+use Rattle.search.proofs.Exact.{share, even, EvenR, even-begin, even-met, below}
 
 -- ---- over heights
 
@@ -53,6 +53,13 @@ module _ (R : Rules ℕ) where
         λ _. whole-heights d c under (begin d c la ub (s .read)) j (y .2 .paid) (y .3) (i .0) (i .1),
         λ _. whole-heights e k rest _ g q (y .4) h (i .2),
       )
+
+  pub heights-root : (e : Frame ℕ) (g : ℕ) (f : Forest ℕ) → Within (R .frame) e f → Fit (R .frame) g f → EachTakenRoot natural R WholeHeights f
+  heights-root e g end i x = tt
+  heights-root e g (leaf n w h rest) i x = tt
+  heights-root e g (inner n w k under rest) i x =
+      let d : Frame ℕ = R .frame n under in
+      λ _. whole-heights d k under (begin d k (d .bottom) (d .top) []) g (i .2 .paid) (i .3) (x .0) (x .1)
 
 -- ---- over the integers
 
@@ -156,8 +163,8 @@ module _ (p q : ℕ) where
         let dz : Frame ℤ = frameZ n (shift Lo under) in
         let y : RelFrame p q d dz = frames n under in
         let u : d .top ≤ S = le-trans (i .1) t in
-        λ _. taken-shift d dz k under (begin d k (d .bottom) (d .top) []) (begin dz k (dz .bottom) (dz .top) []) y (i .2 .ends) u (i .3) (o .1)
+        λ z. taken-shift d dz k under (begin d k (d .bottom) (d .top) []) (begin dz k (dz .bottom) (dz .top) []) y (i .2 .ends) u (i .3) (o .1)
         (safe-begin S d k under (d .bottom) (d .top) [] (i .2) u (le-trans (i .2 .ends) u) u)
         (open-begin d k (isEnd under) (d .bottom) (d .top) [] (i .2 .ends, i .2 .ends))
         (rel-begin p q d dz k (d .bottom) (d .top) (dz .bottom) (dz .top) [] [] y (y .bottom) (y .top) refl)
-        (whole-heights R d k under (begin d k (d .bottom) (d .top) []) g (i .2 .paid) (i .3) (x .0) (x .1))
+        (heights-root R e g (inner n w k under rest) i x z)
