@@ -24,11 +24,18 @@ module _ (frame : ℕ → Forest ℕ → Frame ℕ) where
 
 -- ---- frames
 
--- a C's total is at least 1
-abbrev pub Paid : Frame ℕ → Kind → Type 0
-Paid e MAX = Unit {0}
-Paid e MIN = Unit {0}
-Paid e CHANCE = 0 < e .total
+module _ {A : Type 0} where
+  -- a C's total is at least 1
+  abbrev pub Paid : Frame A → Kind → Type 0
+  Paid e MAX = Unit {0}
+  Paid e MIN = Unit {0}
+  Paid e CHANCE = 0 < e .total
+
+  -- every C's is
+  abbrev pub PaidUnder : (frame : ℕ → Forest A → Frame A) → Forest A → Type 0
+  PaidUnder frame end = Unit {0}
+  PaidUnder frame (leaf n w v rest) = PaidUnder frame rest
+  PaidUnder frame (inner n w k under rest) = Paid (frame n under) k × PaidUnder frame under × PaidUnder frame rest
 
 -- a C's weights sum to its total
 abbrev pub Weighed : Frame ℕ → Kind → Forest ℕ → Type 0

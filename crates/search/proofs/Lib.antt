@@ -13,3 +13,6 @@ pub mod Table
 pub mod Budget
 pub mod Within
 pub mod Former
+pub mod Sums
+pub mod Between
+pub mod Summed

@@ -8,6 +8,7 @@ use Rattle.table.specs.Table.{Table, grain}
 use Rattle.table.specs.Inside.{heightTree}
 use Rattle.table.specs.Accepted.{span}
 use Rattle.search.specs.Search.{Arith, Rules, Seen, framed, safer, searchRoot}
+use Rattle.search.specs.Sums.{Sums, onSums, rootSums, EachBeforeRoot}
 
 -- x divided by w, rounded up
 unfoldable pub ceil : (x w : ℕ) → ℕ
@@ -25,6 +26,20 @@ natural = record {
   beats = safer ltb;
 }
 
+-- Item 4: T times a height, a sum divided by T, and the four lines on sums
+abbrev pub heightSums : Sums ℕ
+heightSums = record {
+  times = λ T x. T * x;
+  over = λ T x. x / T;
+  down = λ e w α U. max (e .bottom) (e .top - ceil (U - α) w);
+  up = λ e w β L. min (e .top) (e .bottom + ceil (β - L) w);
+  gain = λ e w L Lc. L + w * (Lc - e .bottom);
+  loss = λ e w U Uc. U - w * (e .top - Uc);
+}
+
+abbrev pub naturalSums : Arith ℕ
+naturalSums = onSums natural heightSums
+
 -- heights in points as heights in grains
 unfoldable pub grained : (G : ℕ) → Forest ℕ → Forest ℕ
 grained G end = end
@@ -37,3 +52,11 @@ heightRules bottom top ε full = record { frame = λ (n : ℕ) (f : Forest ℕ).
 -- the search of a table, every bound in grains above the lowest end
 abbrev pub heightSearched : Table → (ε : ℕ) (full : List ℕ → Bool) → Seen ℕ
 heightSearched t ε full = searchRoot natural (heightRules 0 (span (t .head) * grain t) ε full) (grained (grain t) (heightTree t))
+
+-- the same with running sums: what the code does
+abbrev pub heightSummed : Table → (ε : ℕ) (full : List ℕ → Bool) → Seen ℕ
+heightSummed t ε full = rootSums heightSums natural (heightRules 0 (span (t .head) * grain t) ε full) (grained (grain t) (heightTree t))
+
+-- what the code keeps before each child
+abbrev pub HeightSumsBefore : Table → (ε : ℕ) (full : List ℕ → Bool) → Type 0
+HeightSumsBefore t ε full = EachBeforeRoot heightSums natural (heightRules 0 (span (t .head) * grain t) ε full) (grained (grain t) (heightTree t))
