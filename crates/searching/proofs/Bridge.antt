@@ -1,4 +1,4 @@
--- The code's states stand for those of Algorithm 1 over heights. Assumes nothing.
+-- The code's states stand for those of Algorithm 1 over heights, with the running sums of a C. Assumes nothing.
 -- Of the best child the code keeps the number and the bound by which a tie is broken: its low is the low of an M so far, and its high the high of an N.
 use Prim.Native.Nat.{ℕ, _+_, _*_, _≤_, _<_}
 use mathlib.Core.Path.{_≡_, refl, sym, ap, ap₂, _∙_}
@@ -13,9 +13,10 @@ use Rattle.line.proofs.Signs.{true-ne-false}
 use Rattle.table.specs.Tree.{Kind, MAX, MIN, CHANCE, Forest, end, leaf, inner, isEnd}
 use Rattle.table.proofs.Nodes.{restOf, numberOf, weightOf}
 use Rattle.search.specs.Search as alg
-use Rattle.search.specs.Search.{Frame, Play, noPlay, child, Seen, Arith, Rules, limited, begin, finish, cut, point, metSpent, met, lower, upper, below, safer, prefer, update, stop, scan, framed, nodeOf}
-use Rattle.search.specs.Inside.{natural, grained}
-use Rattle.search.proofs.Steps.{cond-map, seenUnder, seenAfter}
+use Rattle.search.specs.Search.{Frame, Play, noPlay, child, Seen, Arith, Rules, limited, begin, finish, cut, point, metSpent, met, lower, upper, below, safer, prefer, update, stop, framed, nodeOf}
+use Rattle.search.specs.Sums.{Sums, onSums, keptMargin, keep, leave, scanSums}
+use Rattle.search.specs.Inside.{natural, naturalSums, heightSums, grained}
+use Rattle.search.proofs.Steps.{cond-map, sumsUnder, sumsAfter}
 use Rattle.search.proofs.Below.{below-le, below-ge}
 use Rattle.steps.specs.declared.Rule.{Rule}
 use Rattle.steps.specs.declared.Ends.{Ends}
@@ -62,17 +63,21 @@ module _ {A : Type 0} where
     upper-ahead e MIN w s l = refl
     upper-ahead e CHANCE w s l = refl
 
-    begin-ahead : (e : Frame A) (k : Kind) (a b : A) (l m : List ℕ) → begin e k a b (l ++ m) ≡ aheadS l (begin e k a b m)
-    unfolding begin
+  module _ (P : Sums A) where
+    begin-ahead : (e : Frame A) (k : Kind) (a b : A) (l m : List ℕ) → keep P e k (begin e k a b (l ++ m)) ≡ aheadS l (keep P e k (begin e k a b m))
+    unfolding begin keep
     begin-ahead e k a b l m = refl
 
     -- `full′` says of the leaves behind l what `full` says of all
-    module _ (frame : ℕ → Forest A → Frame A) (ε : ℕ) (l : List ℕ) (full full′ : List ℕ → Bool) (behind : (m : List ℕ) → full (l ++ m) ≡ full′ m) where
+    module _ (O : Arith A) (frame : ℕ → Forest A → Frame A) (ε : ℕ) (l : List ℕ) (full full′ : List ℕ → Bool) (behind : (m : List ℕ) → full (l ++ m) ≡ full′ m) where
       abbrev R : Rules A
       R = record { frame = frame; margin = ε; full = full }
 
       abbrev R′ : Rules A
       R′ = record { frame = frame; margin = ε; full = full′ }
+
+      abbrev N : Arith A
+      N = onSums O P
 
       met-ahead : (e : Frame A) (m : List ℕ) (r r2 : Seen A) → r2 ≡ ahead l r → met R e (l ++ m) r2 ≡ ahead l (met R′ e m r)
       unfolding metSpent
@@ -80,33 +85,34 @@ module _ {A : Type 0} where
           ap₂ (λ (b : Bool) (x : Seen A). cond b (ahead l (metSpent e m)) x) (behind m) q ∙ cond-map (ahead l) (metSpent e m) r (full′ m)
 
       after-ahead : (e : Frame A) (k : Kind) (rest : Forest A) (t : alg.State A)
-          → scan O R e k rest (aheadS l t) ≡ ahead l (scan O R′ e k rest t) → seenAfter O R e k rest (aheadS l t) ≡ ahead l (seenAfter O R′ e k rest t)
-      unfolding cut stop
+          → scanSums P O R e k rest (aheadS l t) ≡ ahead l (scanSums P O R′ e k rest t) → sumsAfter P O R e k rest (aheadS l t) ≡ ahead l (sumsAfter P O R′ e k rest t)
+      unfolding cut stop leave
       after-ahead e k rest t x =
-          ap (λ (y : Seen A). cond (stop O ε rest t) (ahead l (cut e k t)) y) x
-          ∙ cond-map (ahead l) (cut e k t) (scan O R′ e k rest t) (stop O ε rest t)
+          let b : Bool = stop O (keptMargin e k ε) rest t in
+          let c : Seen A = leave P e k (cut e k t) in
+          ap (λ (y : Seen A). cond b (ahead l c) y) x ∙ cond-map (ahead l) c (scanSums P O R′ e k rest t) b
 
       step-ahead : (e : Frame A) (k : Kind) (n w : ℕ) (rest : Forest A) (s : alg.State A) (r r2 : Seen A) → r2 ≡ ahead l r
-          → ((t : alg.State A) → scan O R e k rest (aheadS l t) ≡ ahead l (scan O R′ e k rest t))
-          → seenAfter O R e k rest (update O e k n w (aheadS l s) (met R e (l ++ s .read) r2)) ≡ ahead l (seenAfter O R′ e k rest (update O e k n w s (met R′ e (s .read) r)))
+          → ((t : alg.State A) → scanSums P O R e k rest (aheadS l t) ≡ ahead l (scanSums P O R′ e k rest t))
+          → sumsAfter P O R e k rest (update N e k n w (aheadS l s) (met R e (l ++ s .read) r2)) ≡ ahead l (sumsAfter P O R′ e k rest (update N e k n w s (met R′ e (s .read) r)))
       step-ahead e k n w rest s r r2 q ih =
           let c : Seen A = met R′ e (s .read) r in
-          ap (λ (x : Seen A). seenAfter O R e k rest (update O e k n w (aheadS l s) x)) (met-ahead e (s .read) r r2 q)
-          ∙ ap (seenAfter O R e k rest) (update-ahead e k n w s l c)
-          ∙ after-ahead e k rest (update O e k n w s c) (ih (update O e k n w s c))
+          ap (λ (x : Seen A). sumsAfter P O R e k rest (update N e k n w (aheadS l s) x)) (met-ahead e (s .read) r r2 q)
+          ∙ ap (sumsAfter P O R e k rest) (update-ahead N e k n w s l c)
+          ∙ after-ahead e k rest (update N e k n w s c) (ih (update N e k n w s c))
 
-      scan-ahead : (e : Frame A) (k : Kind) (f : Forest A) (s : alg.State A) → scan O R e k f (aheadS l s) ≡ ahead l (scan O R′ e k f s)
-      unfolding scan finish point
+      scan-ahead : (e : Frame A) (k : Kind) (f : Forest A) (s : alg.State A) → scanSums P O R e k f (aheadS l s) ≡ ahead l (scanSums P O R′ e k f s)
+      unfolding scanSums finish point leave
       scan-ahead e k end s = refl
       scan-ahead e k (leaf n w v rest) s =
           step-ahead e k n w rest s (point n v (s .read)) (point n v (l ++ s .read))
           (ap (λ (x : List ℕ). record { low = v; high = v; play = noPlay; read = x; spent = false }) (append-assoc l (s .read) (n ∷ []))) (λ t. scan-ahead e k rest t)
       scan-ahead e k (inner n w c under rest) s =
           let d : Frame A = frame n under in
-          step-ahead e k n w rest s (seenUnder O R′ e k n w c under s) (seenUnder O R e k n w c under (aheadS l s))
-          (ap₂ (λ (x y : A). scan O R d c under (begin d c x y (l ++ s .read))) (lower-ahead e k w s l) (upper-ahead e k w s l)
-          ∙ ap (scan O R d c under) (begin-ahead d c (lower O e k w s) (upper O e k w s) l (s .read))
-          ∙ scan-ahead d c under (begin d c (lower O e k w s) (upper O e k w s) (s .read))) (λ t. scan-ahead e k rest t)
+          step-ahead e k n w rest s (sumsUnder P O R′ e k n w c under s) (sumsUnder P O R e k n w c under (aheadS l s))
+          (ap₂ (λ (x y : A). scanSums P O R d c under (keep P d c (begin d c x y (l ++ s .read)))) (lower-ahead N e k w s l) (upper-ahead N e k w s l)
+          ∙ ap (scanSums P O R d c under) (begin-ahead d c (lower N e k w s) (upper N e k w s) l (s .read))
+          ∙ scan-ahead d c under (keep P d c (begin d c (lower N e k w s) (upper N e k w s) (s .read)))) (λ t. scan-ahead e k rest t)
 
 -- what is left of a budget once l is read
 limited-behind : (left budget : ℕ) (l : List ℕ) → left + length l ≡ budget → (m : List ℕ) → limited budget (l ++ m) ≡ limited left m
@@ -124,20 +130,20 @@ nodeSeen g v left end w = record { low = 0; high = 0; play = noPlay; read = []; 
 nodeSeen g v left (leaf n x h rest) w = leafSeen v left n (h * g .grain)
 nodeSeen g v left (inner n x j under rest) w = seenIn g v left j under w
 
-lower-lift : (e : Frame ℕ) (k : Kind) (w : ℕ) (s : State) (p : Play ℕ) (l : List ℕ) (x : Bool) → lower natural e k w (lift s p l x) ≡ windowFor e k w s .alpha
+lower-lift : (e : Frame ℕ) (k : Kind) (w : ℕ) (s : State) (p : Play ℕ) (l : List ℕ) (x : Bool) → lower naturalSums e k w (lift s p l x) ≡ windowFor e k w s .alpha
 unfolding lower
 lower-lift e MAX w s p l x = refl
 lower-lift e MIN w s p l x = refl
 lower-lift e CHANCE w s p l x = refl
 
-upper-lift : (e : Frame ℕ) (k : Kind) (w : ℕ) (s : State) (p : Play ℕ) (l : List ℕ) (x : Bool) → upper natural e k w (lift s p l x) ≡ windowFor e k w s .beta
+upper-lift : (e : Frame ℕ) (k : Kind) (w : ℕ) (s : State) (p : Play ℕ) (l : List ℕ) (x : Bool) → upper naturalSums e k w (lift s p l x) ≡ windowFor e k w s .beta
 unfolding upper
 upper-lift e MAX w s p l x = refl
 upper-lift e MIN w s p l x = refl
 upper-lift e CHANCE w s p l x = refl
 
 pub update-lift : (e : Frame ℕ) (k : Kind) (i w : ℕ) (s : State) (p : Play ℕ) (l : List ℕ) (x : Bool) (A : Seen ℕ)
-    → update natural e k i w (lift s p l x) A ≡ lift (after e k i w s (A .low) (A .high)) (prefer natural k i p A) (A .read) (A .spent)
+    → update naturalSums e k i w (lift s p l x) A ≡ lift (after e k i w s (A .low) (A .high)) (prefer naturalSums k i p A) (A .read) (A .spent)
 unfolding update
 update-lift e k i w s p l x A = refl
 
@@ -146,22 +152,22 @@ module _ (g : Rule) (v : Ends) (left budget : ℕ) (l : List ℕ) (q : left + le
   met-behind : (e : Frame ℕ) (r r2 : Seen ℕ) → r2 ≡ ahead l r → met (rulesOf g v budget) e l r2 ≡ ahead l (met (rulesOf g v left) e [] r)
   met-behind e r r2 same =
       ap (λ (x : List ℕ). met (rulesOf g v budget) e x r2) (sym (append-nil l))
-      ∙ met-ahead natural (rulesOf g v left .frame) (g .margin) l (limited budget) (limited left) (limited-behind left budget l q) e [] r r2 same
+      ∙ met-ahead heightSums natural (rulesOf g v left .frame) (g .margin) l (limited budget) (limited left) (limited-behind left budget l q) e [] r r2 same
 
   -- the first child is taken
   pub scan-step : (N : ℕ) (k : Kind) (F : Forest ℕ) (s : State) (p : Play ℕ) (x : Bool) → isEnd F ≡ false →
       let e : Frame ℕ = frameAt v N in
       let C : Seen ℕ = nodeSeen g v left F (windowFor e k (weightOf F) s) in
-      scan natural (rulesOf g v budget) e k (grained (g .grain) F) (lift s p l x)
-      ≡ seenAfter natural (rulesOf g v budget) e k (grained (g .grain) (restOf F)) (lift (after e k (numberOf F) (weightOf F) s (C .low) (C .high)) (prefer natural k (numberOf F) p (ahead l C)) (l ++ C .read) (C .spent))
-  unfolding scan grained point metSpent
+      scanSums heightSums natural (rulesOf g v budget) e k (grained (g .grain) F) (lift s p l x)
+      ≡ sumsAfter heightSums natural (rulesOf g v budget) e k (grained (g .grain) (restOf F)) (lift (after e k (numberOf F) (weightOf F) s (C .low) (C .high)) (prefer naturalSums k (numberOf F) p (ahead l C)) (l ++ C .read) (C .spent))
+  unfolding scanSums grained point metSpent
   scan-step N k end s p x some = absurd (true-ne-false some)
   scan-step N k (leaf n w h rest) s p x some =
       let e : Frame ℕ = frameAt v N in
       let C : Seen ℕ = leafSeen v left n (h * g .grain) in
-      ap (λ (y : Seen ℕ). seenAfter natural (rulesOf g v budget) e k (grained (g .grain) rest) (update natural e k n w (lift s p l x) y))
+      ap (λ (y : Seen ℕ). sumsAfter heightSums natural (rulesOf g v budget) e k (grained (g .grain) rest) (update naturalSums e k n w (lift s p l x) y))
       (met-behind e (point n (h * g .grain) []) (point n (h * g .grain) l) refl)
-      ∙ ap (seenAfter natural (rulesOf g v budget) e k (grained (g .grain) rest)) (update-lift e k n w s p l x (ahead l C))
+      ∙ ap (sumsAfter heightSums natural (rulesOf g v budget) e k (grained (g .grain) rest)) (update-lift e k n w s p l x (ahead l C))
   scan-step N k (inner n w j under rest) s p x some =
       let e : Frame ℕ = frameAt v N in
       let R : Rules ℕ = rulesOf g v budget in
@@ -169,15 +175,15 @@ module _ (g : Rule) (v : Ends) (left budget : ℕ) (l : List ℕ) (q : left + le
       let d : Frame ℕ = framed (v .bottom) (v .top) f in
       let y : Window = windowFor e k w s in
       let C : Seen ℕ = seenIn g v left j under y in
-      let start : alg.State ℕ = begin d j (y .alpha) (y .beta) [] in
-      let same : seenUnder natural R e k n w j f (lift s p l x) ≡ ahead l (scan natural (rulesOf g v left) d j f start) =
-      ap₂ (λ (a b : ℕ). scan natural R d j f (begin d j a b l)) (lower-lift e k w s p l x) (upper-lift e k w s p l x)
-      ∙ ap (λ (z : List ℕ). scan natural R d j f (begin d j (y .alpha) (y .beta) z)) (sym (append-nil l))
-      ∙ ap (scan natural R d j f) (begin-ahead natural d j (y .alpha) (y .beta) l [])
-      ∙ scan-ahead natural (R .frame) (g .margin) l (limited budget) (limited left) (limited-behind left budget l q) d j f start in
-      ap (λ (z : Seen ℕ). seenAfter natural R e k (grained (g .grain) rest) (update natural e k n w (lift s p l x) z))
-      (met-behind e (scan natural (rulesOf g v left) d j f start) (seenUnder natural R e k n w j f (lift s p l x)) same)
-      ∙ ap (seenAfter natural R e k (grained (g .grain) rest)) (update-lift e k n w s p l x (ahead l C))
+      let start : alg.State ℕ = keep heightSums d j (begin d j (y .alpha) (y .beta) []) in
+      let same : sumsUnder heightSums natural R e k n w j f (lift s p l x) ≡ ahead l (scanSums heightSums natural (rulesOf g v left) d j f start) =
+      ap₂ (λ (a b : ℕ). scanSums heightSums natural R d j f (keep heightSums d j (begin d j a b l))) (lower-lift e k w s p l x) (upper-lift e k w s p l x)
+      ∙ ap (λ (z : List ℕ). scanSums heightSums natural R d j f (keep heightSums d j (begin d j (y .alpha) (y .beta) z))) (sym (append-nil l))
+      ∙ ap (scanSums heightSums natural R d j f) (begin-ahead heightSums d j (y .alpha) (y .beta) l [])
+      ∙ scan-ahead heightSums natural (R .frame) (g .margin) l (limited budget) (limited left) (limited-behind left budget l q) d j f start in
+      ap (λ (z : Seen ℕ). sumsAfter heightSums natural R e k (grained (g .grain) rest) (update naturalSums e k n w (lift s p l x) z))
+      (met-behind e (scanSums heightSums natural (rulesOf g v left) d j f start) (sumsUnder heightSums natural R e k n w j f (lift s p l x)) same)
+      ∙ ap (sumsAfter heightSums natural R e k (grained (g .grain) rest)) (update-lift e k n w s p l x (ahead l C))
 
 -- ---- the play
 
@@ -224,7 +230,7 @@ module _ (e : Frame ℕ) (i w m low high : ℕ) (s : State) (q : s .play ≡ m) 
 
 -- A is what the child i gave
 pub plays-after : (e : Frame ℕ) (k : Kind) (i w : ℕ) (s : State) (p : Play ℕ) (A : Seen ℕ) → 0 < i → e .bottom ≤ A .low → A .high ≤ e .top → Plays e k s p
-    → Plays e k (after e k i w s (A .low) (A .high)) (prefer natural k i p A)
+    → Plays e k (after e k i w s (A .low) (A .high)) (prefer naturalSums k i p A)
 unfolding prefer safer update
 plays-after e MAX i w s noPlay A z low high h =
     let x : takes MAX s (A .low) (A .high) ≡ true = first-taken (s .play) _ (h .0) in (rw x refl, z, (omega (arith, h .1), rw x refl))

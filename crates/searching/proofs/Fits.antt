@@ -8,10 +8,11 @@ use native.Mathlib.Omega.{arith}
 use Rattle.line.proofs.Signs.{true-ne-false}
 use Rattle.table.specs.Tree.{Kind, MAX, MIN, CHANCE, Forest, end, leaf, inner, isEnd, weigh}
 use Rattle.table.proofs.Nodes.{restOf, weightOf, weigh-split}
-use Rattle.search.specs.Search.{Frame, Rules, begin, point, scan, framed}
-use Rattle.search.specs.Inside.{natural, grained}
+use Rattle.search.specs.Search.{Frame, Rules, begin, point, framed}
+use Rattle.search.specs.Sums.{keep, scanSums}
+use Rattle.search.specs.Inside.{natural, heightSums, grained}
 use Rattle.search.proofs.Heights.{Sound, Within}
-use Rattle.search.proofs.Contain.{Holding, hold-point, hold-met, contained}
+use Rattle.search.proofs.Between.{Between, between-point, between-met, between}
 use Rattle.search.proofs.Grains.{grained-weigh}
 use Rattle.steps.specs.declared.Rule.{Rule}
 use Rattle.steps.specs.declared.Ends.{Ends}
@@ -53,19 +54,16 @@ module _ (g : Rule) (v : Ends) where
     fit-within left N k (inner n w j under rest) f =
         (le-refl (v .bottom), le-refl (v .top), fit-sound j under (f .1) (f .3), fit-within left _ j under (f .3), fit-within left N k rest (f .4))
 
-    -- what the first node gives holds its worth, and lies between the ends
-    pub node-holds : (left N : ℕ) (k : Kind) (F : Forest ℕ) (y : Window) → isEnd F ≡ false → Fit g v k F
-        → (x : ℕ) × Holding (frameAt v N) x (nodeSeen g v left F y)
+    -- what the first node gives lies between the ends
+    pub node-between : (left N : ℕ) (k : Kind) (F : Forest ℕ) (y : Window) → isEnd F ≡ false → Fit g v k F → Between (frameAt v N) (nodeSeen g v left F y)
     unfolding Fit
-    node-holds left N k end y q f = absurd (true-ne-false q)
-    node-holds left N k (leaf n w h rest) y q f =
+    node-between left N k end y q f = absurd (true-ne-false q)
+    node-between left N k (leaf n w h rest) y q f =
         let x : ℕ = h * g .grain in
-        (x, hold-met (rulesOf g v left) (frameAt v 0) [] x (point n x []) (hold-point (frameAt v 0) n x [] (f .1, f .2)))
-    node-holds left N k (inner n w j under rest) y q f =
+        between-met (rulesOf g v left) (frameAt v 0) [] (point n x []) (between-point (frameAt v 0) n x [] (f .1) (f .2))
+    node-between left N k (inner n w j under rest) y q f =
         let R : Rules ℕ = rulesOf g v left in
         let u : Forest ℕ = grained (g .grain) under in
-        let d : Frame ℕ = framed (v .bottom) (v .top) u in (
-          _,
-          hold-met R d [] _ (scan natural R d j u (begin d j (y .alpha) (y .beta) []))
-              (contained R d j u (y .alpha) (y .beta) [] (fit-sound j under (f .1) (f .3)) (fit-within left (d .total) j under (f .3))),
-        )
+        let d : Frame ℕ = framed (v .bottom) (v .top) u in
+        between-met R d [] (scanSums heightSums natural R d j u (keep heightSums d j (begin d j (y .alpha) (y .beta) [])))
+        (between R d j u (y .alpha) (y .beta) [] (fit-sound j under (f .1) (f .3)) (fit-within left (d .total) j under (f .3)))

@@ -14,8 +14,9 @@ use Rattle.table.specs.Inside.{lent, heightTree}
 use Rattle.table.specs.Accepted.{span, Filled, Balanced, Proper}
 use Rattle.table.proofs.Accepted.{accepted-ranged, accepted-grain, accepted-lent, accepted-holds, heights-rooted, heights-proper, heights-filled, heights-balanced}
 use Rattle.table.proofs.Ends.{span-grains}
-use Rattle.search.specs.Search.{limited}
+use Rattle.search.specs.Search.{Seen, limited}
 use Rattle.search.specs.Inside.{heightSearched}
+use Rattle.search.proofs.Summed.{heights-summed}
 use Rattle.steps.specs.declared.Rule.{Rule}
 use Rattle.steps.specs.declared.Ends.{Ends}
 use Rattle.steps.specs.declared.Found.{Found}
@@ -58,4 +59,4 @@ module _ (s : List ℕ) (t : Table) (h : readText s ≡ fine t) (ε : ℕ) (smal
   pub accepted-searched : (r : Found) (came now : List ℕ) → Searched (lent t K S W H) (ruleOf t ε) (endsOf t) (length (t .lines)) r came now
       → Shows r (heightSearched t ε (limited (length came))) came now
   unfolding accepted-search-ready
-  accepted-searched r came now told = told accepted-search-ready
+  accepted-searched r came now told = subst (λ (a : Seen ℕ). Shows r a came now) (heights-summed s t h ε (limited (length came))) (told accepted-search-ready)

@@ -10,8 +10,9 @@ use Rattle.table.specs.Inside.{Slices}
 use Rattle.table.specs.Slices.{laid}
 use Rattle.table.specs.Accepted.{Rooted}
 use Rattle.table.proofs.Nodes.{root-stop, root-some}
-use Rattle.search.specs.Search.{Seen, metSpent, search, searchRoot}
-use Rattle.search.specs.Inside.{natural, grained}
+use Rattle.search.specs.Search.{Seen, metSpent}
+use Rattle.search.specs.Sums.{searchSums, rootSums}
+use Rattle.search.specs.Inside.{natural, heightSums, grained}
 use Rattle.steps.specs.declared.Rule.{Rule}
 use Rattle.steps.specs.declared.Ends.{Ends}
 use Rattle.steps.specs.declared.Window.{Window}
@@ -64,8 +65,8 @@ module _ {t : Slices} {g : Rule} {v : Ends} {n : ℕ} (R : ReadyRoot t g v n) wh
       let x = root-some t n (R .nodes) (R .spans) (R .rooted) in
       (omega (arith, x, R .holds .kinds), omega (arith, x, R .holds .heights))
 
-root-is : (g : Rule) (v : Ends) (left : ℕ) (F : Forest ℕ) → Rooted F → searchRoot natural (rulesOf g v left) (grained (g .grain) F) ≡ nodeSeen g v left F (rootWindow v)
-unfolding grained searchRoot search metSpent
+root-is : (g : Rule) (v : Ends) (left : ℕ) (F : Forest ℕ) → Rooted F → rootSums heightSums natural (rulesOf g v left) (grained (g .grain) F) ≡ nodeSeen g v left F (rootWindow v)
+unfolding grained rootSums searchSums metSpent
 root-is g v left end r = absurd r
 root-is g v left (leaf i w h rest) r = refl
 root-is g v left (inner i w k under rest) r = refl

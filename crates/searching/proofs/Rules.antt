@@ -3,33 +3,33 @@ use Prim.Native.Nat.{ℕ, suc, _+_, _-_, _*_, _≤_, _<_}
 use mathlib.Core.Path.{_≡_, refl, sym, ap, ap₂, subst, subst₂, _∙_}
 use mathlib.Core.Bool.{Bool, true, false}
 use mathlib.Core.List.{List, [], _∷_, _++_}
-use native.Mathlib.Nat.{suc-add, add-suc, add-zero, le-trans, le-of-mul-le-mul-left}
+use native.Mathlib.Nat.{suc-add, add-suc, add-zero, le-trans, mul-le-mul, mul-div-right}
 use native.Mathlib.Omega.{arith}
 use lib.ListN.{length, getD, set, length-set, length-append}
 use lib.Dec.{leb}
 use borrow.Author.Tests.{lt-leb}
 use Rattle.line.proofs.Signs.{true-ne-false}
-use Rattle.table.specs.Tree.{Kind, MAX, MIN, CHANCE, Forest, end, leaf, inner, codeOf, isEnd, weigh, leaves}
+use Rattle.table.specs.Tree.{Kind, MAX, MIN, CHANCE, Forest, end, leaf, inner, codeOf, isChance, isEnd, weigh}
 use Rattle.table.specs.Inside.{Slices, Spans, Holds}
 use Rattle.table.proofs.Nodes.{code-inj, code-pos, stopOf, restOf, numberOf, weightOf, weigh-split, Step, step, spans-last, spans-more, spans-lt, spans-same}
 use Rattle.runs.specs.Inside.{weighAt}
 use Rattle.runs.proofs.Scan.{spans-weigh}
 use Rattle.search.specs.Search as alg
-use Rattle.search.specs.Search.{Frame, Play, noPlay, Seen, framed, begin, finish, cut, point, metSpent, lower, upper, prefer, runLow, runHigh, update, stop, scan}
-use Rattle.search.specs.Inside.{natural, grained}
-use Rattle.search.proofs.Steps.{cond-past, seenAfter}
-use Rattle.search.proofs.Contain.{Holding}
+use Rattle.search.specs.Search.{Frame, Play, noPlay, Seen, framed, begin, finish, cut, point, metSpent, lower, upper, prefer, runLow, runHigh, update, stop}
+use Rattle.search.specs.Sums.{keptMargin, divided, keep, leave, scanSums}
+use Rattle.search.specs.Inside.{natural, naturalSums, heightSums, grained}
+use Rattle.search.proofs.Steps.{cond-past, sumsAfter}
 use Rattle.search.proofs.Grains.{grained-weigh}
-use Rattle.search.proofs.Safe.{Safe, safe-window, safe-begin, safe-update}
+use Rattle.search.proofs.Between.{Between, Ranked, Small, ranked-begin, ranked-update, small-begin, small-update}
 use Rattle.steps.specs.declared.Rule.{Rule}
 use Rattle.steps.specs.declared.Ends.{Ends}
 use Rattle.steps.specs.declared.State.{State}
 use Rattle.steps.specs.declared.Window.{Window}
 use Rattle.steps.specs.declared.Found.{Found}
-use Rattle.steps.specs.Inside.{frameAt, lift, windowFor, after, stops, rulesOf, putFrom, Gives, metSpentIn, leafSeen, limit, OkEnds, OkState}
+use Rattle.steps.specs.Inside.{frameAt, lift, sumsAt, windowFor, after, stops, rulesOf, putFrom, Gives, leftIn, metSpentIn, leafSeen, limit, sumLimit, OkEnds, OkSums}
 use Rattle.searching.specs.Inside.{seenIn, OkRule, Light, Fit, ReadyChildren, Told}
 use Rattle.searching.proofs.Bridge.{ahead, nodeSeen, update-lift, scan-step, Plays, plays-number, plays-after}
-use Rattle.searching.proofs.Fits.{grained-split, fit-rest, fit-weight, fit-sound, node-holds}
+use Rattle.searching.proofs.Fits.{grained-split, fit-rest, fit-weight, fit-sound, node-between}
 
 -- ---- the list
 
@@ -165,19 +165,19 @@ told-spent t g {v} k w c e {left} {came} {r} z q F is =
 
 -- ---- the loop over the children
 
--- before the first child
-abbrev pub startAt : Kind → Ends → Window → State
-startAt MAX v w = record { alpha = w .alpha; beta = w .beta; low = v .bottom; high = v .bottom; play = 0; other = 0 }
-startAt MIN v w = record { alpha = w .alpha; beta = w .beta; low = v .top; high = v .top; play = 0; other = 0 }
-startAt CHANCE v w = record { alpha = w .alpha; beta = w .beta; low = v .bottom; high = v .top; play = 0; other = 0 }
+-- before the first child of a node whose weights sum to N
+abbrev pub startAt : Kind → Ends → (N : ℕ) → Window → State
+startAt MAX v N w = record { alpha = w .alpha; beta = w .beta; low = v .bottom; high = v .bottom; play = 0; other = 0 }
+startAt MIN v N w = record { alpha = w .alpha; beta = w .beta; low = v .top; high = v .top; play = 0; other = 0 }
+startAt CHANCE v N w = sumsAt v N w
 
-begin-lift : (v : Ends) (N : ℕ) (k : Kind) (w : Window) → begin (frameAt v N) k (w .alpha) (w .beta) [] ≡ lift (startAt k v w) noPlay [] false
-unfolding begin
+begin-lift : (v : Ends) (N : ℕ) (k : Kind) (w : Window) → keep heightSums (frameAt v N) k (begin (frameAt v N) k (w .alpha) (w .beta) []) ≡ lift (startAt k v N w) noPlay [] false
+unfolding begin keep
 begin-lift v N MAX w = refl
 begin-lift v N MIN w = refl
 begin-lift v N CHANCE w = refl
 
-plays-start : (v : Ends) (N : ℕ) (k : Kind) (w : Window) → Plays (frameAt v N) k (startAt k v w) noPlay
+plays-start : (v : Ends) (N : ℕ) (k : Kind) (w : Window) → Plays (frameAt v N) k (startAt k v N w) noPlay
 plays-start v N MAX w = (refl, refl)
 plays-start v N MIN w = (refl, refl)
 plays-start v N CHANCE w = (refl, tt)
@@ -206,20 +206,20 @@ pub record Going (t : Slices) (g : Rule) (v : Ends) (k : Kind) (w : Window) (c�
   pub read : List ℕ
   pub plays : Plays (frameOf g v all) k s play
   pub spent : Bool
-  pub safe : Safe limit (frameOf g v all) k (weigh (grained (g .grain) nodes)) (lift s play read spent)
+  pub ranked : Ranked (frameOf g v all) k (weigh (grained (g .grain) nodes)) (lift s play read spent)
+  pub small : Small limit (frameOf g v all) k (lift s play read spent)
   pub within : left₀ ≤ length came
   pub left-is : left + length read ≡ left₀
   pub leaves-are : now ≡ putFrom came (length came - left₀) read
-  pub so-far : seenIn g v left₀ k all w ≡ scan natural (rulesOf g v left₀) (frameOf g v all) k (grained (g .grain) nodes) (lift s play read spent)
+  pub so-far : seenIn g v left₀ k all w ≡ scanSums heightSums natural (rulesOf g v left₀) (frameOf g v all) k (grained (g .grain) nodes) (lift s play read spent)
 
-pub going-start : {t : Slices} {g : Rule} {v : Ends} (k : Kind) (w : Window) {c e left : ℕ} {came : List ℕ} → ReadyChildren t g v k w c e left (length came)
-    → (left ≡ 0 → ⊥) → Going t g v k w c e left came (startAt k v w) c left came
+pub going-start : {t : Slices} {g : Rule} {v : Ends} (k : Kind) (w : Window) {c e left : ℕ} {came : List ℕ} (R : ReadyChildren t g v k w c e left (length came))
+    → (left ≡ 0 → ⊥) → Going t g v k w c e left came (startAt k v (weigh (grained (g .grain) (R .nodes))) w) c left came
 unfolding putFrom
 going-start {t} {g} {v} k w {c} {e} {left} {came} R more =
     let F = R .nodes in
     let f : Forest ℕ = grained (g .grain) F in
     let st = step t c e F (R .spans) (R .some) in
-    let o = R .ends .top in
     record {
       all = F;
       begun = R .spans;
@@ -238,20 +238,15 @@ going-start {t} {g} {v} k w {c} {e} {left} {came} R more =
       read = [];
       plays = plays-start v (weigh f) k w;
       spent = false;
-      safe = subst (λ (z : alg.State ℕ). Safe limit (frameOf g v F) k (weigh f) z) (begin-lift v (weigh f) k w)
-          (safe-begin limit (frameOf g v F) k f (w .alpha) (w .beta) [] (fit-sound g v (R .ends) k F (st .some) (R .fit)) o (R .alpha) (R .beta));
+      ranked = subst (λ (z : alg.State ℕ). Ranked (frameOf g v F) k (weigh f) z) (begin-lift v (weigh f) k w)
+          (ranked-begin (frameOf g v F) k f (w .alpha) (w .beta) [] (fit-sound g v (R .ends) k F (st .some) (R .fit)));
+      small = subst (λ (z : alg.State ℕ). Small limit (frameOf g v F) k z) (begin-lift v (weigh f) k w)
+          (small-begin limit (frameOf g v F) k (w .alpha) (w .beta) [] (R .alpha) (R .beta));
       within = R .within;
       left-is = omega arith;
       leaves-are = refl;
-      so-far = cond-past (leb left 0) _ _ (lt-leb left 0 (omega (arith, more))) ∙ ap (scan natural (rulesOf g v left) (frameOf g v F) k f) (begin-lift v (weigh f) k w);
+      so-far = cond-past (leb left 0) _ _ (lt-leb left 0 (omega (arith, more))) ∙ ap (scanSums heightSums natural (rulesOf g v left) (frameOf g v F) k f) (begin-lift v (weigh f) k w);
     }
-
-safe-small : (e : Frame ℕ) (k : Kind) (W : ℕ) (s : State) (p : Play ℕ) (l : List ℕ) (x : Bool) → Safe limit e k W (lift s p l x) → OkState s
-safe-small e MAX W s p l x h = record { alpha = h .0; beta = h .1; low = h .2; high = h .3 }
-safe-small e MIN W s p l x h = record { alpha = h .0; beta = h .1; low = h .2; high = h .3 }
-safe-small e CHANCE W s p l x h =
-    let below : s .low ≤ s .high = le-of-mul-le-mul-left (omega (arith, h .2)) (h .4) in
-    record { alpha = h .0; beta = h .1; low = omega (arith, below, h .3); high = h .3 }
 
 module _ {t : Slices} {g : Rule} {v : Ends} {k : Kind} {w : Window} {c₀ e left₀ : ℕ} {came₀ : List ℕ} {s : State} {c left : ℕ} {came : List ℕ}
     (I : Going t g v k w c₀ e left₀ came₀ s c left came) where
@@ -262,9 +257,6 @@ module _ {t : Slices} {g : Rule} {v : Ends} {k : Kind} {w : Window} {c₀ e left
   going-kept : length came ≡ length came₀
   going-kept = ap length (I .leaves-are) ∙ put-length came₀ (length came₀ - left₀) (I .read)
 
-  pub going-small : OkState s
-  going-small = safe-small (frameOf g v (I .all)) k (weigh (grained (g .grain) (I .nodes))) s (I .play) (I .read) (I .spent) (I .safe)
-
 -- a C's child has a weight of at least 1, within the total
 pub chance-weight : {t : Slices} {g : Rule} {v : Ends} {w : Window} {c₀ e left₀ : ℕ} {came₀ : List ℕ} {s : State} {c left : ℕ} {came : List ℕ}
     (I : Going t g v CHANCE w c₀ e left₀ came₀ s c left came) → (0 < getD (t .weights) c 0) × (getD (t .weights) c 0 ≤ weigh (I .all)) × (weigh (I .all) ≤ 64)
@@ -273,14 +265,38 @@ chance-weight {t} {g} {v} I =
     let u = fit-weight g v CHANCE (I .nodes) (st .some) (I .fit) refl in
     (omega (arith, st .weight, u), omega (arith, st .weight, weigh-split (I .nodes), I .part), I .light refl)
 
+-- the numbers of a C's line are those of at most 64 bounds
+times-small : (N x : ℕ) → N ≤ 64 → x ≤ limit → N * x ≤ sumLimit
+times-small N x p q = mul-le-mul {n₂ = 64} {m₂ = limit} p q
+
+pub chance-small : {t : Slices} {g : Rule} {v : Ends} {w : Window} {c₀ e left₀ : ℕ} {came₀ : List ℕ} {s : State} {c left : ℕ} {came : List ℕ}
+    (I : Going t g v CHANCE w c₀ e left₀ came₀ s c left came) → OkSums s
+unfolding keptMargin
+chance-small {g = g} {v = v} I =
+    let light : weigh (grained (g .grain) (I .all)) ≤ 64 = omega (arith, grained-weigh (g .grain) (I .all), I .light refl) in
+    let far = times-small (weigh (grained (g .grain) (I .all))) limit light (omega arith) in
+    let top = times-small (weigh (grained (g .grain) (I .all))) (v .top) light (I .ends .top) in
+    record {
+      alpha = le-trans (I .small .0) far;
+      beta = le-trans (I .small .1) far;
+      low = omega (arith, I .ranked .1, I .ranked .2, top);
+      high = le-trans (I .ranked .2) top;
+    }
+
 -- the total N that was added up
 pub chance-total : {t : Slices} {g : Rule} {v : Ends} {w : Window} {c₀ e left₀ : ℕ} {came₀ : List ℕ} {s : State} {c left : ℕ} {came : List ℕ}
     (I : Going t g v CHANCE w c₀ e left₀ came₀ s c left came) {N : ℕ} → N ≡ weighAt (t .stops) (t .weights) 1024 c₀ e → N ≡ weigh (I .all)
 chance-total {t} {c₀ = c₀} {e = e} I q = q ∙ spans-weigh t 1024 c₀ e (I .all) (I .begun) (omega (arith, I .holds .few))
 
-pub window-small : (v : Ends) (N w : ℕ) (s : State) → OkEnds v → (windowFor (frameAt v N) CHANCE w s .alpha ≤ limit) × (windowFor (frameAt v N) CHANCE w s .beta ≤ limit)
+-- the margin m on its scale
+pub chance-margin-is : {t : Slices} {g : Rule} {v : Ends} {w : Window} {c₀ e left₀ : ℕ} {came₀ : List ℕ} {s : State} {c left : ℕ} {came : List ℕ}
+    (I : Going t g v CHANCE w c₀ e left₀ came₀ s c left came) {N m : ℕ} → m ≡ N * g .margin → N ≡ weigh (I .all) → m ≡ keptMargin (frameOf g v (I .all)) CHANCE (g .margin)
+unfolding keptMargin
+chance-margin-is {g = g} I p q = p ∙ ap (λ (n : ℕ). n * g .margin) (q ∙ sym (grained-weigh (g .grain) (I .all)))
+
+pub window-small : (v : Ends) (w : ℕ) (s : State) → OkEnds v → (windowFor (frameAt v 0) CHANCE w s .alpha ≤ limit) × (windowFor (frameAt v 0) CHANCE w s .beta ≤ limit)
 unfolding lower upper
-window-small v N w s o = (omega (arith, o .order, o .top), omega (arith, o .top))
+window-small v w s o = (omega (arith, o .order, o .top), omega (arith, o .top))
 
 -- before a child is searched: entry c, its run up to x, in the window y; the children began at c₀ and go on to e
 pub record Child (t : Slices) (g : Rule) (v : Ends) (c₀ e c x left room : ℕ) (y : Window) : Type 0 where
@@ -356,18 +372,16 @@ module _ {t : Slices} {g : Rule} {v : Ends} {w : Window} {c₀ e left₀ : ℕ} 
     unfolding lower upper
     min-told I h = h
 
-    -- of the weight x and the total N that were read
-    pub chance-told : (I : Going t g v CHANCE w c₀ e left₀ came₀ s c left came) {N x : ℕ} {y : Window} → N ≡ weigh (I .all) → x ≡ getD (t .weights) c 0
-        → y ≡ windowFor (frameAt v N) CHANCE x s → NodeTold t g v y c left r came now → ChildTold I r now
-    chance-told I p q z h =
-        subst (λ (y : Window). NodeTold t g v y c left r came now)
-        (z ∙ ap₂ (λ (N x : ℕ). windowFor (frameAt v N) CHANCE x s) (p ∙ sym (grained-weigh (g .grain) (I .all))) q) h
+    -- of the weight x that was read
+    pub chance-told : (I : Going t g v CHANCE w c₀ e left₀ came₀ s c left came) {x : ℕ} {y : Window} → x ≡ getD (t .weights) c 0
+        → y ≡ windowFor (frameAt v 0) CHANCE x s → NodeTold t g v y c left r came now → ChildTold I r now
+    unfolding lower upper
+    chance-told I q z h = subst (λ (y : Window). NodeTold t g v y c left r came now) (z ∙ ap (λ (x : ℕ). windowFor (frameAt v 0) CHANCE x s) q) h
 
-  pub chance-state : (I : Going t g v CHANCE w c₀ e left₀ came₀ s c left came) (r : Found) {N x : ℕ} {s′ : State} → N ≡ weigh (I .all) → x ≡ getD (t .weights) c 0
-      → s′ ≡ after (frameAt v N) CHANCE 0 x s (r .low) (r .high) → s′ ≡ after (frameOf g v (I .all)) CHANCE c (getD (t .weights) c 0) s (r .low) (r .high)
+  pub chance-state : (I : Going t g v CHANCE w c₀ e left₀ came₀ s c left came) (r : Found) {x : ℕ} {s′ : State} → x ≡ getD (t .weights) c 0
+      → s′ ≡ after (frameAt v 0) CHANCE 0 x s (r .low) (r .high) → s′ ≡ after (frameOf g v (I .all)) CHANCE c (getD (t .weights) c 0) s (r .low) (r .high)
   unfolding update
-  chance-state I r p q z =
-      z ∙ ap₂ (λ (N x : ℕ). after (frameAt v N) CHANCE c x s (r .low) (r .high)) (p ∙ sym (grained-weigh (g .grain) (I .all))) q
+  chance-state I r q z = z ∙ ap (λ (x : ℕ). after (frameAt v 0) CHANCE c x s (r .low) (r .high)) q
 
   pub max-state : (I : Going t g v MAX w c₀ e left₀ came₀ s c left came) (r : Found) {s′ : State} → s′ ≡ after (frameAt v 0) MAX c 0 s (r .low) (r .high)
       → s′ ≡ after (frameOf g v (I .all)) MAX c (getD (t .weights) c 0) s (r .low) (r .high)
@@ -379,32 +393,41 @@ module _ {t : Slices} {g : Rule} {v : Ends} {w : Window} {c₀ e left₀ : ℕ} 
   unfolding update
   min-state I r z = z
 
+-- what a search returns for a node of this frame and kind that is left with the bounds low and high, on its scale
+abbrev pub outOf : Frame ℕ → Kind → (low high play left : ℕ) → Bool → Found
+outOf f k low high play left x = record { low = divided heightSums f k low; high = divided heightSums f k high; play = play; left = left; spent = x }
+
 -- the search of the children that are left, F, after the child before them
 module _ (g : Rule) (v : Ends) (left : ℕ) (f : Frame ℕ) (k : Kind) (s : State) (p : Play ℕ) (l : List ℕ) (x : Bool) where
   abbrev seenLeft : Forest ℕ → Seen ℕ
-  seenLeft F = seenAfter natural (rulesOf g v left) f k (grained (g .grain) F) (lift s p l x)
+  seenLeft F = sumsAfter heightSums natural (rulesOf g v left) f k (grained (g .grain) F) (lift s p l x)
 
-  left-none : (F : Forest ℕ) → isEnd F ≡ true → seenLeft F ≡ record { low = s .low; high = s .high; play = p; read = l; spent = x }
-  unfolding grained stop scan finish
+  abbrev leftWith : (low high : ℕ) → Seen ℕ
+  leftWith low high = leave heightSums f k (record { low = low; high = high; play = p; read = l; spent = x })
+
+  left-none : (F : Forest ℕ) → isEnd F ≡ true → seenLeft F ≡ leftWith (s .low) (s .high)
+  unfolding grained stop scanSums finish
   left-none end q = refl
   left-none (leaf n w h rest) q = absurd (true-ne-false (sym q))
   left-none (inner n w j under rest) q = absurd (true-ne-false (sym q))
 
-  left-cut : (F : Forest ℕ) → isEnd F ≡ false → stops g s ≡ true
-      → seenLeft F ≡ record { low = runLow f k (s .low); high = runHigh f k (s .high); play = p; read = l; spent = x }
+  left-cut : (F : Forest ℕ) → isEnd F ≡ false → stops (keptMargin f k (g .margin)) s ≡ true
+      → seenLeft F ≡ leftWith (runLow f k (s .low)) (runHigh f k (s .high))
   unfolding grained stop cut
   left-cut end q h = absurd (true-ne-false q)
   left-cut (leaf n w x rest) q h = rw h refl
   left-cut (inner n w j under rest) q h = rw h refl
 
-  left-more : (F : Forest ℕ) → isEnd F ≡ false → stops g s ≡ false → seenLeft F ≡ scan natural (rulesOf g v left) f k (grained (g .grain) F) (lift s p l x)
+  left-more : (F : Forest ℕ) → isEnd F ≡ false → stops (keptMargin f k (g .margin)) s ≡ false
+      → seenLeft F ≡ scanSums heightSums natural (rulesOf g v left) f k (grained (g .grain) F) (lift s p l x)
   unfolding grained stop
   left-more end q h = absurd (true-ne-false q)
   left-more (leaf n w x rest) q h = rw h refl
   left-more (inner n w j under rest) q h = rw h refl
 
--- The loop stood at c with the state s; the child's run ends at x, r is what its search gave and s′ the state after it, `now` the list.
-pub record Turn (t : Slices) (g : Rule) (v : Ends) (k : Kind) (w : Window) (c₀ e left₀ : ℕ) (came₀ : List ℕ) (c x : ℕ) (r : Found) (s′ : State) (now : List ℕ) : Type 0 where
+-- The loop stood at c with the state s; the child's run ends at x, r is what its search gave and s′ the state after it, `now` the list; m is the margin on
+-- the line's scale.
+pub record Turn (t : Slices) (g : Rule) (v : Ends) (k : Kind) (w : Window) (c₀ e left₀ m : ℕ) (came₀ : List ℕ) (c x : ℕ) (r : Found) (s′ : State) (now : List ℕ) : Type 0 where
   pub s : State
   pub left : ℕ
   pub came : List ℕ
@@ -412,6 +435,7 @@ pub record Turn (t : Slices) (g : Rule) (v : Ends) (k : Kind) (w : Window) (c₀
   pub stop : x ≡ stopOf t c
   pub told : ChildTold going r now
   pub state : s′ ≡ after (frameOf g v (going .all)) k c (getD (t .weights) c 0) s (r .low) (r .high)
+  pub margin : m ≡ keptMargin (frameOf g v (going .all)) k (g .margin)
 
 module _ {t : Slices} {g : Rule} {v : Ends} {k : Kind} {w : Window} {c₀ e left₀ : ℕ} {came₀ : List ℕ} {s : State} {c left : ℕ} {came : List ℕ}
     (I : Going t g v k w c₀ e left₀ came₀ s c left came) {r : Found} {now : List ℕ} (told : ChildTold I r now) where
@@ -428,14 +452,14 @@ module _ {t : Slices} {g : Rule} {v : Ends} {k : Kind} {w : Window} {c₀ e left
   own-gives : Gives left r own came now
   own-gives = subst (λ (x : ℕ). Gives left r (nodeSeen g v left F (windowFor frame k x s)) came now) (going-step I .weight) (told .tells F e (I .spans) (I .some))
 
-  own-holds : (x : ℕ) × Holding frame x own
-  own-holds = node-holds g v (I .ends) left (frame .total) k F (windowFor frame k (weightOf F) s) (going-step I .some) (I .fit)
+  own-between : Between frame own
+  own-between = node-between g v (I .ends) left (frame .total) k F (windowFor frame k (weightOf F) s) (going-step I .some) (I .fit)
 
   pub told-within : (v .bottom ≤ r .low) × (r .low ≤ limit) × (r .high ≤ v .top)
   told-within =
       let G = own-gives in
-      let H = own-holds .1 in
-      (omega (arith, G .low, H .0), omega (arith, G .low, H .1, H .2, H .3, I .ends .top), omega (arith, G .high, H .3))
+      let B = own-between in
+      (omega (arith, G .low, B .0), omega (arith, G .low, B .1, B .2, I .ends .top), omega (arith, G .high, B .2))
 
   -- the list
   abbrev listed : List ℕ
@@ -458,7 +482,14 @@ module _ {t : Slices} {g : Rule} {v : Ends} {k : Kind} {w : Window} {c₀ e left
 
   -- the state
   abbrev played : Play ℕ
-  played = prefer natural k (numberOf F) (I .play) (ahead (I .read) own)
+  played = prefer naturalSums k (numberOf F) (I .play) (ahead (I .read) own)
+
+  -- the weights to come
+  abbrev others : ℕ
+  others = weigh (grained (g .grain) (restOf F))
+
+  ranked-now : Ranked frame k (weightOf F + others) (lift s (I .play) (I .read) (I .spent))
+  ranked-now = subst (λ (n : ℕ). Ranked frame k n (lift s (I .play) (I .read) (I .spent))) (grained-split (g .grain) F) (I .ranked)
 
   module _ (s′ : State) (state : s′ ≡ after frame k c (getD (t .weights) c 0) s (r .low) (r .high)) where
     state-next : after frame k (numberOf F) (weightOf F) s (own .low) (own .high) ≡ s′
@@ -467,62 +498,81 @@ module _ {t : Slices} {g : Rule} {v : Ends} {k : Kind} {w : Window} {c₀ e left
         let G = own-gives in
         sym (state ∙ λ i. after frame k (st .number i) (st .weight i) s (G .low i) (G .high i))
 
+    update-next : update naturalSums frame k (numberOf F) (weightOf F) (lift s (I .play) (I .read) (I .spent)) (ahead (I .read) own) ≡ lift s′ played listed (own .spent)
+    update-next =
+        update-lift frame k (numberOf F) (weightOf F) s (I .play) (I .read) (I .spent) (ahead (I .read) own) ∙ ap (λ (z : State). lift z played listed (own .spent)) state-next
+
     seen-next : seenIn g v left₀ k (I .all) w ≡ seenLeft g v left₀ frame k s′ played listed (own .spent) (restOf F)
     seen-next =
         I .so-far ∙ scan-step g v left left₀ (I .read) (I .left-is) (frame .total) k F s (I .play) (I .spent) (going-step I .some)
         ∙ ap (λ (z : State). seenLeft g v left₀ frame k z played listed (own .spent) (restOf F)) state-next
 
-    safe-next : Safe limit frame k (weigh (grained (g .grain) (restOf F))) (lift s′ played listed (own .spent))
-    safe-next =
-        let W : ℕ = weigh (grained (g .grain) (restOf F)) in
-        let H = own-holds .1 in
-        subst (λ (z : alg.State ℕ). Safe limit frame k W z)
-        (update-lift frame k (numberOf F) (weightOf F) s (I .play) (I .read) (I .spent) (ahead (I .read) own) ∙ ap (λ (z : State). lift z played listed (own .spent)) state-next)
-        (safe-update limit frame k (numberOf F) (weightOf F) W (lift s (I .play) (I .read) (I .spent)) (ahead (I .read) own) (I .ends .top) (H .0) (le-trans (H .1) (H .2)) (H .3)
-        (subst (λ (n : ℕ). Safe limit frame k n (lift s (I .play) (I .read) (I .spent))) (grained-split (g .grain) F) (I .safe)))
+    ranked-next : Ranked frame k others (lift s′ played listed (own .spent))
+    ranked-next =
+        subst (λ (z : alg.State ℕ). Ranked frame k others z) update-next
+        (ranked-update frame k (numberOf F) (weightOf F) others (lift s (I .play) (I .read) (I .spent)) (ahead (I .read) own) own-between ranked-now)
+
+    small-next : Small limit frame k (lift s′ played listed (own .spent))
+    small-next =
+        subst (λ (z : alg.State ℕ). Small limit frame k z) update-next
+        (small-update limit frame k (numberOf F) (weightOf F) others (lift s (I .play) (I .read) (I .spent)) (ahead (I .read) own) (I .ends .top) own-between ranked-now (I .small))
 
     plays-next : Plays frame k s′ played
     plays-next =
-        let H = own-holds .1 in
         subst (λ (z : State). Plays frame k z played) state-next
-        (plays-after frame k (numberOf F) (weightOf F) s (I .play) (ahead (I .read) own) (omega (arith, going-step I .number, I .later, I .past)) (H .0) (H .3) (I .plays))
+        (plays-after frame k (numberOf F) (weightOf F) s (I .play) (ahead (I .read) own) (omega (arith, going-step I .number, I .later, I .past)) (own-between .0) (own-between .2) (I .plays))
 
-module _ {t : Slices} {g : Rule} {v : Ends} {k : Kind} {w : Window} {c₀ e left₀ : ℕ} {came₀ : List ℕ} {c x : ℕ} {r : Found} {s′ : State} {now : List ℕ}
-    (U : Turn t g v k w c₀ e left₀ came₀ c x r s′ now) where
+-- a number on a line's scale is at most 64 times as large
+kept-small : (f : Frame ℕ) (k : Kind) (x B : ℕ) → (isChance k ≡ true → f .total ≤ 64) → x ≤ B → keptMargin f k x ≤ 64 * B
+unfolding keptMargin
+kept-small f MAX x B l h = omega arith
+kept-small f MIN x B l h = omega arith
+kept-small f CHANCE x B l h = mul-le-mul (l refl) h
+
+module _ {t : Slices} {g : Rule} {v : Ends} {k : Kind} {w : Window} {c₀ e left₀ m : ℕ} {came₀ : List ℕ} {c x : ℕ} {r : Found} {s′ : State} {now : List ℕ}
+    (U : Turn t g v k w c₀ e left₀ m came₀ c x r s′ now) where
   pub turn-same : length now ≡ length came₀
   turn-same = kept-next (U .going) (U .told)
 
   pub turn-less : e - x < e - c
   turn-less = omega (arith, U .stop, going-step (U .going) .below, U .going .some)
 
-  pub turn-margin : s′ .alpha + g .margin < 9223372036854775808
+  pub turn-margin : s′ .alpha + m < 9223372036854775808
   turn-margin =
       let I = U .going in
-      let q = safe-window limit (frameOf g v (I .all)) k (weigh (grained (g .grain) (restOf (I .nodes)))) _ (safe-next I (U .told) s′ (U .state)) in
-      omega (arith, q .0, I .rule .margin)
+      let f : Frame ℕ = frameOf g v (I .all) in
+      let light : isChance k ≡ true → f .total ≤ 64 = λ h. omega (arith, grained-weigh (g .grain) (I .all), I .light h) in
+      omega (arith, small-next I (U .told) s′ (U .state) .0, kept-small f k limit limit light (omega arith), U .margin, kept-small f k (g .margin) 40000000000000 light (I .rule .margin))
 
   -- whatever the nodes are said to be, they are those
   told-all : (out : Found) → Gives left₀ out (seenIn g v left₀ k (U .going .all) w) came₀ now → Told t g v k w c₀ e left₀ out came₀ now
   told-all out h H is =
       subst (λ (f : Forest ℕ). Gives left₀ out (seenIn g v left₀ k f w) came₀ now) (spans-same t c₀ e (U .going .all) H (U .going .begun) is) h
 
-  turn-gives : (low high : ℕ) → seenLeft g v left₀ (frameOf g v (U .going .all)) k s′ (played (U .going) (U .told)) (listed (U .going) (U .told)) (own (U .going) (U .told) .spent) (restOf (U .going .nodes)) ≡ record { low = low; high = high; play = played (U .going) (U .told); read = listed (U .going) (U .told); spent = own (U .going) (U .told) .spent }
-      → Told t g v k w c₀ e left₀ (record { low = low; high = high; play = s′ .play; left = r .left; spent = r .spent }) came₀ now
+  turn-gives : (low high : ℕ) →
+      let f : Frame ℕ = frameOf g v (U .going .all) in
+      let p : Play ℕ = played (U .going) (U .told) in
+      let l : List ℕ = listed (U .going) (U .told) in
+      let y : Bool = own (U .going) (U .told) .spent in
+      seenLeft g v left₀ f k s′ p l y (restOf (U .going .nodes)) ≡ leftWith g v left₀ f k s′ p l y low high
+      → Told t g v k w c₀ e left₀ (outOf f k low high (s′ .play) (r .left) (r .spent)) came₀ now
+  unfolding leave
   turn-gives low high q =
       let I = U .going in
+      let f : Frame ℕ = frameOf g v (I .all) in
       told-all _
-      (subst (λ (a : Seen ℕ). Gives left₀ (record { low = low; high = high; play = s′ .play; left = r .left; spent = r .spent }) a came₀ now)
+      (subst (λ (a : Seen ℕ). Gives left₀ (outOf f k low high (s′ .play) (r .left) (r .spent)) a came₀ now)
       (sym (seen-next I (U .told) s′ (U .state) ∙ q))
       (record {
         low = refl;
         high = refl;
-        play = plays-number (frameOf g v (I .all)) k s′ (played I (U .told)) (plays-next I (U .told) s′ (U .state));
+        play = plays-number f k s′ (played I (U .told)) (plays-next I (U .told) s′ (U .state));
         reads = left-next I (U .told);
         spent = own-gives I (U .told) .spent;
         leaves = leaves-next I (U .told);
       }))
 
-  pub turn-last : x ≡ e → Told t g v k w c₀ e left₀ (record { low = s′ .low; high = s′ .high; play = s′ .play; left = r .left; spent = r .spent }) came₀ now
+  pub turn-last : x ≡ e → Told t g v k w c₀ e left₀ (outOf (frameOf g v (U .going .all)) k (s′ .low) (s′ .high) (s′ .play) (r .left) (r .spent)) came₀ now
   turn-last at-end =
       let I = U .going in
       turn-gives (s′ .low) (s′ .high)
@@ -533,24 +583,19 @@ module _ {t : Slices} {g : Rule} {v : Ends} {k : Kind} {w : Window} {c₀ e left
   some-left ne = spans-more t (stopOf t c) e (restOf (U .going .nodes)) (going-step (U .going) .rest) (λ h. ne (U .stop ∙ h))
 
   -- y is what `stopped` answered
-  pub turn-cut : (x ≡ e → ⊥) → {y : Bool} → y ≡ stops g s′ → y ≡ true
-      → Told t g v k w c₀ e left₀ (record { low = runLow (frameAt v 0) k (s′ .low); high = runHigh (frameAt v 0) k (s′ .high); play = s′ .play; left = r .left; spent = r .spent }) came₀ now
-  unfolding runLow runHigh
+  stopped-is : {y z : Bool} → y ≡ stops m s′ → y ≡ z → stops (keptMargin (frameOf g v (U .going .all)) k (g .margin)) s′ ≡ z
+  stopped-is p q = ap (λ (n : ℕ). stops n s′) (sym (U .margin)) ∙ sym p ∙ q
+
+  pub turn-cut : (x ≡ e → ⊥) → {y : Bool} → y ≡ stops m s′ → y ≡ true
+      → let f : Frame ℕ = frameOf g v (U .going .all) in
+      Told t g v k w c₀ e left₀ (outOf f k (runLow f k (s′ .low)) (runHigh f k (s′ .high)) (s′ .play) (r .left) (r .spent)) came₀ now
   turn-cut ne p q =
       let I = U .going in
-      turn-gives (runLow (frameAt v 0) k (s′ .low)) (runHigh (frameAt v 0) k (s′ .high))
-      (left-cut g v left₀ (frameOf g v (I .all)) k s′ (played I (U .told)) (listed I (U .told)) (own I (U .told) .spent) (restOf (I .nodes)) (some-left ne) (sym p ∙ q)
-      ∙ same-cut (frameOf g v (I .all) .total) k)
-    where
-      cutAt : ℕ → Kind → Seen ℕ
-      cutAt N j = record { low = runLow (frameAt v N) j (s′ .low); high = runHigh (frameAt v N) j (s′ .high); play = played (U .going) (U .told); read = listed (U .going) (U .told); spent = own (U .going) (U .told) .spent }
+      let f : Frame ℕ = frameOf g v (I .all) in
+      turn-gives (runLow f k (s′ .low)) (runHigh f k (s′ .high))
+      (left-cut g v left₀ f k s′ (played I (U .told)) (listed I (U .told)) (own I (U .told) .spent) (restOf (I .nodes)) (some-left ne) (stopped-is p q))
 
-      same-cut : (N : ℕ) (j : Kind) → cutAt N j ≡ cutAt 0 j
-      same-cut N MAX = refl
-      same-cut N MIN = refl
-      same-cut N CHANCE = refl
-
-  pub turn-on : (x ≡ e → ⊥) → {y : Bool} → y ≡ stops g s′ → y ≡ false → Going t g v k w c₀ e left₀ came₀ s′ x (r .left) now
+  pub turn-on : (x ≡ e → ⊥) → {y : Bool} → y ≡ stops m s′ → y ≡ false → Going t g v k w c₀ e left₀ came₀ s′ x (r .left) now
   turn-on ne p q =
       let I = U .going in
       let h = U .told in
@@ -574,9 +619,52 @@ module _ {t : Slices} {g : Rule} {v : Ends} {k : Kind} {w : Window} {c₀ e left
         read = listed I h;
         spent = own I h .spent;
         plays = plays-next I h s′ (U .state);
-        safe = safe-next I h s′ (U .state);
+        ranked = ranked-next I h s′ (U .state);
+        small = small-next I h s′ (U .state);
         within = I .within;
         left-is = left-next I h;
         leaves-are = leaves-next I h;
-        so-far = seen-next I h s′ (U .state) ∙ left-more g v left₀ (frameOf g v (I .all)) k s′ (played I h) (listed I h) (own I h .spent) (restOf F) (some-left ne) (sym p ∙ q);
+        so-far = seen-next I h s′ (U .state) ∙ left-more g v left₀ (frameOf g v (I .all)) k s′ (played I h) (listed I h) (own I h .spent) (restOf F) (some-left ne) (stopped-is p q);
       }
+
+-- ---- a C, whose total N was added up
+
+-- the window in which its search began, from its first state
+abbrev pub windowFrom : ℕ → State → Window
+windowFrom N s = record { alpha = heightSums .over N (s .alpha); beta = heightSums .over N (s .beta) }
+
+window-back : (v : Ends) (N : ℕ) (w : Window) {s : State} → 0 < N → s ≡ sumsAt v N w → windowFrom N s ≡ w
+window-back v N w p q = ap (windowFrom N) q ∙ λ i. record { alpha = mul-div-right (w .alpha) p i; beta = mul-div-right (w .beta) p i }
+
+module _ {t : Slices} {g : Rule} {v : Ends} {w : Window} {c e left room : ℕ} (R : ReadyChildren t g v CHANCE w c e left room) {N : ℕ}
+    (sum-is : N ≡ weighAt (t .stops) (t .weights) 1024 c e) where
+  ready-total : N ≡ weigh (R .nodes)
+  ready-total = sum-is ∙ spans-weigh t 1024 c e (R .nodes) (R .spans) (omega (arith, R .holds .few))
+
+  pub ready-light : N ≤ 64
+  ready-light = omega (arith, ready-total, R .light refl)
+
+  ready-paid : 0 < N
+  ready-paid =
+      let st = step t c e (R .nodes) (R .spans) (R .some) in
+      omega (arith, ready-total, grained-weigh (g .grain) (R .nodes), fit-sound g v (R .ends) CHANCE (R .nodes) (st .some) (R .fit) .paid)
+
+-- before the first child, in the state s
+pub chance-begins : {t : Slices} {g : Rule} {v : Ends} {w : Window} {c e left : ℕ} {came : List ℕ} (R : ReadyChildren t g v CHANCE w c e left (length came)) → (left ≡ 0 → ⊥)
+    → {N : ℕ} {s : State} → N ≡ weighAt (t .stops) (t .weights) 1024 c e → s ≡ sumsAt v N w → Going t g v CHANCE (windowFrom N s) c e left came s c left came
+chance-begins {t} {g} {v} {w} {c} {e} {left} {came} R more {N} {s} sum-is q =
+    subst₂ (λ (y : Window) (z : State). Going t g v CHANCE y c e left came z c left came) (sym (window-back v N w (ready-paid R sum-is) q))
+    (ap (λ (n : ℕ). sumsAt v n w) (grained-weigh (g .grain) (R .nodes) ∙ sym (ready-total R sum-is)) ∙ sym q) (going-start CHANCE w R more)
+
+-- where it is left with the state s′: the two sums are divided, and that is what is told
+pub chance-tells : {t : Slices} {g : Rule} {v : Ends} {c₀ e left₀ m N : ℕ} {came₀ : List ℕ} {c x : ℕ} {r : Found} {s₀ s′ : State} {now : List ℕ}
+    (U : Turn t g v CHANCE (windowFrom N s₀) c₀ e left₀ m came₀ c x r s′ now) (w : Window) {out : Found} → N ≡ weighAt (t .stops) (t .weights) 1024 c₀ e → s₀ ≡ sumsAt v N w
+    → out ≡ leftIn N s′ (r .left) (r .spent)
+    → Told t g v CHANCE (windowFrom N s₀) c₀ e left₀ (outOf (frameOf g v (U .going .all)) CHANCE (s′ .low) (s′ .high) (s′ .play) (r .left) (r .spent)) came₀ now
+    → Told t g v CHANCE w c₀ e left₀ out came₀ now
+unfolding divided
+chance-tells {t} {g} {v} {c₀} {e} {left₀} {m} {N} {came₀} {c} {x} {r} {s₀} {s′} {now} U w sum-is begun q told =
+    let p = chance-total (U .going) sum-is in
+    let u = chance-weight (U .going) in
+    subst₂ (λ (y : Window) (z : Found). Told t g v CHANCE y c₀ e left₀ z came₀ now) (window-back v N w (omega (arith, p, u .0, u .1)) begun)
+    (sym (q ∙ ap (λ (n : ℕ). leftIn n s′ (r .left) (r .spent)) (p ∙ sym (grained-weigh (g .grain) (U .going .all))))) told

@@ -1,4 +1,4 @@
--- What the functions of the search over slices ask and tell, in the words of Algorithm 1 over heights. No promise names these.
+-- What the functions of the search over slices ask and tell, in the words of Algorithm 1 over heights, with the running sums of a C. No promise names these.
 use Prim.Native.Nat.{ℕ, _+_, _*_, _≤_, _<_}
 use mathlib.Core.Path.{_≡_}
 use mathlib.Core.Bool.{true, false}
@@ -8,8 +8,9 @@ use Rattle.table.specs.Tree.{Kind, MAX, Forest, end, leaf, inner, isChance, isE
 use Rattle.table.specs.Inside.{Slices, Spans, Holds}
 use Rattle.table.specs.Slices.{laid}
 use Rattle.table.specs.Accepted.{Rooted}
-use Rattle.search.specs.Search.{Frame, Seen, Rules, framed, begin, met, scan, searchRoot, nodeOf}
-use Rattle.search.specs.Inside.{natural, grained}
+use Rattle.search.specs.Search.{Frame, Seen, Rules, framed, begin, met, nodeOf}
+use Rattle.search.specs.Sums.{keep, scanSums, rootSums}
+use Rattle.search.specs.Inside.{natural, heightSums, grained}
 use Rattle.steps.specs.declared.Rule.{Rule}
 use Rattle.steps.specs.declared.Ends.{Ends}
 use Rattle.steps.specs.declared.Window.{Window}
@@ -22,7 +23,7 @@ seenIn g v left k F w =
     let f : Forest ℕ = grained (g .grain) F in
     let e : Frame ℕ = framed (v .bottom) (v .top) f in
     let R : Rules ℕ = rulesOf g v left in
-    met R e [] (scan natural R e k f (begin e k (w .alpha) (w .beta) []))
+    met R e [] (scanSums heightSums natural R e k f (keep heightSums e k (begin e k (w .alpha) (w .beta) [])))
 
 -- ---- what can be searched
 
@@ -86,4 +87,4 @@ pub record Shows (r : Found) (a : Seen ℕ) (came now : List ℕ) : Type 0 where
 -- what the search of a tree that can be searched gives, within a budget of as many reads as the list has entries
 abbrev pub Searched : Slices → Rule → Ends → ℕ → Found → List ℕ → List ℕ → Type 0
 Searched t g v n r came now =
-    (R : ReadyRoot t g v n) → Shows r (searchRoot natural (rulesOf g v (length came)) (grained (g .grain) (R .nodes))) came now
+    (R : ReadyRoot t g v n) → Shows r (rootSums heightSums natural (rulesOf g v (length came)) (grained (g .grain) (R .nodes))) came now

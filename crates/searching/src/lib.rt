@@ -73,7 +73,7 @@ fn max_over(
                 spent: r.spent,
             };
         }
-        if steps::stopped(g, t) {
+        if steps::stopped(g.margin, t) {
             return Found {
                 low: t.low,
                 high: v.top,
@@ -144,7 +144,7 @@ fn min_over(
                 spent: r.spent,
             };
         }
-        if steps::stopped(g, t) {
+        if steps::stopped(g.margin, t) {
             return Found {
                 low: v.bottom,
                 high: t.high,
@@ -157,7 +157,8 @@ fn min_over(
     }
 }
 
-// The same for the children of a C. Their weights are added up once, here. A leaf needs no window.
+// The same for the children of a C. Their weights are added up once, here; low, high and the window are kept times that total, and divided by it where the
+// C is left. A leaf needs no window.
 fn chance_over(
     kind: &[u8],
     stop: &[u16],
@@ -178,14 +179,8 @@ fn chance_over(
         return steps::met_spent(v);
     }
     let total = runs::sum_weights(kind, stop, weight, c, end);
-    let mut t = State {
-        alpha: w.alpha,
-        beta: w.beta,
-        low: v.bottom,
-        high: v.top,
-        play: 0,
-        other: 0,
-    };
+    let margin = steps::chance_margin(g, total);
+    let mut t = steps::chance_start(v, total, w);
     let mut i = c;
     let mut n = left;
     loop {
@@ -196,7 +191,7 @@ fn chance_over(
         if k == 0 {
             r = steps::leaf_at(height, leaves, n, i, g.grain, v);
         } else {
-            let y = steps::chance_window(v, total, t, x);
+            let y = steps::chance_window(v, t, x);
             if k == 1 {
                 r = max_over(kind, stop, weight, height, leaves, n, g, i + 1, e, v, y);
             } else if k == 2 {
@@ -205,25 +200,13 @@ fn chance_over(
                 r = chance_over(kind, stop, weight, height, leaves, n, g, i + 1, e, v, y);
             }
         }
-        t = steps::chance_after(v, total, t, x, r.low, r.high);
+        t = steps::chance_after(v, t, x, r.low, r.high);
         n = r.left;
         if e == end {
-            return Found {
-                low: t.low,
-                high: t.high,
-                play: t.play,
-                left: n,
-                spent: r.spent,
-            };
+            return steps::chance_left(total, t, n, r.spent);
         }
-        if steps::stopped(g, t) {
-            return Found {
-                low: t.low,
-                high: t.high,
-                play: t.play,
-                left: n,
-                spent: r.spent,
-            };
+        if steps::stopped(margin, t) {
+            return steps::chance_left(total, t, n, r.spent);
         }
         i = e;
     }

@@ -1,24 +1,17 @@
 -- Products and quotients within bounds; equal states. Assumes nothing.
 use Prim.Native.Nat.{ℕ, _+_, _*_, _/_, _≤_, _<_}
 use mathlib.Core.Path.{_≡_}
-use native.Mathlib.Nat.{mul-le-mul, mul-le-mul-right, div-le-self, div-le-of-le-mul}
+use native.Mathlib.Nat.{mul-le-mul, div-le-self}
 use native.Mathlib.Omega.{arith}
 use Rattle.steps.specs.declared.State.{State}
 use Rattle.steps.specs.Inside.{limit}
 
 -- grains times a weight or the total
-pub product : (a b : ℕ) → a ≤ limit → b ≤ 64 → a * b ≤ 2251799813685248
-product a b p q = mul-le-mul {n₂ = limit} {m₂ = 64} p q
-
-pub product′ : (b a : ℕ) → b ≤ 64 → a ≤ limit → b * a ≤ 2251799813685248
-product′ b a q p = mul-le-mul {n₂ = 64} {m₂ = limit} q p
+pub product : (b a : ℕ) → b ≤ 64 → a ≤ 40000000000000 → b * a ≤ 2560000000000000
+product b a q p = mul-le-mul {n₂ = 64} {m₂ = 40000000000000} q p
 
 pub quotient-fits : (b x w : ℕ) → b ≤ limit → x ≤ 2251799813685312 → b + x / w < 18446744073709551616
 quotient-fits b x w p q = omega (arith, div-le-self x w)
-
--- a share of x, w of t parts, is at most x
-pub share : (w x t : ℕ) → w ≤ t → w * x / t ≤ x
-share w x t p = div-le-of-le-mul t (mul-le-mul-right x p)
 
 -- in the order in which the code computes the parts
 pub state-eq : (x y : State) → x .low ≡ y .low → x .high ≡ y .high → x .alpha ≡ y .alpha → x .beta ≡ y .beta → x .play ≡ y .play

@@ -1,4 +1,4 @@
--- What the functions of one step of the search ask and tell, in the words of Algorithm 1 over heights. No promise names these.
+-- What the functions of one step of the search ask and tell, in the words of Algorithm 1 over heights, with the running sums of a C. No promise names these.
 use Prim.Native.Nat.{ℕ, suc, _+_, _-_, _≤_}
 use mathlib.Core.Path.{_≡_}
 use mathlib.Core.Bool.{Bool, true, false, _||_, cond}
@@ -9,7 +9,7 @@ use lib.ListN.{length, set}
 use Rattle.table.specs.Tree.{Kind, MAX, MIN, CHANCE}
 use Rattle.search.specs.Search as alg
 use Rattle.search.specs.Search.{Frame, Play, noPlay, Seen, Rules, limited, below, point, met, lower, upper, update, nodeOf}
-use Rattle.search.specs.Inside.{natural, heightRules}
+use Rattle.search.specs.Inside.{natural, heightSums, naturalSums, heightRules}
 use Rattle.steps.specs.declared.Rule.{Rule}
 use Rattle.steps.specs.declared.Ends.{Ends}
 use Rattle.steps.specs.declared.State.{State}
@@ -26,9 +26,15 @@ frameAt v total = record { bottom = v .bottom; top = v .top; total = total }
 abbrev pub lift : State → Play ℕ → List ℕ → Bool → alg.State ℕ
 lift s p l x = record { alpha = s .alpha; beta = s .beta; lo = s .low; hi = s .high; play = p; read = l; spent = x }
 
+-- before a C's first child, in the window w: the total times α, β, low and high
+abbrev pub sumsAt : Ends → (total : ℕ) → Window → State
+sumsAt v total w =
+    let kept : ℕ → ℕ = heightSums .times total in
+    record { alpha = kept (w .alpha); beta = kept (w .beta); low = kept (v .bottom); high = kept (v .top); play = 0; other = 0 }
+
 -- the window of a child of weight w
 abbrev pub windowFor : Frame ℕ → Kind → (w : ℕ) → State → Window
-windowFor e k w s = record { alpha = lower natural e k w (lift s noPlay [] false); beta = upper natural e k w (lift s noPlay [] false) }
+windowFor e k w s = record { alpha = lower naturalSums e k w (lift s noPlay [] false); beta = upper naturalSums e k w (lift s noPlay [] false) }
 
 -- Whether a child of these bounds takes the place of the best so far: the first does, and then each that is better. Node 0 is no child, and stands for
 -- none; the best child's low is the low of an M so far, and its high the high of an N.
@@ -46,7 +52,7 @@ otherOf CHANCE low high = 0
 -- after the child i of weight w that gave low and high
 abbrev pub after : Frame ℕ → Kind → (i w : ℕ) → State → (low high : ℕ) → State
 after e k i w s low high =
-    let t : alg.State ℕ = update natural e k i w (lift s noPlay [] false) (record { low = low; high = high; play = noPlay; read = []; spent = false }) in
+    let t : alg.State ℕ = update naturalSums e k i w (lift s noPlay [] false) (record { low = low; high = high; play = noPlay; read = []; spent = false }) in
     record {
       alpha = t .alpha;
       beta = t .beta;
@@ -56,9 +62,9 @@ after e k i w s low high =
       other = cond (takes k s low high) (otherOf k low high) (s .other);
     }
 
--- line 24
-abbrev pub stops : Rule → State → Bool
-stops g s = natural .near (g .margin) (s .alpha) (s .beta)
+-- line 24, where the margin is on the line's scale
+abbrev pub stops : (margin : ℕ) → State → Bool
+stops margin s = natural .near margin (s .alpha) (s .beta)
 
 -- ---- results
 
@@ -85,6 +91,10 @@ pub record Gives (left : ℕ) (r : Found) (a : Seen ℕ) (came now : List ℕ) :
   pub spent : r .spent ≡ a .spent
   pub leaves : now ≡ putFrom came (length came - left) (a .read)
 
+-- a C of this total that is left with the state s, so many reads, and this of the child met last
+abbrev pub leftIn : (total : ℕ) → State → (left : ℕ) → Bool → Found
+leftIn total s left x = record { low = heightSums .over total (s .low); high = heightSums .over total (s .high); play = s .play; left = left; spent = x }
+
 -- a node met when no read is left
 abbrev pub metSpentIn : Ends → Found
 metSpentIn v = record { low = v .bottom; high = v .top; play = 0; left = 0; spent = true }
@@ -95,16 +105,19 @@ leafSeen v left c h = met (heightRules (v .bottom) (v .top) 0 (limited left)) (f
 
 -- ---- numbers that fit
 
--- no number of grains is above this
+-- no number of grains is above this, and no sum above the other
 abbrev pub limit : ℕ
 limit = 35184372088832
+
+abbrev pub sumLimit : ℕ
+sumLimit = 2251799813685248
 
 pub record OkEnds (v : Ends) : Type 0 where
   pub order : v .bottom ≤ v .top
   pub top : v .top ≤ limit
 
-pub record OkState (s : State) : Type 0 where
-  pub alpha : s .alpha ≤ limit
-  pub beta : s .beta ≤ limit
-  pub low : s .low ≤ limit
-  pub high : s .high ≤ limit
+pub record OkSums (s : State) : Type 0 where
+  pub alpha : s .alpha ≤ sumLimit
+  pub beta : s .beta ≤ sumLimit
+  pub low : s .low ≤ sumLimit
+  pub high : s .high ≤ sumLimit

@@ -2,12 +2,12 @@
 // Algorithm 1 of document 000, numbers are in grains above the lowest end.
 ghost use mathlib.Core.Path.{_≡_};
 ghost use mathlib.Core.Bool.{_||_, cond};
-ghost use Prim.Native.Nat.{_+_, _*_, _<_, _≤_};
+ghost use Prim.Native.Nat.{_+_, _*_, _/_, _<_, _≤_};
 ghost use lib.Dec.{eqb, ltb};
 ghost use lib.ListN.{length, getD};
 ghost use Rattle.table.specs.Tree.{MAX, MIN, CHANCE};
 ghost use Rattle.search.specs.Search.{below};
-ghost use Rattle.steps.specs.Inside.{frameAt, windowFor, after, stops, metSpentIn, leafSeen, Gives, limit, OkEnds, OkState};
+ghost use Rattle.steps.specs.Inside.{frameAt, sumsAt, windowFor, after, stops, leftIn, metSpentIn, leafSeen, Gives, limit, OkEnds, OkSums};
 use numbers::max_of;
 use numbers::min_of;
 use numbers::monus;
@@ -26,7 +26,8 @@ pub struct Ends {
 }
 
 // Where the search of a node stands between two children; `play` is the best child's node, 0 for none (node 0 is no child). That child's low is the low
-// of an M so far, and its high the high of an N; `other` is its other bound, by which a tie is broken.
+// of an M so far, and its high the high of an N; `other` is its other bound, by which a tie is broken. A C keeps running sums: its first four numbers are
+// its total times those of Algorithm 1.
 pub struct State {
     pub alpha: u64,
     pub beta: u64,
@@ -57,12 +58,12 @@ pub struct Found {
     pub spent: bool,
 }
 
-// Line 24: whether the window is within the margin.
-pub fn stopped(g: Rule, s: State) -> bool
-    requires { ⌜ s .alpha + g .margin < 9223372036854775808 ⌝ }
-    ensures { λ r. ⌜ r ≡ stops g s ⌝ }
+// Line 24: whether the window is within the margin, which a C has times its total.
+pub fn stopped(margin: u64, s: State) -> bool
+    requires { ⌜ s .alpha + margin < 9223372036854775808 ⌝ }
+    ensures { λ r. ⌜ r ≡ stops margin s ⌝ }
 {
-    s.beta <= s.alpha + g.margin
+    s.beta <= s.alpha + margin
 }
 
 // Whether a child takes the place of the best so far: the first entered does, and then each that is better, which means that a is below b, or that they
@@ -130,25 +131,60 @@ pub fn min_after(v: Ends, i: usize, s: State, low: u64, high: u64) -> State
     }
 }
 
-// The window of a C's child of weight w, lines 9 and 10, rounded outward.
-pub fn chance_window(v: Ends, total: u64, s: State, w: u64) -> Window
-    requires { ⌜ OkEnds v × OkState s × (total ≤ 64) × (0 < w) × (w ≤ 64) ⌝ }
-    ensures { λ r. ⌜ r ≡ windowFor (frameAt v total) CHANCE w s ⌝ }
+// Times a C's total: a number of its sums' scale.
+fn times(total: u64, x: u64) -> u64
+    requires { ⌜ (total ≤ 64) × (x ≤ 40000000000000) ⌝ }
+    ensures { λ r. ⌜ r ≡ total * x ⌝ }
 {
-    let x = monus(s.high, s.alpha) * total + (w - 1);
-    let y = monus(s.beta, s.low) * total + (w - 1);
+    total * x
+}
+
+// The margin on the scale of a C's sums.
+pub fn chance_margin(g: Rule, total: u64) -> u64
+    requires { ⌜ (total ≤ 64) × (g .margin ≤ 40000000000000) ⌝ }
+    ensures { λ r. ⌜ r ≡ total * g .margin ⌝ }
+{
+    times(total, g.margin)
+}
+
+// Before a C's first child, in the window w: the total times each number of lines 3 to 10.
+pub fn chance_start(v: Ends, total: u64, w: Window) -> State
+    requires { ⌜ OkEnds v × (total ≤ 64) × (w .alpha ≤ limit) × (w .beta ≤ limit) ⌝ }
+    ensures { λ r. ⌜ r ≡ sumsAt v total w ⌝ }
+{
+    let a = times(total, w.alpha);
+    let b = times(total, w.beta);
+    let l = times(total, v.bottom);
+    let h = times(total, v.top);
+    State {
+        alpha: a,
+        beta: b,
+        low: l,
+        high: h,
+        play: 0,
+        other: 0,
+    }
+}
+
+// The window of a C's child of weight w, lines 9 and 10, rounded outward. On the scale of the sums their dividends need no product.
+pub fn chance_window(v: Ends, s: State, w: u64) -> Window
+    requires { ⌜ OkEnds v × OkSums s × (0 < w) × (w ≤ 64) ⌝ }
+    ensures { λ r. ⌜ r ≡ windowFor (frameAt v 0) CHANCE w s ⌝ }
+{
+    let x = monus(s.high, s.alpha) + (w - 1);
+    let y = monus(s.beta, s.low) + (w - 1);
     let a = max_of(v.bottom, monus(v.top, x / w));
     let b = min_of(v.top, v.bottom + y / w);
     Window { alpha: a, beta: b }
 }
 
-// After a C's child of weight w, lines 20 to 23. A C has no play.
-pub fn chance_after(v: Ends, total: u64, s: State, w: u64, low: u64, high: u64) -> State
-    requires { ⌜ OkEnds v × OkState s × (total ≤ 64) × (0 < w) × (w ≤ total) × (v .bottom ≤ low) × (low ≤ limit) × (high ≤ v .top) ⌝ }
-    ensures { λ r. ⌜ r ≡ after (frameAt v total) CHANCE 0 w s low high ⌝ }
+// After a C's child of weight w, lines 20 to 23: nothing is divided. A C has no play.
+pub fn chance_after(v: Ends, s: State, w: u64, low: u64, high: u64) -> State
+    requires { ⌜ OkEnds v × OkSums s × (w ≤ 64) × (v .bottom ≤ low) × (low ≤ limit) × (high ≤ v .top) ⌝ }
+    ensures { λ r. ⌜ r ≡ after (frameAt v 0) CHANCE 0 w s low high ⌝ }
 {
-    let l = s.low + w * (low - v.bottom) / total;
-    let h = monus(s.high, w * (v.top - high) / total);
+    let l = s.low + w * (low - v.bottom);
+    let h = monus(s.high, w * (v.top - high));
     let a = max_of(s.alpha, l);
     let b = min_of(s.beta, h);
     State {
@@ -158,6 +194,30 @@ pub fn chance_after(v: Ends, total: u64, s: State, w: u64, low: u64, high: u64) 
         high: h,
         play: s.play,
         other: s.other,
+    }
+}
+
+// A sum divided by the total.
+fn part(sum: u64, total: u64) -> u64
+    requires { ⌜ 0 < total ⌝ }
+    ensures { λ r. ⌜ r ≡ sum / total ⌝ }
+{
+    sum / total
+}
+
+// A C is left, cut or after its last child: its two sums are divided here and nowhere else.
+pub fn chance_left(total: u64, s: State, left: usize, spent: bool) -> Found
+    requires { ⌜ 0 < total ⌝ }
+    ensures { λ r. ⌜ r ≡ leftIn total s left spent ⌝ }
+{
+    let l = part(s.low, total);
+    let h = part(s.high, total);
+    Found {
+        low: l,
+        high: h,
+        play: s.play,
+        left,
+        spent,
     }
 }
 

@@ -1,6 +1,6 @@
 -- The three searches, which call one another, meet their contracts: one loop over the children each. Assumes nothing.
 use Prim.Native.Nat.{ℕ, _-_, _≤_, _<_}
-use mathlib.Core.Path.{_≡_, sym, subst, _∙_}
+use mathlib.Core.Path.{_≡_, refl, sym, subst, _∙_}
 use mathlib.Core.Logic.{⊎-elim}
 use native.Mathlib.Omega.{arith}
 use borrow.Author.Needs.{needs}
@@ -14,17 +14,21 @@ use Rattle.table.specs.Tree.{MAX, MIN, CHANCE, weigh}
 use Rattle.table.specs.Inside.{slices}
 use Rattle.runs.proofs.sum_weights.Reads as sum-weights-reads
 use Rattle.search.specs.Search.{runLow, runHigh}
+use Rattle.search.specs.Sums.{keptMargin, divided}
 use Rattle.steps.specs.declared.State.{State}
 use Rattle.steps.specs.declared.Window.{Window}
 use Rattle.steps.specs.Inside.{limit}
 use Rattle.steps.proofs.chance_after.Reads as chance-after-reads
+use Rattle.steps.proofs.chance_left.Reads as chance-left-reads
+use Rattle.steps.proofs.chance_margin.Reads as chance-margin-reads
+use Rattle.steps.proofs.chance_start.Reads as chance-start-reads
 use Rattle.steps.proofs.chance_window.Reads as chance-window-reads
 use Rattle.steps.proofs.leaf_at.Reads as leaf-at-reads
 use Rattle.steps.proofs.max_after.Reads as max-after-reads
 use Rattle.steps.proofs.min_after.Reads as min-after-reads
 use Rattle.steps.proofs.stopped.Reads as stopped-reads
 use Rattle.steps.proofs.met_spent.Reads as met-spent-reads
-use Rattle.searching.proofs.Rules.{NodeTold, told-same, told-leaf, told-inner, told-spent, Going, going-start, going-small, chance-weight, chance-total, window-small, Child, child-of, child-asks, child-three, child-leaf, ChildTold, max-told, min-told, chance-told, max-state, min-state, chance-state, told-within, Turn, turn-same, turn-less, turn-margin, turn-last, turn-cut, turn-on}
+use Rattle.searching.proofs.Rules.{NodeTold, told-same, told-leaf, told-inner, told-spent, Going, going-start, chance-small, chance-weight, chance-total, window-small, Child, child-of, child-asks, child-three, child-leaf, ChildTold, max-told, min-told, chance-told, max-state, min-state, chance-state, chance-margin-is, told-within, windowFrom, ready-light, chance-begins, chance-tells, Turn, turn-same, turn-less, turn-margin, turn-last, turn-cut, turn-on}
 use Rattle.searching.proofs.chance_over.Reads as chance-over
 use Rattle.searching.proofs.chance_over.Kinds as chance-over-kinds
 use Rattle.searching.proofs.+chance_over+max_over+min_over.Lts-chance_over as chance-over-lts
@@ -78,6 +82,10 @@ chance-over-claims t = (
   met-spent-reads.Learnt,
   sum-weights-reads.Asked,
   sum-weights-reads.Learnt,
+  chance-margin-reads.Asked,
+  chance-margin-reads.Learnt,
+  chance-start-reads.Asked,
+  chance-start-reads.Learnt,
   node-at-reads.Asked,
   node-at-reads.Learnt,
   at8-reads.Asked,
@@ -96,16 +104,18 @@ chance-over-claims t = (
   chance-over.Post,
   chance-after-reads.Asked,
   chance-after-reads.Learnt,
+  chance-left-reads.Asked,
+  chance-left-reads.Learnt,
   stopped-reads.Asked,
   stopped-reads.Learnt,
 )
 
 abbrev chance-over-Inv-loop : chance-over-lts.InvT-loop
-chance-over-Inv-loop kind stop weight height leaves₀ left g c end v total t₀ i₀ n₀ leaves t i n =
-    Going (slices kind stop weight height) g v CHANCE (windowOf t₀) c end left leaves₀ t i n leaves
+chance-over-Inv-loop kind stop weight height leaves₀ left g c end v total margin t₀ i₀ n₀ leaves t i n =
+    Going (slices kind stop weight height) g v CHANCE (windowFrom total t₀) c end left leaves₀ t i n leaves
 
 abbrev chance-over-μ-loop : chance-over-lts.MeasureT-loop
-chance-over-μ-loop kind stop weight height leaves₀ left g c end v total t₀ i₀ n₀ leaves t i n = end - i
+chance-over-μ-loop kind stop weight height leaves₀ left g c end v total margin t₀ i₀ n₀ leaves t i n = end - i
 
 chance-over-met-spent-requires : (t : ℕ) → chance-over-lts.Need-met-spent-requires (chance-over-claims t) (chance-over-at t) chance-over.Post chance-over-Inv-loop chance-over-μ-loop
 chance-over-met-spent-requires t c κs = search needs
@@ -120,8 +130,20 @@ chance-over-sum-weights-requires t c κs =
     let R = p .pre .1 in
     (R .holds .kinds, R .holds .stops, R .holds .weights, R .holds .few, record { heights = p .args .height .now; forest = R .nodes; spans = R .spans })
 
+chance-over-chance-margin-requires : (t : ℕ) → chance-over-lts.Need-chance-margin-requires (chance-over-claims t) (chance-over-at t) chance-over.Post chance-over-Inv-loop chance-over-μ-loop
+chance-over-chance-margin-requires t c κs =
+    let R = c .before .before .before .before .before .before .before .pre .1 in
+    (ready-light R (c .sum-weights .ensures), R .rule .margin)
+
+chance-over-chance-start-requires : (t : ℕ) → chance-over-lts.Need-chance-start-requires (chance-over-claims t) (chance-over-at t) chance-over.Post chance-over-Inv-loop chance-over-μ-loop
+chance-over-chance-start-requires t c κs =
+    let R = c .before .before .before .before .before .before .before .before .pre .1 in
+    (R .ends, ready-light R (c .before .sum-weights .ensures), R .alpha, R .beta)
+
 chance-over-loop-holds : (t : ℕ) → chance-over-lts.Need-loop-holds (chance-over-claims t) (chance-over-at t) chance-over.Post chance-over-Inv-loop chance-over-μ-loop
-chance-over-loop-holds t c = let p = c .before .before .before .before .before .before .before in going-start CHANCE (p .args .w) (p .pre .1) (c .before .if1 .left)
+chance-over-loop-holds t c =
+    let p = c .before .before .before .before .before .before .before .before .before in
+    chance-begins (p .pre .1) (c .before .before .before .if1 .left) (c .before .before .sum-weights .ensures) (c .chance-start .ensures)
 
 chance-over-node-at-requires : (t : ℕ) → chance-over-lts.Need-node-at-requires (chance-over-claims t) (chance-over-at t) chance-over.Post chance-over-Inv-loop chance-over-μ-loop
 chance-over-node-at-requires t c κs = let I = c .loop .inv in omega (arith, I .some, I .holds .stops)
@@ -137,15 +159,15 @@ chance-over-wide8-requires t c κs = search needs
 
 -- at the place where the child's weight was read: it is the one in the slice, and the total is the sum of all
 chance-over-weight : (t : ℕ) (c : chance-over-lts.After-wide8 (chance-over-claims t) (chance-over-at t) chance-over.Post chance-over-Inv-loop chance-over-μ-loop)
-    → c .wide8 .result ≡ getD (c .before .before .before .before .before .before .before .before .before .before .before .before .args .weight .now) (c .before .before .before .before .loop .i) 0
+    → c .wide8 .result ≡ getD (c .before .before .before .before .before .before .before .before .before .before .before .before .before .before .args .weight .now) (c .before .before .before .before .loop .i) 0
 chance-over-weight t c = c .wide8 .ensures ∙ c .before .at82 .ensures
 
 chance-over-total : (t : ℕ) (c : chance-over-lts.After-wide8 (chance-over-claims t) (chance-over-at t) chance-over.Post chance-over-Inv-loop chance-over-μ-loop)
-    → c .before .before .before .before .before .sum-weights .result ≡ weigh (c .before .before .before .before .loop .inv .all)
-chance-over-total t c = chance-total (c .before .before .before .before .loop .inv) (c .before .before .before .before .before .sum-weights .ensures)
+    → c .before .before .before .before .before .before .before .sum-weights .result ≡ weigh (c .before .before .before .before .loop .inv .all)
+chance-over-total t c = chance-total (c .before .before .before .before .loop .inv) (c .before .before .before .before .before .before .before .sum-weights .ensures)
 
 chance-over-sizes : (t : ℕ) (c : chance-over-lts.After-wide8 (chance-over-claims t) (chance-over-at t) chance-over.Post chance-over-Inv-loop chance-over-μ-loop)
-    → (0 < c .wide8 .result) × (c .wide8 .result ≤ c .before .before .before .before .before .sum-weights .result) × (c .before .before .before .before .before .sum-weights .result ≤ 64)
+    → (0 < c .wide8 .result) × (c .wide8 .result ≤ c .before .before .before .before .before .before .before .sum-weights .result) × (c .before .before .before .before .before .before .before .sum-weights .result ≤ 64)
 chance-over-sizes t c =
     let u = chance-weight (c .before .before .before .before .loop .inv) in
     let q = chance-over-weight t c in
@@ -154,7 +176,7 @@ chance-over-sizes t c =
 
 -- for a leaf the window does not matter
 chance-over-near : (t : ℕ) (c : chance-over-lts.After-wide8 (chance-over-claims t) (chance-over-at t) chance-over.Post chance-over-Inv-loop chance-over-μ-loop)
-    → let a = c .before .before .before .before .before .before .before .before .before .before .before .before .args in
+    → let a = c .before .before .before .before .before .before .before .before .before .before .before .before .before .before .args in
     let l = c .before .before .before .before .loop in
     Child (slices (a .kind .now) (a .stop .now) (a .weight .now) (a .height .now)) (a .g) (a .v) (a .c) (a .end) (l .i) (c .before .before .before .node-at .result) (l .n) (length (l .leaves)) (record { alpha = 0; beta = 0 })
 chance-over-near t c =
@@ -169,21 +191,21 @@ chance-over-chance-window-requires t c κs =
     let W = c .before in
     let I = W .before .before .before .before .loop .inv in
     let u = chance-over-sizes t W in
-    (I .ends, going-small I, u .2, u .0, omega (arith, u .1, u .2))
+    (I .ends, chance-small I, u .0, omega (arith, u .1, u .2))
 
 -- at the place where the child's window was made
 chance-over-child : (t : ℕ) (c : chance-over-lts.After-chance-window (chance-over-claims t) (chance-over-at t) chance-over.Post chance-over-Inv-loop chance-over-μ-loop)
     → let W = c .before .before in
-    let a = W .before .before .before .before .before .before .before .before .before .before .before .before .args in
+    let a = W .before .before .before .before .before .before .before .before .before .before .before .before .before .before .args in
     let l = W .before .before .before .before .loop in
     Child (slices (a .kind .now) (a .stop .now) (a .weight .now) (a .height .now)) (a .g) (a .v) (a .c) (a .end) (l .i) (W .before .before .before .node-at .result) (l .n) (length (l .leaves)) (c .chance-window .result)
 chance-over-child t c =
     let W = c .before .before in
-    let a = W .before .before .before .before .before .before .before .before .before .before .before .before .args in
+    let a = W .before .before .before .before .before .before .before .before .before .before .before .before .before .before .args in
     let l = W .before .before .before .before .loop in
     let x = W .before .before .before .node-at in
     let y = c .chance-window in
-    let q = window-small (a .v) (W .before .before .before .before .before .sum-weights .result) (W .wide8 .result) (l .t) (l .inv .ends) in
+    let q = window-small (a .v) (W .wide8 .result) (l .t) (l .inv .ends) in
     child-of (l .inv) (x .result) (y .result) (x .ensures)
     (subst (λ (z : Window). z .alpha ≤ limit) (sym (y .ensures)) (q .0)) (subst (λ (z : Window). z .beta ≤ limit) (sym (y .ensures)) (q .1))
 
@@ -194,7 +216,7 @@ chance-over-max-over-requires : (t : ℕ) → chance-over-lts.Need-max-over-requ
 chance-over-max-over-requires t c κs =
     let C = c .before .before in
     let W = C .before .before in
-    child-asks (chance-over-child t C) t (W .before .before .before .before .before .before .before .before .before .before .before .before .pre .0) MAX (sym (W .before .before .at8 .ensures) ∙ c .before .if3 .taken)
+    child-asks (chance-over-child t C) t (W .before .before .before .before .before .before .before .before .before .before .before .before .before .before .pre .0) MAX (sym (W .before .before .at8 .ensures) ∙ c .before .if3 .taken)
 
 chance-over-add-min-over : (t : ℕ) → chance-over-lts.Need-add-min-over (chance-over-claims t) (chance-over-at t) chance-over.Post chance-over-Inv-loop chance-over-μ-loop
 chance-over-add-min-over t c = omega (arith, chance-over-child t (c .before .before .before) .small)
@@ -203,7 +225,7 @@ chance-over-min-over-requires : (t : ℕ) → chance-over-lts.Need-min-over-requ
 chance-over-min-over-requires t c κs =
     let C = c .before .before .before in
     let W = C .before .before in
-    child-asks (chance-over-child t C) t (W .before .before .before .before .before .before .before .before .before .before .before .before .pre .0) MIN (sym (W .before .before .at8 .ensures) ∙ c .before .if4 .taken)
+    child-asks (chance-over-child t C) t (W .before .before .before .before .before .before .before .before .before .before .before .before .before .before .pre .0) MIN (sym (W .before .before .at8 .ensures) ∙ c .before .if4 .taken)
 
 chance-over-add-chance-over : (t : ℕ) → chance-over-lts.Need-add-chance-over (chance-over-claims t) (chance-over-at t) chance-over.Post chance-over-Inv-loop chance-over-μ-loop
 chance-over-add-chance-over t c = omega (arith, chance-over-child t (c .before .before .before) .small)
@@ -213,7 +235,7 @@ chance-over-chance-over-requires t c κs =
     let C = c .before .before .before in
     let W = C .before .before in
     let D = chance-over-child t C in
-    child-asks D t (W .before .before .before .before .before .before .before .before .before .before .before .before .pre .0) CHANCE
+    child-asks D t (W .before .before .before .before .before .before .before .before .before .before .before .before .before .before .pre .0) CHANCE
     (child-three D _ (W .before .before .at8 .ensures) (C .before .if2 .left) (c .before .before .if3 .left) (c .before .if4 .left))
 
 -- at the place where the four ways meet: what the search of the child told
@@ -223,15 +245,14 @@ chance-over-joined t c =
     let I = W .before .before .before .before .loop .inv in
     let k = W .before .before .at8 in
     let x = W .before .before .before .node-at in
-    let p = chance-over-total t W in
     let q = chance-over-weight t W in
     ⊎-elim
     (λ w. told-same (w .6) (w .5) (told-leaf (sym (k .ensures) ∙ w .0 .taken) (w .2 .ensures)))
     (⊎-elim
-    (λ w. told-same (w .8) (w .7) (chance-told I p q (w .1 .ensures) (told-inner MAX (sym (k .ensures) ∙ w .2 .taken) (x .ensures) (w .4 .ensures))))
+    (λ w. told-same (w .8) (w .7) (chance-told I q (w .1 .ensures) (told-inner MAX (sym (k .ensures) ∙ w .2 .taken) (x .ensures) (w .4 .ensures))))
     (⊎-elim
-    (λ w. told-same (w .9) (w .8) (chance-told I p q (w .1 .ensures) (told-inner MIN (sym (k .ensures) ∙ w .3 .taken) (x .ensures) (w .5 .ensures))))
-    (λ w. told-same (w .9) (w .8) (chance-told I p q (w .1 .ensures)
+    (λ w. told-same (w .9) (w .8) (chance-told I q (w .1 .ensures) (told-inner MIN (sym (k .ensures) ∙ w .3 .taken) (x .ensures) (w .5 .ensures))))
+    (λ w. told-same (w .9) (w .8) (chance-told I q (w .1 .ensures)
     (told-inner CHANCE (child-three (chance-over-near t W) _ (k .ensures) (w .0 .left) (w .2 .left) (w .3 .left)) (x .ensures) (w .5 .ensures))))))
     (c .if2 .came)
 
@@ -241,13 +262,14 @@ chance-over-chance-after-requires t c κs =
     let I = W .before .before .before .before .loop .inv in
     let u = chance-over-sizes t W in
     let h = told-within I (chance-over-joined t c) in
-    (I .ends, going-small I, u .2, u .0, u .1, h .0, h .1, h .2)
+    (I .ends, chance-small I, omega (arith, u .1, u .2), h .0, h .1, h .2)
 
 -- after the child: one turn of the loop
 chance-over-turn : (t : ℕ) (c : chance-over-lts.After-chance-after (chance-over-claims t) (chance-over-at t) chance-over.Post chance-over-Inv-loop chance-over-μ-loop)
     → let W = c .before .before in
-    let a = W .before .before .before .before .before .before .before .before .before .before .before .before .args in
-    Turn (slices (a .kind .now) (a .stop .now) (a .weight .now) (a .height .now)) (a .g) (a .v) CHANCE (a .w) (a .c) (a .end) (a .left) (a .leaves .now)
+    let a = W .before .before .before .before .before .before .before .before .before .before .before .before .before .before .args in
+    let B = W .before .before .before .before .before in
+    Turn (slices (a .kind .now) (a .stop .now) (a .weight .now) (a .height .now)) (a .g) (a .v) CHANCE (windowFrom (B .before .before .sum-weights .result) (B .chance-start .result)) (a .c) (a .end) (a .left) (B .before .chance-margin .result) (a .leaves .now)
     (W .before .before .before .before .loop .i) (W .before .before .before .node-at .result) (c .before .if2 .r) (c .chance-after .result) (c .before .if2 .leaves)
 chance-over-turn t c =
     let W = c .before .before in
@@ -259,24 +281,39 @@ chance-over-turn t c =
       going = l .inv;
       stop = W .before .before .before .node-at .ensures;
       told = chance-over-joined t (c .before);
-      state = chance-state (l .inv) (c .before .if2 .r) (chance-over-total t W) (chance-over-weight t W) (c .chance-after .ensures);
+      state = chance-state (l .inv) (c .before .if2 .r) (chance-over-weight t W) (c .chance-after .ensures);
+      margin = chance-margin-is (l .inv) (W .before .before .before .before .before .before .chance-margin .ensures) (chance-over-total t W);
     }
 
+chance-over-chance-left-requires : (t : ℕ) → chance-over-lts.Need-chance-left-requires (chance-over-claims t) (chance-over-at t) chance-over.Post chance-over-Inv-loop chance-over-μ-loop
+chance-over-chance-left-requires t c κs = let u = chance-over-sizes t (c .before .before .before) in omega (arith, u .0, u .1)
+
 chance-over-same-length : (t : ℕ) → chance-over-lts.Need-same-length (chance-over-claims t) (chance-over-at t) chance-over.Post chance-over-Inv-loop chance-over-μ-loop
-chance-over-same-length t c = turn-same (chance-over-turn t (c .before))
+chance-over-same-length t c = turn-same (chance-over-turn t (c .before .before))
 
 chance-over-returns-2 : (t : ℕ) → chance-over-lts.Need-returns-2 (chance-over-claims t) (chance-over-at t) chance-over.Post chance-over-Inv-loop chance-over-μ-loop
-chance-over-returns-2 t c = turn-last (chance-over-turn t (c .before)) (c .if5 .taken)
+chance-over-returns-2 t c =
+    let U = chance-over-turn t (c .before .before) in
+    let B = c .before .before .before .before .before .before .before .before .before in
+    chance-tells U (B .before .before .before .before .before .before .before .before .before .args .w) (B .before .before .sum-weights .ensures) (B .chance-start .ensures) (c .chance-left .ensures)
+    (turn-last U (c .before .if5 .taken))
 
 chance-over-stopped-requires : (t : ℕ) → chance-over-lts.Need-stopped-requires (chance-over-claims t) (chance-over-at t) chance-over.Post chance-over-Inv-loop chance-over-μ-loop
 chance-over-stopped-requires t c κs = turn-margin (chance-over-turn t (c .before))
 
+chance-over-chance-left-requires-2 : (t : ℕ) → chance-over-lts.Need-chance-left-requires-2 (chance-over-claims t) (chance-over-at t) chance-over.Post chance-over-Inv-loop chance-over-μ-loop
+chance-over-chance-left-requires-2 t c κs = let u = chance-over-sizes t (c .before .before .before .before .before) in omega (arith, u .0, u .1)
+
 chance-over-same-length-2 : (t : ℕ) → chance-over-lts.Need-same-length-2 (chance-over-claims t) (chance-over-at t) chance-over.Post chance-over-Inv-loop chance-over-μ-loop
-chance-over-same-length-2 t c = turn-same (chance-over-turn t (c .before .before .before))
+chance-over-same-length-2 t c = turn-same (chance-over-turn t (c .before .before .before .before))
 
 chance-over-returns-3 : (t : ℕ) → chance-over-lts.Need-returns-3 (chance-over-claims t) (chance-over-at t) chance-over.Post chance-over-Inv-loop chance-over-μ-loop
 unfolding runLow runHigh
-chance-over-returns-3 t c = turn-cut (chance-over-turn t (c .before .before .before)) (c .before .before .if5 .left) (c .before .stopped .ensures) (c .if6 .taken)
+chance-over-returns-3 t c =
+    let U = chance-over-turn t (c .before .before .before .before) in
+    let B = c .before .before .before .before .before .before .before .before .before .before .before in
+    chance-tells U (B .before .before .before .before .before .before .before .before .before .args .w) (B .before .before .sum-weights .ensures) (B .chance-start .ensures) (c .chance-left2 .ensures)
+    (turn-cut U (c .before .before .before .if5 .left) (c .before .before .stopped .ensures) (c .before .if6 .taken))
 
 chance-over-loop-less : (t : ℕ) → chance-over-lts.Need-loop-less (chance-over-claims t) (chance-over-at t) chance-over.Post chance-over-Inv-loop chance-over-μ-loop
 chance-over-loop-less t c = turn-less (chance-over-turn t (c .before .before .before))
@@ -337,11 +374,11 @@ max-over-child : (t : ℕ) (c : max-over-lts.After-at8 (max-over-claims t) (max-
     → let a = c .before .before .before .before .before .before .before .before .before .args in
     let l = c .before .before .loop in
     Child (slices (a .kind .now) (a .stop .now) (a .weight .now) (a .height .now)) (a .g) (a .v) (a .c) (a .end) (l .i) (c .before .node-at .result) (l .n) (length (l .leaves)) (windowOf (l .t))
+unfolding keptMargin
 max-over-child t c =
     let l = c .before .before .loop in
-    let s = going-small (l .inv) in
     let x = c .before .node-at in
-    child-of (l .inv) (x .result) (windowOf (l .t)) (x .ensures) (s .alpha) (s .beta)
+    child-of (l .inv) (x .result) (windowOf (l .t)) (x .ensures) (l .inv .small .0) (l .inv .small .1)
 
 max-over-leaf-at-requires : (t : ℕ) → max-over-lts.Need-leaf-at-requires (max-over-claims t) (max-over-at t) max-over.Post max-over-Inv-loop max-over-μ-loop
 max-over-leaf-at-requires t c κs = child-leaf (max-over-child t (c .before .before)) _ (c .before .before .at8 .ensures) (c .before .if2 .taken)
@@ -396,8 +433,9 @@ max-over-max-after-requires t c κs = search needs
 -- after the child: one turn of the loop
 max-over-turn : (t : ℕ) (c : max-over-lts.After-max-after (max-over-claims t) (max-over-at t) max-over.Post max-over-Inv-loop max-over-μ-loop)
     → let a = c .before .before .before .before .before .before .before .before .before .before .before .args in
-    Turn (slices (a .kind .now) (a .stop .now) (a .weight .now) (a .height .now)) (a .g) (a .v) MAX (a .w) (a .c) (a .end) (a .left) (a .leaves .now)
+    Turn (slices (a .kind .now) (a .stop .now) (a .weight .now) (a .height .now)) (a .g) (a .v) MAX (a .w) (a .c) (a .end) (a .left) (a .g .margin) (a .leaves .now)
     (c .before .before .before .before .loop .i) (c .before .before .before .node-at .result) (c .before .if2 .r) (c .max-after .result) (c .before .if2 .leaves)
+unfolding keptMargin
 max-over-turn t c =
     let l = c .before .before .before .before .loop in
     let r = c .before .if2 .r in
@@ -409,12 +447,14 @@ max-over-turn t c =
       stop = c .before .before .before .node-at .ensures;
       told = max-told (l .inv) (max-over-joined t (c .before));
       state = max-state (l .inv) r (c .max-after .ensures);
+      margin = refl;
     }
 
 max-over-same-length : (t : ℕ) → max-over-lts.Need-same-length (max-over-claims t) (max-over-at t) max-over.Post max-over-Inv-loop max-over-μ-loop
 max-over-same-length t c = turn-same (max-over-turn t (c .before))
 
 max-over-returns-2 : (t : ℕ) → max-over-lts.Need-returns-2 (max-over-claims t) (max-over-at t) max-over.Post max-over-Inv-loop max-over-μ-loop
+unfolding divided
 max-over-returns-2 t c = turn-last (max-over-turn t (c .before)) (c .if5 .taken)
 
 max-over-stopped-requires : (t : ℕ) → max-over-lts.Need-stopped-requires (max-over-claims t) (max-over-at t) max-over.Post max-over-Inv-loop max-over-μ-loop
@@ -424,7 +464,7 @@ max-over-same-length-2 : (t : ℕ) → max-over-lts.Need-same-length-2 (max-over
 max-over-same-length-2 t c = turn-same (max-over-turn t (c .before .before .before))
 
 max-over-returns-3 : (t : ℕ) → max-over-lts.Need-returns-3 (max-over-claims t) (max-over-at t) max-over.Post max-over-Inv-loop max-over-μ-loop
-unfolding runLow runHigh
+unfolding runLow runHigh divided
 max-over-returns-3 t c = turn-cut (max-over-turn t (c .before .before .before)) (c .before .before .if5 .left) (c .before .stopped .ensures) (c .if6 .taken)
 
 max-over-loop-less : (t : ℕ) → max-over-lts.Need-loop-less (max-over-claims t) (max-over-at t) max-over.Post max-over-Inv-loop max-over-μ-loop
@@ -486,11 +526,11 @@ min-over-child : (t : ℕ) (c : min-over-lts.After-at8 (min-over-claims t) (min-
     → let a = c .before .before .before .before .before .before .before .before .before .args in
     let l = c .before .before .loop in
     Child (slices (a .kind .now) (a .stop .now) (a .weight .now) (a .height .now)) (a .g) (a .v) (a .c) (a .end) (l .i) (c .before .node-at .result) (l .n) (length (l .leaves)) (windowOf (l .t))
+unfolding keptMargin
 min-over-child t c =
     let l = c .before .before .loop in
-    let s = going-small (l .inv) in
     let x = c .before .node-at in
-    child-of (l .inv) (x .result) (windowOf (l .t)) (x .ensures) (s .alpha) (s .beta)
+    child-of (l .inv) (x .result) (windowOf (l .t)) (x .ensures) (l .inv .small .0) (l .inv .small .1)
 
 min-over-leaf-at-requires : (t : ℕ) → min-over-lts.Need-leaf-at-requires (min-over-claims t) (min-over-at t) min-over.Post min-over-Inv-loop min-over-μ-loop
 min-over-leaf-at-requires t c κs = child-leaf (min-over-child t (c .before .before)) _ (c .before .before .at8 .ensures) (c .before .if2 .taken)
@@ -545,8 +585,9 @@ min-over-min-after-requires t c κs = search needs
 -- after the child: one turn of the loop
 min-over-turn : (t : ℕ) (c : min-over-lts.After-min-after (min-over-claims t) (min-over-at t) min-over.Post min-over-Inv-loop min-over-μ-loop)
     → let a = c .before .before .before .before .before .before .before .before .before .before .before .args in
-    Turn (slices (a .kind .now) (a .stop .now) (a .weight .now) (a .height .now)) (a .g) (a .v) MIN (a .w) (a .c) (a .end) (a .left) (a .leaves .now)
+    Turn (slices (a .kind .now) (a .stop .now) (a .weight .now) (a .height .now)) (a .g) (a .v) MIN (a .w) (a .c) (a .end) (a .left) (a .g .margin) (a .leaves .now)
     (c .before .before .before .before .loop .i) (c .before .before .before .node-at .result) (c .before .if2 .r) (c .min-after .result) (c .before .if2 .leaves)
+unfolding keptMargin
 min-over-turn t c =
     let l = c .before .before .before .before .loop in
     let r = c .before .if2 .r in
@@ -558,12 +599,14 @@ min-over-turn t c =
       stop = c .before .before .before .node-at .ensures;
       told = min-told (l .inv) (min-over-joined t (c .before));
       state = min-state (l .inv) r (c .min-after .ensures);
+      margin = refl;
     }
 
 min-over-same-length : (t : ℕ) → min-over-lts.Need-same-length (min-over-claims t) (min-over-at t) min-over.Post min-over-Inv-loop min-over-μ-loop
 min-over-same-length t c = turn-same (min-over-turn t (c .before))
 
 min-over-returns-2 : (t : ℕ) → min-over-lts.Need-returns-2 (min-over-claims t) (min-over-at t) min-over.Post min-over-Inv-loop min-over-μ-loop
+unfolding divided
 min-over-returns-2 t c = turn-last (min-over-turn t (c .before)) (c .if5 .taken)
 
 min-over-stopped-requires : (t : ℕ) → min-over-lts.Need-stopped-requires (min-over-claims t) (min-over-at t) min-over.Post min-over-Inv-loop min-over-μ-loop
@@ -573,7 +616,7 @@ min-over-same-length-2 : (t : ℕ) → min-over-lts.Need-same-length-2 (min-over
 min-over-same-length-2 t c = turn-same (min-over-turn t (c .before .before .before))
 
 min-over-returns-3 : (t : ℕ) → min-over-lts.Need-returns-3 (min-over-claims t) (min-over-at t) min-over.Post min-over-Inv-loop min-over-μ-loop
-unfolding runLow runHigh
+unfolding runLow runHigh divided
 min-over-returns-3 t c = turn-cut (min-over-turn t (c .before .before .before)) (c .before .before .if5 .left) (c .before .stopped .ensures) (c .if6 .taken)
 
 min-over-loop-less : (t : ℕ) → min-over-lts.Need-loop-less (min-over-claims t) (min-over-at t) min-over.Post min-over-Inv-loop min-over-μ-loop
@@ -592,6 +635,8 @@ pub +chance-over+max-over+min-over-spec : {M : Type 1} → statement M
     (chance-over-met-spent-requires t)
     (chance-over-returns t)
     (chance-over-sum-weights-requires t)
+    (chance-over-chance-margin-requires t)
+    (chance-over-chance-start-requires t)
     (chance-over-loop-holds t)
     (chance-over-node-at-requires t)
     (chance-over-at8-requires t)
@@ -606,9 +651,11 @@ pub +chance-over+max-over+min-over-spec : {M : Type 1} → statement M
     (chance-over-add-chance-over t)
     (chance-over-chance-over-requires t)
     (chance-over-chance-after-requires t)
+    (chance-over-chance-left-requires t)
     (chance-over-same-length t)
     (chance-over-returns-2 t)
     (chance-over-stopped-requires t)
+    (chance-over-chance-left-requires-2 t)
     (chance-over-same-length-2 t)
     (chance-over-returns-3 t)
     (chance-over-loop-less t)

@@ -4,7 +4,7 @@ use mathlib.Core.Path.{refl}
 use native.Mathlib.Omega.{arith}
 use borrow.Author.Needs.{needs}
 use Rattle.search.specs.Search.{update}
-use Rattle.steps.proofs.Sizes.{product′, share, state-eq}
+use Rattle.steps.proofs.Sizes.{product, state-eq}
 use Rattle.steps.proofs.chance_after.Statement.{statement}
 use Rattle.steps.proofs.chance_after.Tie as tie
 
@@ -14,15 +14,12 @@ sub-l c = search needs
 mul-l : tie.Need-mul-l
 mul-l c =
     let a = c .before .args in
-    omega (arith, product′ (a .w) (a .low - a .v .bottom) (omega arith) (omega arith))
-
-div-l : tie.Need-div-l
-div-l c = search needs
+    omega (arith, product (a .w) (a .low - a .v .bottom) (omega arith) (omega arith))
 
 add-l : tie.Need-add-l
 add-l c =
     let a = c .before .before .args in
-    omega (arith, share (a .w) (a .low - a .v .bottom) (a .total) (omega arith))
+    omega (arith, product (a .w) (a .low - a .v .bottom) (omega arith) (omega arith))
 
 sub-monus : tie.Need-sub-monus
 sub-monus c = search needs
@@ -30,10 +27,7 @@ sub-monus c = search needs
 mul-monus : tie.Need-mul-monus
 mul-monus c =
     let a = c .before .before .before .args in
-    omega (arith, product′ (a .w) (a .v .top - a .high) (omega arith) (omega arith))
-
-div-monus : tie.Need-div-monus
-div-monus c = search needs
+    omega (arith, product (a .w) (a .v .top - a .high) (omega arith) (omega arith))
 
 monus-requires : tie.Need-monus-requires
 monus-requires c κs = search needs
@@ -54,11 +48,9 @@ chance-after-spec =
     (tie.spec
     sub-l
     mul-l
-    div-l
     add-l
     sub-monus
     mul-monus
-    div-monus
     monus-requires
     max-of-requires
     min-of-requires
