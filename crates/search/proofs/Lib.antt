@@ -16,3 +16,4 @@ pub mod Former
 pub mod Sums
 pub mod Between
 pub mod Summed
+pub mod Worked
