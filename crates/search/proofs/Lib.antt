@@ -13,6 +13,7 @@ pub mod Table
 pub mod Budget
 pub mod Within
 pub mod Former
+pub mod Times
 pub mod Sums
 pub mod Between
 pub mod Summed

@@ -14,8 +14,8 @@ use Rattle.search.proofs.Heights.{Paid, PaidUnder}
 -- What sums need of an arithmetic: T times keeps order, a sum of T times x divided by T is x, and lines 9, 10, 20 and 21 are the same on the two scales;
 -- 20 and 21 where Q holds of the child, which is that their quotients leave no remainder.
 pub record SumLaws {A : Type 0} (O : Arith A) (P : Sums A) (Q : Frame A → ℕ → Seen A → Type 0) : Type 0 where
-  pub high-of : (T : ℕ) (a b : A) → O .high-of (P .times T a) (P .times T b) ≡ P .times T (O .high-of a b)
-  pub low-of : (T : ℕ) (a b : A) → O .low-of (P .times T a) (P .times T b) ≡ P .times T (O .low-of a b)
+  pub high-of : (T : ℕ) (a b : A) → 0 < T → O .high-of (P .times T a) (P .times T b) ≡ P .times T (O .high-of a b)
+  pub low-of : (T : ℕ) (a b : A) → 0 < T → O .low-of (P .times T a) (P .times T b) ≡ P .times T (O .low-of a b)
   pub near : (T ε : ℕ) (α β : A) → 0 < T → O .near (T * ε) (P .times T α) (P .times T β) ≡ O .near ε α β
   pub over : (T : ℕ) (x : A) → 0 < T → P .over T (P .times T x) ≡ x
   pub down : (e : Frame A) (w : ℕ) (α U : A) → P .down e w (P .times (e .total) α) (P .times (e .total) U) ≡ O .down e w α U
@@ -72,21 +72,21 @@ module _ {A : Type 0} (O : Arith A) (P : Sums A) (Q : Frame A → ℕ → Seen A
   keep-prefer MIN n (child m l h) r = refl
   keep-prefer CHANCE n p r = refl
 
-  keep-update : (e : Frame A) (k : Kind) (n w : ℕ) (s : State A) (r : Seen A) → AtChance O R Q e k w r
+  keep-update : (e : Frame A) (k : Kind) (n w : ℕ) (s : State A) (r : Seen A) → Paid e k → AtChance O R Q e k w r
       → update (onSums O P) e k n w (keep P e k s) r ≡ keep P e k (update O e k n w s r)
   unfolding update keep
-  keep-update e MAX n w s r x =
+  keep-update e MAX n w s r q x =
       let t : State A = update O e MAX n w s r in
       λ i. record { alpha = t .alpha; beta = t .beta; lo = t .lo; hi = t .hi; play = keep-prefer MAX n (s .play) r i; read = r .read; spent = r .spent }
-  keep-update e MIN n w s r x =
+  keep-update e MIN n w s r q x =
       let t : State A = update O e MIN n w s r in
       λ i. record { alpha = t .alpha; beta = t .beta; lo = t .lo; hi = t .hi; play = keep-prefer MIN n (s .play) r i; read = r .read; spent = r .spent }
-  keep-update e CHANCE n w s r x =
+  keep-update e CHANCE n w s r q x =
       let T : ℕ = e .total in
       let l = L .gain e w (s .lo) r x in
       let h = L .loss e w (s .hi) r x in
-      let a = ap (O .high-of (P .times T (s .alpha))) l ∙ L .high-of T (s .alpha) (O .gain e w (s .lo) (r .low)) in
-      let b = ap (O .low-of (P .times T (s .beta))) h ∙ L .low-of T (s .beta) (O .loss e w (s .hi) (r .high)) in
+      let a = ap (O .high-of (P .times T (s .alpha))) l ∙ L .high-of T (s .alpha) (O .gain e w (s .lo) (r .low)) q in
+      let b = ap (O .low-of (P .times T (s .beta))) h ∙ L .low-of T (s .beta) (O .loss e w (s .hi) (r .high)) q in
       λ i. record { alpha = a i; beta = b i; lo = l i; hi = h i; play = noPlay; read = r .read; spent = r .spent }
 
   are-sums : (e : Frame A) (k : Kind) (s : State A) → AreSums P O R e k (keep P e k s) s
@@ -103,7 +103,7 @@ module _ {A : Type 0} (O : Arith A) (P : Sums A) (Q : Frame A → ℕ → Seen A
       → sumsAfter P O R e k rest (update (onSums O P) e k n w (keep P e k s) r′) ≡ seenAfter O R e k rest (update O e k n w s r)
   same-step e k n w rest s r′ r q z x ih =
       let t : State A = update O e k n w s r in
-      ap (sumsAfter P O R e k rest) (ap (update (onSums O P) e k n w (keep P e k s)) z ∙ keep-update e k n w s r x)
+      ap (sumsAfter P O R e k rest) (ap (update (onSums O P) e k n w (keep P e k s)) z ∙ keep-update e k n w s r q x)
       ∙ ap₂ (λ (b : Bool) (y : Seen A). cond b y (scanSums P O R e k rest (keep P e k t))) (keep-stop e k rest t q) (keep-cut e k t q)
       ∙ cond-else (stop O (R .margin) rest t) (cut e k t) ih
 
@@ -132,23 +132,23 @@ module _ {A : Type 0} (O : Arith A) (P : Sums A) (Q : Frame A → ℕ → Seen A
 
   -- ---- before each child
 
-  before-step : (e : Frame A) (k : Kind) (n w : ℕ) (rest : Forest A) (s : State A) (r′ r : Seen A) → r′ ≡ r → AtChance O R Q e k w r
+  before-step : (e : Frame A) (k : Kind) (n w : ℕ) (rest : Forest A) (s : State A) (r′ r : Seen A) → Paid e k → r′ ≡ r → AtChance O R Q e k w r
       → EachBefore P O R e k rest (keep P e k (update O e k n w s r)) (update O e k n w s r)
       → EachBefore P O R e k rest (update (onSums O P) e k n w (keep P e k s) r′) (update O e k n w s r)
-  before-step e k n w rest s r′ r z x h =
-      subst (λ (u : State A). EachBefore P O R e k rest u (update O e k n w s r)) (sym (ap (update (onSums O P) e k n w (keep P e k s)) z ∙ keep-update e k n w s r x)) h
+  before-step e k n w rest s r′ r q z x h =
+      subst (λ (u : State A). EachBefore P O R e k rest u (update O e k n w s r)) (sym (ap (update (onSums O P) e k n w (keep P e k s)) z ∙ keep-update e k n w s r q x)) h
 
   before : (e : Frame A) (k : Kind) (f : Forest A) (s : State A) → Paid e k → PaidUnder (R .frame) f → EachTaken O R Q e k f s → EachBefore P O R e k f (keep P e k s) s
   unfolding keep
   before e k end s q y h = tt
   before e k (leaf n w v rest) s q y h =
-      (are-sums e k s, λ z. before-step e k n w rest s _ (met R e (s .read) (point n v (s .read))) refl (h .0) (before e k rest _ q y (h .1 z)))
+      (are-sums e k s, λ z. before-step e k n w rest s _ (met R e (s .read) (point n v (s .read))) q refl (h .0) (before e k rest _ q y (h .1 z)))
   before e k (inner n w c under rest) s q y h =
       let d : Frame A = R .frame n under in
       let j : State A = enter O e k w d c s in (
         are-sums e k s,
         λ z. subst (λ (u : State A). EachBefore P O R d c under u j) (sym (keep-enter e k w d c s)) (before d c under j (y .0) (y .1) (h .1 z)),
-        λ z. before-step e k n w rest s _ (met R e (s .read) (scan O R d c under j))
+        λ z. before-step e k n w rest s _ (met R e (s .read) (scan O R d c under j)) q
             (same-under e d k c w under s (λ x. same d c under j (y .0) (y .1) (h .1 x))) (h .0) (before e k rest _ q (y .2) (h .2 z)),
       )
 
