@@ -323,23 +323,9 @@ fn second_engine_has_the_known_answers() {
     budget::second_has(&known());
 }
 
-/// The known answers, with lists and numbers of all lengths; the proved engine must
-/// have them, whatever the second says.
 #[test]
 fn examples() {
-    let mut comparison = Comparison::new("searching examples within a budget");
-    let mut random = Random::new(1);
-    for (text, asked, expected) in known() {
-        let leaves = second::read(&text).expect("accepted").leaves;
-        for room in leaves..leaves + 3 {
-            for numbers in 0..=ROOM {
-                hold_to(&comparison.tally, &text, asked, (room, numbers), &expected);
-            }
-        }
-        let held = comparison.hold(&text, &mut random, |_, _| vec![asked]);
-        held.expect("accepted");
-    }
-    comparison.tally.report();
+    budget::hold_known("searching examples within a budget", &known());
 }
 
 /// 12 comes before 17, and 17 before 11, which is given for every list that is shorter

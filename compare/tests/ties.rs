@@ -5,14 +5,13 @@
 //! The environment variable SEED sets the seed of the random tables, CASES their
 //! number.
 
-use compare::hold::budget::{self, turning_points, Asked, Known};
-use compare::hold::numbers::ROOM;
-use compare::hold::searching::{self, change_unread, keeps_its_promises, Expected};
+use compare::hold::budget::{self, questions_at, turning_points, Asked, Known, NONE};
+use compare::hold::searching::{self, hold_changed, Expected};
 use compare::hold::seen::{Seen, SIDES};
-use compare::hold::tally::{say, Tally};
+use compare::hold::tally::say;
 use compare::hold::ties::{self, BEHIND};
 use compare::random::{number_from_environment, Random};
-use compare::second::{self, Table, Terms, GREATEST_BUDGET};
+use compare::second::{self, Terms};
 use compare::texts;
 use compare::texts::examples::*;
 use compare::texts::knobs::Knobs;
@@ -40,7 +39,7 @@ fn random_tables() {
         };
         let table = second::read(&text).expect("valid");
         let margins = [vec![0], turning_points(&table, None)].concat();
-        let asked = questions(&mut random, &table, &margins);
+        let asked = questions_at(&mut random, &table, &margins);
         let mut has_tie = false;
         for &margin in &margins {
             has_tie |= ties::hold(&mut of_plain, &table, Terms::of(margin));
@@ -68,46 +67,6 @@ fn random_tables() {
     }
     assert!(4 * tied >= cases, "plays tied in only {tied} tables");
     assert!(cases >= 20_000, "only {cases} tables");
-}
-
-/// Holds the search without a budget to the same answer with other utilities in the
-/// leaves that were not read, and to that in a mirror on the turned table. (Within a
-/// budget the comparison does so.)
-fn hold_changed(tally: &Tally, text: &[u8], table: &Table, margin: i64, random: &mut Random) {
-    let expected = Expected::by(Ok(table), Terms::of(margin), table.leaves);
-    let hold = |text: &[u8], expected: &Expected| {
-        searching::hold_to(tally, text, margin, table.leaves, ROOM, expected);
-    };
-    let mut other = text.to_vec();
-    change_unread(&mut other, table, &expected.leaves, random);
-    hold(&other, &expected);
-    let other = second::read(&other).expect("valid still");
-    let (found, _) = expected.answer.expect("an answer");
-    let worths = second::worths(&other);
-    keeps_its_promises(&other, &worths, margin, found, &expected.leaves);
-
-    let mut turned = text.to_vec();
-    second::turn(text, &mut turned).expect("a valid table");
-    hold(&turned, &expected.turned());
-}
-
-/// Three of these margins, each with two budgets, which most often end before the search
-/// does.
-fn questions(random: &mut Random, table: &Table, margins: &[i64]) -> Vec<Asked> {
-    let mut questions = Vec::new();
-    for _ in 0..3 {
-        let margin = random.pick(margins);
-        let plain = Expected::by(Ok(table), Terms::of(margin), table.leaves);
-        let read = plain.leaves.len() as i64;
-        for _ in 0..2 {
-            let budget = match random.below(5) {
-                0 => random.pick(&[0, read, read + 1, GREATEST_BUDGET]),
-                _ => random.between(1, read),
-            };
-            questions.push(Asked { margin, budget });
-        }
-    }
-    questions
 }
 
 // ---------------------------------------------------------------------------
@@ -178,9 +137,6 @@ const BEHIND_AN_N: &str = "\
 ...7.L....6....2.......2
 ...8.L....6....2.......0
 ";
-
-/// Where no budget is named.
-const NONE: i64 = GREATEST_BUDGET;
 
 const OF_CUT_PLAYS: &[Known] = &[
     // The three N are cut at 0 to 2, 0 to 3 and 0 to 3: the highest high of the equal
@@ -287,25 +243,7 @@ fn second_engine_has_the_known_answers() {
     budget::second_has(&known());
 }
 
-/// The known answers, with a budget and where none is named without; the proved engine
-/// must have them, whatever the second says.
 #[test]
 fn examples() {
-    let mut comparison = budget::Comparison::new("searching examples of plays that tie");
-    let mut random = Random::new(1);
-    for (text, asked, expected) in known() {
-        let leaves = second::read(&text).expect("accepted").leaves;
-        for room in leaves..leaves + 3 {
-            for numbers in 0..=ROOM {
-                let tally = &comparison.tally;
-                budget::hold_to(tally, &text, asked, (room, numbers), &expected);
-                if asked.budget == NONE {
-                    searching::hold_to(tally, &text, asked.margin, room, numbers, &expected);
-                }
-            }
-        }
-        let held = comparison.hold(&text, &mut random, |_, _| vec![asked]);
-        held.expect("accepted");
-    }
-    comparison.tally.report();
+    budget::hold_known("searching examples of plays that tie", &known());
 }

@@ -2,7 +2,9 @@
 //! without one, and what it promises beside that search.
 
 use super::numbers::ROOM;
-use super::searching::{change_unread, count_list, hold_call, margins, Expected, Lengths, PATTERN};
+use super::searching::{
+    self, change_unread, count_list, hold_call, margins, Expected, Lengths, PATTERN,
+};
 use super::seen::{Seen, ROOTS, SIDES};
 use super::tally::Tally;
 use super::{code, span};
@@ -34,6 +36,9 @@ impl Asked {
         !(0..=GREATEST_BUDGET).contains(&self.budget)
     }
 }
+
+/// The budget where none is named.
+pub const NONE: i64 = GREATEST_BUDGET;
 
 /// Holds the proved engine to this, with a leaf list and numbers of these lengths.
 pub fn hold_to(
@@ -441,6 +446,28 @@ pub fn second_has(known: &[(Vec<u8>, Asked, Expected)]) {
     }
 }
 
+/// The proved engine has the known answers, whatever the second says, with lists and
+/// numbers of all lengths; where no budget is named, it has them without one too.
+pub fn hold_known(name: &'static str, known: &[(Vec<u8>, Asked, Expected)]) {
+    let mut comparison = Comparison::new(name);
+    let mut random = Random::new(1);
+    for (text, asked, expected) in known {
+        let leaves = second::read(text).expect("accepted").leaves;
+        for room in leaves..leaves + 3 {
+            for numbers in 0..=ROOM {
+                let tally = &comparison.tally;
+                hold_to(tally, text, *asked, (room, numbers), expected);
+                if asked.budget == NONE {
+                    searching::hold_to(tally, text, asked.margin, room, numbers, expected);
+                }
+            }
+        }
+        let held = comparison.hold(text, &mut random, |_, _| vec![*asked]);
+        held.expect("accepted");
+    }
+    comparison.tally.report();
+}
+
 /// Margins with budgets for a table: fewer leaves than the search reads, as many or
 /// more, and some that are refused.
 pub fn questions(random: &mut Random, table: &Table, count: usize) -> Vec<Asked> {
@@ -451,6 +478,25 @@ pub fn questions(random: &mut Random, table: &Table, count: usize) -> Vec<Asked>
         let plain = Expected::by(Ok(table), Terms::of(margin), table.leaves);
         let budget = budget(random, plain.leaves.len() as i64);
         questions.push(Asked { margin, budget });
+    }
+    questions
+}
+
+/// Three of these margins, each with two budgets, which most often end before the search
+/// does.
+pub fn questions_at(random: &mut Random, table: &Table, margins: &[i64]) -> Vec<Asked> {
+    let mut questions = Vec::new();
+    for _ in 0..3 {
+        let margin = random.pick(margins);
+        let plain = Expected::by(Ok(table), Terms::of(margin), table.leaves);
+        let read = plain.leaves.len() as i64;
+        for _ in 0..2 {
+            let budget = match random.below(5) {
+                0 => random.pick(&[0, read, read + 1, GREATEST_BUDGET]),
+                _ => random.between(1, read),
+            };
+            questions.push(Asked { margin, budget });
+        }
     }
     questions
 }

@@ -297,6 +297,26 @@ pub fn keeps_its_promises(
     assert!(read.all(|node| node.kind == Kind::Leaf));
 }
 
+/// Holds the search without a budget to the same answer with other utilities in the
+/// leaves that were not read, and to that in a mirror on the turned table.
+pub fn hold_changed(tally: &Tally, text: &[u8], table: &Table, margin: i64, random: &mut Random) {
+    let expected = Expected::by(Ok(table), Terms::of(margin), table.leaves);
+    let hold = |text: &[u8], expected: &Expected| {
+        hold_to(tally, text, margin, table.leaves, ROOM, expected);
+    };
+    let mut other = text.to_vec();
+    change_unread(&mut other, table, &expected.leaves, random);
+    hold(&other, &expected);
+    let other = second::read(&other).expect("valid still");
+    let (found, _) = expected.answer.expect("an answer");
+    let worths = second::worths(&other);
+    keeps_its_promises(&other, &worths, margin, found, &expected.leaves);
+
+    let mut turned = text.to_vec();
+    second::turn(text, &mut turned).expect("a valid table");
+    hold(&turned, &expected.turned());
+}
+
 fn count_table(seen: &mut Seen, table: &Table, worths: &[i64]) {
     seen.count_table(table);
     let best = best_plays(table, worths);
