@@ -24,8 +24,8 @@ pub use report::{
 };
 pub use rollout::{rollout, Rolled};
 pub use search::{
-    search, search_watched, search_within, Bounds, Entered, Found, Rounding, Scale, Step, Terms,
-    Ties, Window, GREATEST_BUDGET, GREATEST_MARGIN,
+    search, search_watched, search_within, Bounds, Entered, Found, Rounding, Scale, Step, Sums,
+    Terms, Ties, Window, GREATEST_BUDGET, GREATEST_MARGIN,
 };
 pub use table::*;
 pub use turn::turn;

@@ -50,6 +50,7 @@ pub struct Terms {
     pub budget: Option<i64>,
     pub rounding: Rounding,
     pub ties: Ties,
+    pub sums: Sums,
 }
 
 impl Terms {
@@ -60,6 +61,7 @@ impl Terms {
             budget: None,
             rounding: Rounding::Outward,
             ties: Ties::Safer,
+            sums: Sums::Right,
         }
     }
 
@@ -124,6 +126,27 @@ impl Ties {
     }
 }
 
+/// What a C line makes of its numbers. This engine has them as Algorithm 1 has them; one
+/// that keeps T times them (document 02, Item 4) must answer alike. The other ways are
+/// what that one answers where it takes a number for T times it, or the other way round;
+/// they are there for tests to count where one would have changed an answer. Such a
+/// number is T times too small or too great as counted from the lowest end: an engine
+/// that counts from there has no numbers below zero, and its empty sum is 0.
+#[derive(Clone, Copy, Debug, PartialEq, Eq)]
+pub enum Sums {
+    Right,
+    /// The cut test of a C is T × beta <= T × alpha + the margin.
+    BareMargin,
+    /// A C hands T times the margin on to its children.
+    MarginBelow,
+    /// A C takes the alpha that it is handed for T times it.
+    BareAlpha,
+    /// The same with beta.
+    BareBeta,
+    /// The low and the high of a C are divided by T once more where it is left.
+    DividedAgain,
+}
+
 /// A child of the root that was entered, and what was found there. By Item 6 one that is
 /// met when no read is left counts as entered, with the two ends as its bounds.
 #[derive(Clone, Copy, Debug, PartialEq, Eq)]
@@ -174,6 +197,7 @@ pub fn search_watched(
         grains: table.grains,
         scale,
         margin: terms.margin,
+        sums: terms.sums,
         leaves,
         read: 0,
         most,
@@ -235,11 +259,9 @@ impl Scale {
         self.greatest.min(quotient + self.least)
     }
 
-    /// A child's part, weight in T, of so many grains; it is a whole number.
-    fn part(&self, weight: i64, grains: i64) -> i64 {
-        let product = weight * grains;
-        debug_assert_eq!(product % self.total, 0, "T leaves a remainder");
-        product / self.total
+    /// What is left of a value, from the least one on, that is taken for T times it.
+    fn divided(&self, value: i64) -> i64 {
+        self.least + floor(value - self.least, self.total)
     }
 }
 
@@ -280,6 +302,7 @@ struct Search<'a, W> {
     grains: i64,
     scale: Scale,
     margin: i64,
+    sums: Sums,
     leaves: &'a mut [u16],
     read: usize,
     /// The most leaves to read.
@@ -374,21 +397,47 @@ impl<W: FnMut(Step)> Search<'_, W> {
         let stop = self.nodes[node].stop;
         let mut bounds = self.ends();
         let mut child = node + 1;
+        match self.sums {
+            Sums::BareAlpha => window.alpha = scale.divided(window.alpha),
+            Sums::BareBeta => window.beta = scale.divided(window.beta),
+            _ => (),
+        }
         loop {
             let weight = self.nodes[child].weight;
             let weight = weight.expect("a child of a C has a weight");
+            let margin = self.margin;
+            if self.sums == Sums::MarginBelow {
+                // The greatest margin is past every span, so a greater one cuts no more.
+                self.margin = (margin * scale.total).min(GREATEST_MARGIN);
+            }
             let found = self.enter(child, || Window {
                 alpha: scale.alpha_below(weight, window.alpha, bounds.high),
                 beta: scale.beta_below(weight, window.beta, bounds.low),
             });
-            bounds.low += scale.part(weight, found.low - scale.least);
-            bounds.high -= scale.part(weight, scale.greatest - found.high);
+            self.margin = margin;
+            bounds.low += self.part(weight, found.low - scale.least);
+            bounds.high -= self.part(weight, scale.greatest - found.high);
             window.narrow(bounds);
             child = self.nodes[child].stop;
             if child == stop || self.cuts(node, window) {
-                return bounds;
+                break;
             }
         }
+        if self.sums == Sums::DividedAgain {
+            bounds.low = scale.divided(bounds.low);
+            bounds.high = scale.divided(bounds.high);
+        }
+        bounds
+    }
+
+    /// A child's part, weight in T, of so many grains. It is a whole number, but where
+    /// the child is itself divided once too often.
+    fn part(&self, weight: i64, grains: i64) -> i64 {
+        let (product, total) = (weight * grains, self.scale.total);
+        let whole = product % total == 0;
+        let may_leave = self.sums == Sums::DividedAgain;
+        debug_assert!(whole || may_leave, "T leaves a remainder");
+        product / total
     }
 
     /// The bounds of a node of which nothing is known.
@@ -402,6 +451,13 @@ impl<W: FnMut(Step)> Search<'_, W> {
     /// Line 24, for a child that is not the last.
     fn cuts(&mut self, node: usize, window: Window) -> bool {
         (self.watch)(Step::Test(node, window));
-        window.beta <= window.alpha + self.margin
+        let Window { alpha, beta } = window;
+        match (self.sums, self.nodes[node].kind) {
+            (Sums::BareMargin, Kind::Chance) => {
+                let total = self.scale.total;
+                total * beta <= total * alpha + self.margin
+            }
+            _ => beta <= alpha + self.margin,
+        }
     }
 }
