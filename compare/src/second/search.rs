@@ -126,12 +126,11 @@ impl Ties {
     }
 }
 
-/// What a C line makes of its numbers. This engine has them as Algorithm 1 has them; one
-/// that keeps T times them (document 02, Item 4) must answer alike. The other ways are
-/// what that one answers where it takes a number for T times it, or the other way round;
-/// they are there for tests to count where one would have changed an answer. Such a
-/// number is T times too small or too great as counted from the lowest end: an engine
-/// that counts from there has no numbers below zero, and its empty sum is 0.
+/// How a C takes its numbers: as they are, as Algorithm 1 does. An engine may keep T times
+/// them instead (document 02, Item 4) and must answer alike. The other ways are what it
+/// answers if it takes a number for T times that number, or the other way round; they are
+/// there for tests to count where one would have changed an answer. Their numbers count
+/// from the lowest end, which is natural where a sum begins with 0 and none is below it.
 #[derive(Clone, Copy, Debug, PartialEq, Eq)]
 pub enum Sums {
     Right,
@@ -259,7 +258,8 @@ impl Scale {
         self.greatest.min(quotient + self.least)
     }
 
-    /// What is left of a value, from the least one on, that is taken for T times it.
+    /// What a value that is taken for T times it amounts to, counted from the least and
+    /// rounded down.
     fn divided(&self, value: i64) -> i64 {
         self.least + floor(value - self.least, self.total)
     }
