@@ -14,7 +14,7 @@ use compare::texts::{self, bench, level, matches, ties, windows};
 type Setting = (&'static str, fn(&mut Random) -> Knobs);
 
 /// Every setting whose tables are valid, and some with knobs turned besides.
-const SETTINGS: [Setting; 17] = [
+const SETTINGS: [Setting; 19] = [
     ("any", Knobs::any),
     ("plain", Knobs::plain),
     ("close", Knobs::close),
@@ -22,6 +22,8 @@ const SETTINGS: [Setting; 17] = [
     ("ties", Knobs::ties),
     ("forced", Knobs::forced),
     ("dice", Knobs::dice),
+    ("position", Knobs::position),
+    ("chancy", Knobs::chancy),
     ("tiny", matches::tiny),
     ("largest", Knobs::largest),
     ("largest plain", Knobs::largest_plain),

@@ -117,6 +117,44 @@ impl Knobs {
         }
     }
 
+    /// As a position of a dice game has them: after each play of the root the 21 rolls,
+    /// after some rolls plays again; one C on a path, or two.
+    pub fn position(random: &mut Random) -> Knobs {
+        let chances = 1 + random.below(2);
+        let nodes = random.between(45, [100, 250][chances - 1]);
+        Knobs {
+            nodes: nodes as usize,
+            totals: vec![WAYS],
+            ends: apart(random),
+            root: Kinds::either(0),
+            order: Order::Rolls,
+            chances,
+            path: LONGEST_PATH,
+            shape: Shape::Bushy(2, 4),
+            weights: Weights::Dice,
+            ..Knobs::any(random)
+        }
+    }
+
+    /// C of every total at the root and one below the other, with children of every kind
+    /// and weights that are seldom equal; half the roots are no C, so that windows below
+    /// them narrow.
+    pub fn chancy(random: &mut Random) -> Knobs {
+        let knobs = Knobs {
+            nodes: 10 + random.below(60),
+            ends: apart(random),
+            path: LONGEST_PATH,
+            shape: random.pick(&NOT_FLAT),
+            weights: random.pick(&[Weights::Any, Weights::Uneven]),
+            ..Knobs::any(random)
+        };
+        let knobs = knobs.with_chances(1 + random.below(3));
+        Knobs {
+            root: random.pick(&[Kinds::either(0), knobs.root]),
+            ..knobs
+        }
+    }
+
     /// T 64, 1,024 nodes, the widest ends and many C; every leaf at the lowest
     /// end in one of four cases, at the highest in one, otherwise each at either.
     pub fn largest(random: &mut Random) -> Knobs {
@@ -286,6 +324,13 @@ pub fn ends(random: &mut Random) -> (i64, i64) {
         6 => (-random.between(0, 100), random.between(0, 100)),
         _ => (one.min(other), one.max(other)),
     }
+}
+
+/// Ends that are apart.
+fn apart(random: &mut Random) -> (i64, i64) {
+    let points = random.pick(&[1, 3, 10, 100, 6_000, 2 * FARTHEST_END]);
+    let lowest = random.between(-FARTHEST_END, FARTHEST_END - points);
+    (lowest, lowest + points)
 }
 
 /// The most nodes on a path.
