@@ -8,7 +8,7 @@ use compare::hold::budget::{
     self, hold_to, no_budget, questions, turning_points, Asked, Comparison, Known, AFTER_UNREAD,
 };
 use compare::hold::numbers::ROOM;
-use compare::hold::searching::Expected;
+use compare::hold::searching::{Expected, OTHER_ROUNDINGS};
 use compare::hold::seen::Seen;
 use compare::hold::span;
 use compare::hold::tally::OF_TABLES;
@@ -216,10 +216,7 @@ fn count_roundings(seen: &mut Seen, table: &Table, asked: Asked) {
     let expected = by(Rounding::Outward);
     let (found, _) = expected.answer.expect("an answer");
     seen.count("spent", found.spent);
-    for (sort, rounding) in [
-        ("alpha rounded up", Rounding::AlphaUp),
-        ("beta rounded down", Rounding::BetaDown),
-    ] {
+    for (sort, rounding) in OTHER_ROUNDINGS {
         let other = by(rounding);
         let sort = format!("another answer with {sort}");
         seen.count(&sort, found.spent && other != expected);

@@ -11,6 +11,7 @@ pub mod reporting;
 pub mod rolling;
 pub mod searching;
 pub mod seen;
+pub mod sums;
 pub mod tally;
 pub mod ties;
 pub mod turning;

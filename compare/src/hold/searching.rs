@@ -2,7 +2,7 @@
 //! leaves read, G, the difference of the bounds, whether the budget was spent, and
 //! every entry of the leaf list; and that all else in what was lent is left as it was.
 //! What the search promises of the exact worth is held to the answers too. The search
-//! with a budget has more to it in `budget`, plays that tie in `ties`.
+//! with a budget has more to it in `budget`, plays that tie in `ties`, C in `sums`.
 
 use std::fmt::Arguments;
 
@@ -13,7 +13,8 @@ use super::{best_plays, code, span};
 use crate::engine;
 use crate::random::Random;
 use crate::second::{
-    self, root_children, Found, Kind, Refusal, Step, Table, Terms, GREATEST_MARGIN, MOST_NODES,
+    self, root_children, Found, Kind, Refusal, Rounding, Step, Table, Terms, GREATEST_MARGIN,
+    MOST_NODES,
 };
 use crate::texts::examples::escaped;
 use crate::texts::knobs::{ROLLS, WAYS};
@@ -28,6 +29,12 @@ const SPARE: usize = 30;
 
 /// Entries kept as a guard after a list lent.
 const GUARD: usize = 2;
+
+/// The roundings of a window that document 01 does not want.
+pub const OTHER_ROUNDINGS: [(&str, Rounding); 2] = [
+    ("alpha rounded up", Rounding::AlphaUp),
+    ("beta rounded down", Rounding::BetaDown),
+];
 
 /// What a call must return and write: the answer with G, and the leaves read, in
 /// reading sequence.

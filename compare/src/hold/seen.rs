@@ -71,6 +71,11 @@ impl Seen {
 
     /// The same, where these sorts need not come.
     pub fn demand_but(&self, least: u64, spared: impl Fn(&str) -> bool) {
+        self.demand_by(|sort| if spared(sort) { 0 } else { least });
+    }
+
+    /// The same, with a count for each sort.
+    pub fn demand_by(&self, least: impl Fn(&str) -> u64) {
         let lines: Vec<String> = self
             .sorts
             .iter()
@@ -78,8 +83,8 @@ impl Seen {
             .collect();
         say(&format!("seen: {}", lines.join("; ")));
         assert!(!self.sorts.is_empty(), "no sort was counted");
-        for (sort, count) in self.sorts.iter().filter(|(sort, _)| !spared(sort)) {
-            assert!(*count >= least, "{sort} came only {count} times");
+        for (sort, count) in &self.sorts {
+            assert!(*count >= least(sort), "{sort} came only {count} times");
         }
     }
 
