@@ -57,6 +57,11 @@ fn random_tables() {
         let questions = Questions { margins, asked };
         let tells = comparison.hold(sort, &text, &table, &mut random, questions);
         telling += u64::from(tells);
+        for chances in [1, 2] {
+            let here = sort == ROLLS && table.chances == chances;
+            let sort = format!("{ROLLS}, K {chances}");
+            comparison.tables.count(&sort, here);
+        }
     }
     // About half of what the usual seed gives, or less, here and below.
     comparison.demand_tests(2_500);

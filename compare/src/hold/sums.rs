@@ -15,12 +15,13 @@ use crate::texts::knobs::WAYS;
 const BARE_ALPHA: &str = "a bare alpha at a C";
 
 /// What an engine with T times the numbers of a C may have wrong.
-const FAULTS: [(&str, Sums); 5] = [
+const FAULTS: [(&str, Sums); 6] = [
     ("the bare margin at a C", Sums::BareMargin),
     ("T times the margin below a C", Sums::MarginBelow),
     (BARE_ALPHA, Sums::BareAlpha),
     ("a bare beta at a C", Sums::BareBeta),
     ("a C divided twice", Sums::DividedAgain),
+    ("a C divided twice where cut", Sums::DividedAgainAtCut),
 ];
 
 /// Compares the two engines without a budget and within one.

@@ -144,6 +144,8 @@ pub enum Sums {
     BareBeta,
     /// The low and the high of a C are divided by T once more where it is left.
     DividedAgain,
+    /// The same, but only where it is cut.
+    DividedAgainAtCut,
 }
 
 /// A child of the root that was entered, and what was found there. By Item 6 one that is
@@ -402,7 +404,7 @@ impl<W: FnMut(Step)> Search<'_, W> {
             Sums::BareBeta => window.beta = scale.divided(window.beta),
             _ => (),
         }
-        loop {
+        let cut = loop {
             let weight = self.nodes[child].weight;
             let weight = weight.expect("a child of a C has a weight");
             let margin = self.margin;
@@ -419,11 +421,14 @@ impl<W: FnMut(Step)> Search<'_, W> {
             bounds.high -= self.part(weight, scale.greatest - found.high);
             window.narrow(bounds);
             child = self.nodes[child].stop;
-            if child == stop || self.cuts(node, window) {
-                break;
+            if child == stop {
+                break false;
             }
-        }
-        if self.sums == Sums::DividedAgain {
+            if self.cuts(node, window) {
+                break true;
+            }
+        };
+        if self.sums == Sums::DividedAgain || self.sums == Sums::DividedAgainAtCut && cut {
             bounds.low = scale.divided(bounds.low);
             bounds.high = scale.divided(bounds.high);
         }
@@ -435,7 +440,7 @@ impl<W: FnMut(Step)> Search<'_, W> {
     fn part(&self, weight: i64, grains: i64) -> i64 {
         let (product, total) = (weight * grains, self.scale.total);
         let whole = product % total == 0;
-        let may_leave = self.sums == Sums::DividedAgain;
+        let may_leave = [Sums::DividedAgain, Sums::DividedAgainAtCut].contains(&self.sums);
         debug_assert!(whole || may_leave, "T leaves a remainder");
         product / total
     }
