@@ -45,7 +45,7 @@ fn make(sort: &str, random: &mut Random) -> (Vec<u8>, Table) {
 #[test]
 fn random_tables() {
     let mut comparison = Comparison::new("searching under C", "searching under C within a budget");
-    let cases = number_from_environment("CASES", 26_000);
+    let cases = number_from_environment("CASES", 25_000);
     let mut telling = 0;
     for number in 0..cases {
         let mut random = comparison.case(number);
@@ -129,6 +129,7 @@ fn windows_below_chance_nodes() {
             margins: about(None).collect(),
             asked: within.map(|margin| Asked { margin, budget }).collect(),
         };
+        comparison.count_roundings(NARROWED, &table, &questions);
         comparison.hold(NARROWED, &text, &table, &mut random, questions);
     }
     comparison.demand_tests(1_200);
@@ -149,7 +150,7 @@ fn largest_tables() {
         "searching the largest C within a budget",
     );
     let mut texts = largest::four_chances();
-    for number in 0..250 {
+    for number in 0..200 {
         let mut random = comparison.case(number);
         let knobs = Knobs::largest(&mut random);
         texts.push(knobs.text(&mut random));
@@ -170,7 +171,7 @@ fn largest_tables() {
     comparison.demand_tests(70);
     comparison.demand_faults(600, 100);
     let four = comparison.plain.tables.of("K 4");
-    assert!(four >= 400, "four C on a path only {four} times");
+    assert!(four >= 300, "four C on a path only {four} times");
 }
 
 // ---------------------------------------------------------------------------

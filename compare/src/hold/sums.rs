@@ -42,6 +42,13 @@ pub struct Questions {
     pub asked: Vec<Asked>,
 }
 
+impl Questions {
+    fn terms(&self) -> impl Iterator<Item = Terms> + '_ {
+        let plain = self.margins.iter().map(|margin| Terms::of(*margin));
+        plain.chain(self.asked.iter().map(|asked| asked.terms()))
+    }
+}
+
 impl Comparison {
     pub fn new(plain: &'static str, within: &'static str) -> Comparison {
         Comparison {
@@ -69,17 +76,17 @@ impl Comparison {
         random: &mut Random,
         questions: Questions,
     ) -> bool {
-        let Questions { margins, asked } = questions;
+        count_table(&mut self.tables, table);
         let mut tells = false;
+        for terms in questions.terms() {
+            let faulty = FAULTS.map(|(fault, sums)| (fault, Terms { sums, ..terms }));
+            tells |= count_wrong(&mut self.faults, sort, table, terms, &faulty);
+        }
+        let Questions { margins, asked } = questions;
         for &margin in &margins {
             hold_changed(&self.plain.tally, text, table, margin, random);
             self.plain.count_tests(table, margin);
-            tells |= self.count_wrong(sort, table, Terms::of(margin));
         }
-        for asked in &asked {
-            tells |= self.count_wrong(sort, table, asked.terms());
-        }
-        count_table(&mut self.tables, table);
         let held = self.plain.hold(text, |_| margins);
         held.expect("valid");
         let held = self.within.hold(text, random, |_, _| asked);
@@ -87,25 +94,13 @@ impl Comparison {
         tells
     }
 
-    /// Counts the wrong engines that would have answered otherwise. Returns whether there
-    /// was a faulty one.
-    fn count_wrong(&mut self, sort: &str, table: &Table, terms: Terms) -> bool {
-        let by = |terms| Expected::by(Ok(table), terms, table.leaves);
-        let expected = by(terms);
-        let count = |seen: &mut Seen, wrong: &str, terms: Terms| {
-            let within = terms.budget.map_or("", |_| " within a budget");
-            let differs = by(terms) != expected;
-            seen.count(&format!("{sort}{within}, {wrong}"), differs);
-            differs
-        };
-        let mut tells = false;
-        for (fault, sums) in FAULTS {
-            tells |= count(&mut self.faults, fault, Terms { sums, ..terms });
+    /// Counts where windows that are rounded the wrong way would have changed an answer.
+    pub fn count_roundings(&mut self, sort: &str, table: &Table, questions: &Questions) {
+        for terms in questions.terms() {
+            let others =
+                OTHER_ROUNDINGS.map(|(other, rounding)| (other, Terms { rounding, ..terms }));
+            count_wrong(&mut self.roundings, sort, table, terms, &others);
         }
-        for (other, rounding) in OTHER_ROUNDINGS {
-            count(&mut self.roundings, other, Terms { rounding, ..terms });
-        }
-        tells
     }
 
     /// Fails the test where a faulty engine would have answered otherwise too seldom, or
@@ -131,6 +126,27 @@ impl Comparison {
             assert!(plain >= least && within >= least, "{sort} came too seldom");
         }
     }
+}
+
+/// Counts the wrong engines, each given by its terms, that would have answered otherwise.
+/// Returns whether there was one.
+fn count_wrong(
+    seen: &mut Seen,
+    sort: &str,
+    table: &Table,
+    terms: Terms,
+    wrong: &[(&str, Terms)],
+) -> bool {
+    let by = |terms| Expected::by(Ok(table), terms, table.leaves);
+    let expected = by(terms);
+    let within = terms.budget.map_or("", |_| " within a budget");
+    let mut any = false;
+    for (name, terms) in wrong {
+        let differs = by(*terms) != expected;
+        seen.count(&format!("{sort}{within}, {name}"), differs);
+        any |= differs;
+    }
+    any
 }
 
 /// Margins about the width of a cut test that the search to margin 0 makes at a C, and
