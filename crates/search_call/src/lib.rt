@@ -36,14 +36,14 @@ pub enum Bounded {
 }
 
 // Whether z is none of the numbers from 0 to top.
-fn is_beyond(top: i64, z: i64) -> bool
+pub fn is_beyond(top: i64, z: i64) -> bool
     ensures { λ r. ⌜ r ≡ beyond top z ⌝ }
 {
     (z < 0) | (top < z)
 }
 
 // The numbers that a search goes by.
-fn rule_of(s: Scale, margin: i64) -> Rule
+pub fn rule_of(s: Scale, margin: i64) -> Rule
     ensures { λ r. ⌜ r ≡ ruleFor s margin ⌝ }
 {
     Rule {
@@ -62,7 +62,7 @@ fn reads_of(budget: i64, room: usize) -> usize
 }
 
 // The ends of a table.
-fn ends_of(s: Scale) -> Ends
+pub fn ends_of(s: Scale) -> Ends
     ensures { λ r. ⌜ r ≡ endsFor s ⌝ }
 {
     Ends {
