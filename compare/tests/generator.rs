@@ -31,6 +31,8 @@ const SETTINGS: [Setting; 19] = [
     ("largest flat", |random| Knobs::largest_flat(b"N", random)),
     ("even", |_| Knobs::even(4, 3)),
     ("benchmark", |_| bench::bushy(256)),
+    ("benchmark replies", |_| bench::replies(256)),
+    ("benchmark rerolls", |_| bench::rerolls(256)),
     ("forced dice", |random| Knobs {
         forced: true,
         ..Knobs::dice(random)
@@ -146,11 +148,16 @@ fn order_obeys(order: Order, table: &Table) -> bool {
 }
 
 fn longest_path(table: &Table) -> usize {
+    depths(table).into_iter().max().expect("a node")
+}
+
+/// The nodes on the path to each node, itself counted.
+fn depths(table: &Table) -> Vec<usize> {
     let mut depths: Vec<usize> = Vec::new();
     for node in &table.nodes {
         depths.push(node.parent.map_or(1, |parent| depths[parent] + 1));
     }
-    depths.into_iter().max().expect("a node")
+    depths
 }
 
 /// How many children each inner node has, in line order of the nodes.
@@ -171,7 +178,10 @@ fn shape_obeys(knobs: &Knobs, table: &Table) -> bool {
         Shape::Flat | Shape::Deep | Shape::Bushy(..) | Shape::Any => true,
         Shape::Even(number) => children.iter().all(|children| *children == number),
         Shape::Chains => below.all(|children| *children == 1),
-        Shape::Plays(size) => below.all(|children| *children == size - 1),
+        Shape::Levels(lengths) => (1..).zip(&depths(table)[1..]).all(|(node, depth)| {
+            let length = table.nodes[node].stop - node;
+            length == 1 || length == lengths[depth - 2]
+        }),
     }
 }
 
@@ -402,11 +412,13 @@ fn leaves_apart(one: &[second::Node], other: &[second::Node]) -> Option<usize> {
 #[test]
 fn benchmark_tables() {
     const SEED: u64 = 20_001;
-    let shapes: [(bench::Shape, u64); 4] = [
+    let shapes: [(bench::Shape, u64); 6] = [
         (bench::flat, 0xe09a_90b8_7de4_822b),
         (bench::deep, 0xe0e1_b2cf_ca1c_d386),
         (bench::bushy, 0x6891_846a_0083_aa20),
         (bench::bushy_plain, 0xbec5_ab31_2ead_d14c),
+        (bench::replies, 0x7421_9ecf_9fd3_c1af),
+        (bench::rerolls, 0xb496_46fe_9494_f76a),
     ];
     for (shape, expected) in shapes {
         let mut sum: u64 = 0xcbf2_9ce4_8422_2325;

@@ -1,7 +1,7 @@
 //! The benchmark's tables: fixed shapes in any size, random in their utilities
 //! alone. Figures are compared from run to run, so a test holds every byte.
 
-use super::knobs::{self, Kinds, Knobs, Weights, ROLLS, WAYS};
+use super::knobs::{self, Kinds, Knobs, Order, Weights, ROLLS, WAYS};
 
 /// The knobs for a table of so many nodes.
 pub type Shape = fn(usize) -> Knobs;
@@ -40,7 +40,27 @@ pub fn bushy(nodes: usize) -> Knobs {
 pub fn bushy_plain(nodes: usize) -> Knobs {
     Knobs {
         nodes,
-        shape: knobs::Shape::Plays(1 + ROLLS),
+        shape: knobs::Shape::Levels(&[1 + ROLLS, 1]),
         ..Knobs::by_turns()
+    }
+}
+
+/// As `bushy`, and after each roll the other side has three plays, which are leaves.
+pub fn replies(nodes: usize) -> Knobs {
+    const REPLY: usize = 1 + 3;
+    Knobs {
+        order: Order::Rolls,
+        shape: knobs::Shape::Levels(&[1 + ROLLS * REPLY, REPLY, 1]),
+        ..bushy(nodes)
+    }
+}
+
+/// As `bushy`, and after ten of the rolls the other side has two plays: the first is
+/// followed by the 21 rolls again, so that two C stand on a path, the second a leaf.
+pub fn rerolls(nodes: usize) -> Knobs {
+    const REPLY: usize = 1 + (1 + ROLLS) + 1;
+    Knobs {
+        shape: knobs::Shape::Levels(&[1 + 10 * REPLY + (ROLLS - 10), REPLY, 1 + ROLLS, 1]),
+        ..replies(nodes)
     }
 }

@@ -147,7 +147,10 @@ impl Grower<'_> {
             return vec![1; if dice { ROLLS } else { rest }];
         }
         if dice {
-            return self.divided(rest, ROLLS);
+            return match knobs.shape {
+                Shape::Levels(lengths) => rolled(rest, lengths[depth - 1]),
+                _ => self.divided(rest, ROLLS),
+            };
         }
         let root = depth == 1;
         if root && knobs.forced && matches!(node, Node::Decision(_)) {
@@ -168,8 +171,7 @@ impl Grower<'_> {
             Shape::Even(children) => return vec![rest / children; children],
             Shape::Chains if root => return chains(rest, knobs.path - 1),
             Shape::Chains => return vec![rest],
-            Shape::Plays(size) if root => return plays(rest, size),
-            Shape::Plays(_) => rest,
+            Shape::Levels(lengths) => return plays(rest, lengths[depth - 1]),
         };
         self.divided(rest, children.min(most))
     }
@@ -233,6 +235,13 @@ fn plays(rest: usize, length: usize) -> Vec<usize> {
     let mut sizes = vec![length; rest / length];
     sizes.resize(sizes.len() + rest % length, 1);
     sizes
+}
+
+/// A run for each roll: as many of this length as there are nodes for, then leaves.
+fn rolled(rest: usize, length: usize) -> Vec<usize> {
+    let long = (rest - ROLLS).checked_div(length - 1).unwrap_or(0);
+    let run = |roll| if roll < long { length } else { 1 };
+    (0..ROLLS).map(run).collect()
 }
 
 /// Divides `whole` at random into so many parts, each at least 1; in half the

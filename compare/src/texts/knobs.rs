@@ -77,8 +77,9 @@ pub enum Shape {
     /// Paths of the greatest length that share the root; the last may be
     /// shorter.
     Chains,
-    /// Children of the root with so many nodes each, flat; leaves are left over.
-    Plays(usize),
+    /// Children of the root with so many nodes each, children of these with so many,
+    /// and so on down, as many as there are nodes for; the others are leaves.
+    Levels(&'static [usize]),
 }
 
 #[derive(Clone, Debug)]
