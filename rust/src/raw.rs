@@ -6,13 +6,14 @@
 //! writes nothing. What is written, and where, stands in
 //! `include/margin_engine.h`. Entries past an answer keep what they held.
 //!
-//! The only `unsafe` of this package is here. All eight blocks are sound for the
-//! same reasons: the declarations are those of the header, and `Record` has the
-//! layout of its struct; each pointer stands with the length of what it points to;
-//! it comes from a slice and so is not null; and no slice that a call may write
-//! overlaps another, as the borrows show. The engine keeps nothing between calls,
-//! so that threads may call it at once, and it never unwinds. A call ran with 40 KB
-//! of stack on every table tried; the typed calls lend up to 19 KB of theirs.
+//! The only `unsafe` of this package is here. All nine blocks are sound for the
+//! same reasons: the declarations are those of the header, and that of the benchmark's
+//! call is of `crates/timed`; `Record` has the layout of its struct; each pointer
+//! stands with the length of what it points to; it comes from a slice and so is not
+//! null; and no slice that a call may write overlaps another, as the borrows show. The
+//! engine keeps nothing between calls, so that threads may call it at once, and it
+//! never unwinds. A call ran with 40 KB of stack on every table tried; the typed calls
+//! lend up to 19 KB of theirs.
 
 #![allow(unsafe_code)]
 
@@ -75,6 +76,18 @@ mod abi {
             text_len: usize,
             margin: i64,
             budget: i64,
+            leaves: *mut u16,
+            leaves_len: usize,
+            numbers: *mut i64,
+            numbers_len: usize,
+        ) -> u64;
+
+        #[cfg(feature = "timed")]
+        pub fn margin_search_times(
+            text: *const u8,
+            text_len: usize,
+            margin: i64,
+            times: u64,
             leaves: *mut u16,
             leaves_len: usize,
             numbers: *mut i64,
@@ -208,6 +221,31 @@ pub fn search_within(
             text.len(),
             margin,
             budget,
+            leaves.as_mut_ptr(),
+            leaves.len(),
+            numbers.as_mut_ptr(),
+            numbers.len(),
+        )
+    }
+}
+
+/// [`search`], after the table was read once more and searched so many times, with
+/// what they found dropped. For the benchmark: of two numbers of times the difference
+/// is that of searches alone. It needs the feature `timed`.
+#[cfg(feature = "timed")]
+pub fn search_times(
+    text: &[u8],
+    margin: i64,
+    times: u64,
+    leaves: &mut [u16],
+    numbers: &mut [i64],
+) -> u64 {
+    unsafe {
+        abi::margin_search_times(
+            text.as_ptr(),
+            text.len(),
+            margin,
+            times,
             leaves.as_mut_ptr(),
             leaves.len(),
             numbers.as_mut_ptr(),
