@@ -1,7 +1,9 @@
 //! Benchmark of reading, the exact worth, judging, the search, turning, rollouts
-//! and the report: both engines on the same texts in the same run.
+//! and the report, and of the search alone: both engines on the same texts in the
+//! same run.
 //!
-//! Run it in release mode: `cargo run --release --bin bench`.
+//! `./bench` makes both archives and runs it, in release mode and with the feature
+//! `timed`.
 
 use std::hint::black_box;
 use std::time::{Duration, Instant};
@@ -9,8 +11,8 @@ use std::time::{Duration, Instant};
 use compare::engine::{self, Lent, Record};
 use compare::hold::{kind_number, mark_number, reporting, searching};
 use compare::random::{seed, Random};
-use compare::second::{self, root_children, Bounds, Judgement, Terms, LINE, MOST_NODES};
-use compare::texts::bench::{bushy, bushy_plain, deep, flat, Shape};
+use compare::second::{self, root_children, Bounds, Judgement, Table, Terms, LINE, MOST_NODES};
+use compare::texts::bench::{bushy, bushy_plain, deep, flat, replies, rerolls, Shape};
 use compare::texts::knobs::Knobs;
 use compare::texts::matches::{self, Position};
 use margin_engine::raw;
@@ -63,7 +65,11 @@ fn main() {
     println!("Growth is the time per line over that of the same shape with 64 lines; of these");
     println!("the deep one is a single path of 64 nodes.");
 
-    let sorts = sorts(seed, [("flat", flat), ("deep", deep), ("bushy", bushy)]);
+    let sorts = sorts(
+        seed,
+        &SIZES,
+        [("flat", flat), ("deep", deep), ("bushy", bushy)],
+    );
     check(&sorts);
     reading(&sorts);
     worth(&sorts);
@@ -72,8 +78,17 @@ fn main() {
     budgets(&sorts);
     turning(&sorts);
 
+    let rolled = self::sorts(
+        seed,
+        &SIZES_ALONE,
+        [("bushy", bushy), ("replies", replies), ("rerolls", rerolls)],
+    );
+    check(&rolled);
+    search_alone(&rolled);
+
     let plain = self::sorts(
         seed,
+        &SIZES,
         [("flat", flat), ("deep", deep), ("bushy", bushy_plain)],
     );
     check_rollouts(&plain);
@@ -217,7 +232,11 @@ fn budgets(sorts: &[Sort]) {
         println!(
             "{:<8}{budget:>8}{:>8}  {:>10.0}{:>10.0}  {:>8.2}",
             case.sort.shape,
-            leaves_read(case.sort, budget),
+            leaves_read(
+                case.sort,
+                Terms::within(0, budget),
+                |text, leaves, numbers| { engine::search_within(text, 0, budget, leaves, numbers) }
+            ),
             case.proved,
             case.second,
             case.proved / case.second,
@@ -225,18 +244,22 @@ fn budgets(sorts: &[Sort]) {
     }
 }
 
-/// The leaves that both engines read of all texts within this budget.
-fn leaves_read(sort: &Sort, budget: i64) -> i64 {
+/// The leaves that both engines read of all texts, the proved one in this call and the
+/// second on these terms. They must agree.
+fn leaves_read(
+    sort: &Sort,
+    terms: Terms,
+    proved: impl Fn(&[u8], &mut [u16], &mut [i64]) -> u64,
+) -> i64 {
     let mut read = 0;
     for text in &sort.texts {
         let mut numbers = [0; 7];
         let mut lists = [[0; MOST_NODES]; 2];
         let [list, second_list] = &mut lists;
-        let returned = engine::search_within(text, 0, budget, list, &mut numbers);
-        assert_eq!(returned, 0, "a valid table");
-        let found = second_search(text, Terms::within(0, budget), second_list);
-        assert_eq!(Ok(numbers), found, "budget {budget}");
-        assert_eq!(list, second_list, "budget {budget}");
+        assert_eq!(proved(text, list, &mut numbers), 0, "a valid table");
+        let found = second_search(text, terms, second_list);
+        assert_eq!(Ok(numbers), found, "{terms:?}");
+        assert_eq!(list, second_list, "{terms:?}");
         read += numbers[3];
     }
     read
@@ -296,11 +319,11 @@ fn rollouts(sorts: &[Sort]) {
     );
 }
 
-/// Tables of these shapes in all sizes.
-fn sorts(seed: u64, shapes: [(&'static str, Shape); 3]) -> Vec<Sort> {
+/// Tables of these shapes in these sizes.
+fn sorts(seed: u64, sizes: &[usize], shapes: [(&'static str, Shape); 3]) -> Vec<Sort> {
     let mut sorts = Vec::new();
     for (shape, knobs) in shapes {
-        for size in SIZES {
+        for &size in sizes {
             let mut random = Random::new(seed);
             let knobs = knobs(size);
             let texts: Vec<Vec<u8>> = (0..TEXTS).map(|_| knobs.text(&mut random)).collect();
@@ -520,6 +543,143 @@ fn print(cases: &[Case]) {
                 second / least.1,
             );
         }
+    }
+}
+
+// ---------------------------------------------------------------------------
+// The search alone
+// ---------------------------------------------------------------------------
+
+/// Node lines of the tables; with 64 there would be no play with replies.
+const SIZES_ALONE: [usize; 2] = [256, 1_024];
+
+/// The times that searches of one sort of texts took at one margin, and no reading.
+struct Alone<'a> {
+    sort: &'a Sort,
+    name: &'static str,
+    margin: i64,
+    /// The texts as the second engine reads them.
+    tables: Vec<Table>,
+    /// How often each table is searched in a round.
+    turns: u64,
+    /// The best nanoseconds so far: of the proved engine's calls with no turns and
+    /// with all, and of the second engine's searches.
+    none: f64,
+    proved: f64,
+    second: f64,
+}
+
+fn search_alone(sorts: &[Sort]) {
+    println!();
+    println!("The search alone: a table is read once and searched many times. Every C has all");
+    println!(
+        "21 rolls. After each is a leaf (bushy) or an N over three leaves (replies), or after"
+    );
+    println!("ten an N over a leaf and a C with the rolls again (rerolls). The leaves read are");
+    println!("those of all {TEXTS} texts.");
+    println!();
+    let mut cases: Vec<Alone> = MARGINS
+        .iter()
+        .flat_map(|(name, margin)| {
+            sorts
+                .iter()
+                .map(|sort| Alone::new(sort, name, margin(sort)))
+        })
+        .collect();
+    for _ in 0..ROUNDS {
+        for case in &mut cases {
+            case.round();
+        }
+    }
+    println!(
+        "{:<8}{:>6}  {:<20}{:>7}  {:>10}{:>10}  {:>8}",
+        "", "", "", "leaves", "proved", "second", "proved/"
+    );
+    println!(
+        "{:<8}{:>6}  {:<20}{:>7}  {:>10}{:>10}  {:>8}",
+        "shape", "lines", "margin", "read", "ns/search", "ns/search", "second"
+    );
+    for case in cases {
+        let Alone { sort, margin, .. } = case;
+        let (proved, second) = case.per_search();
+        let read = leaves_read(sort, Terms::of(margin), |text, leaves, numbers| {
+            raw::search_times(text, margin, 2, leaves, numbers)
+        });
+        println!(
+            "{:<8}{:>6}  {:<20}{read:>7}  {proved:>10.1}{second:>10.1}  {:>8.2}",
+            sort.shape,
+            sort.size,
+            case.name,
+            proved / second,
+        );
+    }
+}
+
+impl<'a> Alone<'a> {
+    fn new(sort: &'a Sort, name: &'static str, margin: i64) -> Alone<'a> {
+        let read = |text: &Vec<u8>| second::read(text).expect("a valid table");
+        let mut case = Alone {
+            sort,
+            name,
+            margin,
+            tables: sort.texts.iter().map(read).collect(),
+            turns: 1,
+            none: f64::INFINITY,
+            proved: f64::INFINITY,
+            second: f64::INFINITY,
+        };
+        let spell = SPELL.as_nanos() as f64;
+        loop {
+            // Three rounds, as one that others held up would seem long enough.
+            for _ in 0..3 {
+                case.round();
+            }
+            if (case.proved - case.none).min(case.second) >= spell {
+                return case;
+            }
+            // Had the compiler left the searches out of the library, this would not end.
+            assert!(case.turns < 1 << 24, "searches that take no time");
+            case.turns *= 2;
+            (case.proved, case.second) = (f64::INFINITY, f64::INFINITY);
+        }
+    }
+
+    fn round(&mut self) {
+        self.none = self.none.min(self.time_proved(0));
+        self.proved = self.proved.min(self.time_proved(self.turns));
+        self.second = self.second.min(self.time_second());
+    }
+
+    /// The nanoseconds of a search by each engine. A call of the proved engine also
+    /// reads the text twice and searches it once more, which is what it takes with no
+    /// turns: the difference is that of the turns.
+    fn per_search(&self) -> (f64, f64) {
+        let searches = self.turns as f64 * self.tables.len() as f64;
+        ((self.proved - self.none) / searches, self.second / searches)
+    }
+
+    fn time_proved(&self, turns: u64) -> f64 {
+        let (mut leaves, mut numbers) = ([0; MOST_NODES], [0; 7]);
+        time(|| {
+            for text in &self.sort.texts {
+                let (leaves, numbers) = (black_box(&mut leaves), black_box(&mut numbers));
+                let text = black_box(text);
+                black_box(raw::search_times(text, self.margin, turns, leaves, numbers));
+            }
+        })
+    }
+
+    fn time_second(&self) -> f64 {
+        let mut leaves = [0; MOST_NODES];
+        let terms = Terms::of(self.margin);
+        time(|| {
+            for table in &self.tables {
+                for _ in 0..self.turns {
+                    let (table, leaves) = (black_box(table), black_box(&mut leaves));
+                    let _ = black_box(second::search_watched(table, terms, leaves, |_| {}));
+                }
+            }
+        })
     }
 }
 
