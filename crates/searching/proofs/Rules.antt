@@ -169,7 +169,7 @@ told-spent t g {v} k w c e {left} {came} {r} z q F is =
 abbrev pub startAt : Kind → Ends → (N : ℕ) → Window → State
 startAt MAX v N w = record { alpha = w .alpha; beta = w .beta; low = v .bottom; high = v .bottom; play = 0; other = 0 }
 startAt MIN v N w = record { alpha = w .alpha; beta = w .beta; low = v .top; high = v .top; play = 0; other = 0 }
-startAt CHANCE v N w = sumsAt v N w
+startAt CHANCE v N w = sumsAt v N (w .alpha) (w .beta)
 
 begin-lift : (v : Ends) (N : ℕ) (k : Kind) (w : Window) → keep heightSums (frameAt v N) k (begin (frameAt v N) k (w .alpha) (w .beta) []) ≡ lift (startAt k v N w) noPlay [] false
 unfolding begin keep
@@ -633,7 +633,7 @@ module _ {t : Slices} {g : Rule} {v : Ends} {k : Kind} {w : Window} {c₀ e left
 abbrev pub windowFrom : ℕ → State → Window
 windowFrom N s = record { alpha = heightSums .over N (s .alpha); beta = heightSums .over N (s .beta) }
 
-window-back : (v : Ends) (N : ℕ) (w : Window) {s : State} → 0 < N → s ≡ sumsAt v N w → windowFrom N s ≡ w
+window-back : (v : Ends) (N : ℕ) (w : Window) {s : State} → 0 < N → s ≡ sumsAt v N (w .alpha) (w .beta) → windowFrom N s ≡ w
 window-back v N w p q = ap (windowFrom N) q ∙ λ i. record { alpha = mul-div-right (w .alpha) p i; beta = mul-div-right (w .beta) p i }
 
 module _ {t : Slices} {g : Rule} {v : Ends} {w : Window} {c e left room : ℕ} (R : ReadyChildren t g v CHANCE w c e left room) {N : ℕ}
@@ -651,14 +651,14 @@ module _ {t : Slices} {g : Rule} {v : Ends} {w : Window} {c e left room : ℕ} (
 
 -- before the first child, in the state s
 pub chance-begins : {t : Slices} {g : Rule} {v : Ends} {w : Window} {c e left : ℕ} {came : List ℕ} (R : ReadyChildren t g v CHANCE w c e left (length came)) → (left ≡ 0 → ⊥)
-    → {N : ℕ} {s : State} → N ≡ weighAt (t .stops) (t .weights) 1024 c e → s ≡ sumsAt v N w → Going t g v CHANCE (windowFrom N s) c e left came s c left came
+    → {N : ℕ} {s : State} → N ≡ weighAt (t .stops) (t .weights) 1024 c e → s ≡ sumsAt v N (w .alpha) (w .beta) → Going t g v CHANCE (windowFrom N s) c e left came s c left came
 chance-begins {t} {g} {v} {w} {c} {e} {left} {came} R more {N} {s} sum-is q =
     subst₂ (λ (y : Window) (z : State). Going t g v CHANCE y c e left came z c left came) (sym (window-back v N w (ready-paid R sum-is) q))
-    (ap (λ (n : ℕ). sumsAt v n w) (grained-weigh (g .grain) (R .nodes) ∙ sym (ready-total R sum-is)) ∙ sym q) (going-start CHANCE w R more)
+    (ap (λ (n : ℕ). sumsAt v n (w .alpha) (w .beta)) (grained-weigh (g .grain) (R .nodes) ∙ sym (ready-total R sum-is)) ∙ sym q) (going-start CHANCE w R more)
 
 -- where it is left with the state s′: the two sums are divided, and that is what is told
 pub chance-tells : {t : Slices} {g : Rule} {v : Ends} {c₀ e left₀ m N : ℕ} {came₀ : List ℕ} {c x : ℕ} {r : Found} {s₀ s′ : State} {now : List ℕ}
-    (U : Turn t g v CHANCE (windowFrom N s₀) c₀ e left₀ m came₀ c x r s′ now) (w : Window) {out : Found} → N ≡ weighAt (t .stops) (t .weights) 1024 c₀ e → s₀ ≡ sumsAt v N w
+    (U : Turn t g v CHANCE (windowFrom N s₀) c₀ e left₀ m came₀ c x r s′ now) (w : Window) {out : Found} → N ≡ weighAt (t .stops) (t .weights) 1024 c₀ e → s₀ ≡ sumsAt v N (w .alpha) (w .beta)
     → out ≡ leftIn N s′ (r .left) (r .spent)
     → Told t g v CHANCE (windowFrom N s₀) c₀ e left₀ (outOf (frameOf g v (U .going .all)) CHANCE (s′ .low) (s′ .high) (s′ .play) (r .left) (r .spent)) came₀ now
     → Told t g v CHANCE w c₀ e left₀ out came₀ now

@@ -180,7 +180,7 @@ fn chance_over(
     }
     let total = runs::sum_weights(kind, stop, weight, c, end);
     let margin = steps::chance_margin(g, total);
-    let mut t = steps::chance_start(v, total, w);
+    let mut t = steps::chance_start(v, total, w.alpha, w.beta);
     let mut i = c;
     let mut n = left;
     loop {

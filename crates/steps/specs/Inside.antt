@@ -26,11 +26,11 @@ frameAt v total = record { bottom = v .bottom; top = v .top; total = total }
 abbrev pub lift : State → Play ℕ → List ℕ → Bool → alg.State ℕ
 lift s p l x = record { alpha = s .alpha; beta = s .beta; lo = s .low; hi = s .high; play = p; read = l; spent = x }
 
--- before a C's first child, in the window w: the total times α, β, low and high
-abbrev pub sumsAt : Ends → (total : ℕ) → Window → State
-sumsAt v total w =
+-- before a C's first child: the total times α, β, low and high
+abbrev pub sumsAt : Ends → (total α β : ℕ) → State
+sumsAt v total α β =
     let kept : ℕ → ℕ = heightSums .times total in
-    record { alpha = kept (w .alpha); beta = kept (w .beta); low = kept (v .bottom); high = kept (v .top); play = 0; other = 0 }
+    record { alpha = kept α; beta = kept β; low = kept (v .bottom); high = kept (v .top); play = 0; other = 0 }
 
 -- the window of a child of weight w
 abbrev pub windowFor : Frame ℕ → Kind → (w : ℕ) → State → Window

@@ -147,13 +147,14 @@ pub fn chance_margin(g: Rule, total: u64) -> u64
     times(total, g.margin)
 }
 
-// Before a C's first child, in the window w: the total times each number of lines 3 to 10.
-pub fn chance_start(v: Ends, total: u64, w: Window) -> State
-    requires { ⌜ OkEnds v × (total ≤ 64) × (w .alpha ≤ limit) × (w .beta ≤ limit) ⌝ }
-    ensures { λ r. ⌜ r ≡ sumsAt v total w ⌝ }
+// Before a C's first child, in the window from alpha to beta: the total times each number of lines 3 to 10. With the window as a struct, M and N would write
+// one for each child.
+pub fn chance_start(v: Ends, total: u64, alpha: u64, beta: u64) -> State
+    requires { ⌜ OkEnds v × (total ≤ 64) × (alpha ≤ limit) × (beta ≤ limit) ⌝ }
+    ensures { λ r. ⌜ r ≡ sumsAt v total alpha beta ⌝ }
 {
-    let a = times(total, w.alpha);
-    let b = times(total, w.beta);
+    let a = times(total, alpha);
+    let b = times(total, beta);
     let l = times(total, v.bottom);
     let h = times(total, v.top);
     State {
