@@ -260,10 +260,11 @@ impl Scale {
         self.greatest.min(quotient + self.least)
     }
 
-    /// What a value that is taken for T times it amounts to, counted from the least and
-    /// rounded down.
-    fn divided(&self, value: i64) -> i64 {
-        self.least + floor(value - self.least, self.total)
+    /// A child's part, weight in T, of so many grains; it is a whole number.
+    fn part(&self, weight: i64, grains: i64) -> i64 {
+        let product = weight * grains;
+        debug_assert_eq!(product % self.total, 0, "T leaves a remainder");
+        product / self.total
     }
 }
 
@@ -324,7 +325,8 @@ impl<W: FnMut(Step)> Search<'_, W> {
             Kind::Leaf => self.leaf(node),
             Kind::Max => self.max(node, window()),
             Kind::Min => self.min(node, window()),
-            Kind::Chance => self.chance(node, window()),
+            Kind::Chance if self.sums == Sums::Right => self.chance(node, window()),
+            Kind::Chance => self.faulty_chance(node, window()),
         };
         if self.nodes[node].parent == Some(0) {
             let entered = Entered { node, bounds };
@@ -399,50 +401,21 @@ impl<W: FnMut(Step)> Search<'_, W> {
         let stop = self.nodes[node].stop;
         let mut bounds = self.ends();
         let mut child = node + 1;
-        match self.sums {
-            Sums::BareAlpha => window.alpha = scale.divided(window.alpha),
-            Sums::BareBeta => window.beta = scale.divided(window.beta),
-            _ => (),
-        }
-        let cut = loop {
+        loop {
             let weight = self.nodes[child].weight;
             let weight = weight.expect("a child of a C has a weight");
-            let margin = self.margin;
-            if self.sums == Sums::MarginBelow {
-                // The greatest margin is past every span, so a greater one cuts no more.
-                self.margin = (margin * scale.total).min(GREATEST_MARGIN);
-            }
             let found = self.enter(child, || Window {
                 alpha: scale.alpha_below(weight, window.alpha, bounds.high),
                 beta: scale.beta_below(weight, window.beta, bounds.low),
             });
-            self.margin = margin;
-            bounds.low += self.part(weight, found.low - scale.least);
-            bounds.high -= self.part(weight, scale.greatest - found.high);
+            bounds.low += scale.part(weight, found.low - scale.least);
+            bounds.high -= scale.part(weight, scale.greatest - found.high);
             window.narrow(bounds);
             child = self.nodes[child].stop;
-            if child == stop {
-                break false;
+            if child == stop || self.cuts(node, window) {
+                return bounds;
             }
-            if self.cuts(node, window) {
-                break true;
-            }
-        };
-        if self.sums == Sums::DividedAgain || self.sums == Sums::DividedAgainAtCut && cut {
-            bounds.low = scale.divided(bounds.low);
-            bounds.high = scale.divided(bounds.high);
         }
-        bounds
-    }
-
-    /// A child's part, weight in T, of so many grains. It is a whole number, but where
-    /// the child is itself divided once too often.
-    fn part(&self, weight: i64, grains: i64) -> i64 {
-        let (product, total) = (weight * grains, self.scale.total);
-        let whole = product % total == 0;
-        let may_leave = [Sums::DividedAgain, Sums::DividedAgainAtCut].contains(&self.sums);
-        debug_assert!(whole || may_leave, "T leaves a remainder");
-        product / total
     }
 
     /// The bounds of a node of which nothing is known.
@@ -456,13 +429,70 @@ impl<W: FnMut(Step)> Search<'_, W> {
     /// Line 24, for a child that is not the last.
     fn cuts(&mut self, node: usize, window: Window) -> bool {
         (self.watch)(Step::Test(node, window));
-        let Window { alpha, beta } = window;
-        match (self.sums, self.nodes[node].kind) {
-            (Sums::BareMargin, Kind::Chance) => {
-                let total = self.scale.total;
-                total * beta <= total * alpha + self.margin
-            }
-            _ => beta <= alpha + self.margin,
+        window.beta <= window.alpha + self.margin
+    }
+}
+
+// ---------------------------------------------------------------------------
+// A C with a fault of `Sums`
+// ---------------------------------------------------------------------------
+
+impl Scale {
+    /// What a value that is taken for T times it amounts to, counted from the least and
+    /// rounded down.
+    fn divided(&self, value: i64) -> i64 {
+        self.least + floor(value - self.least, self.total)
+    }
+}
+
+impl<W: FnMut(Step)> Search<'_, W> {
+    /// As `chance`, but for the fault. It stands apart, so that the right way is not
+    /// slowed by the wrong ones.
+    fn faulty_chance(&mut self, node: usize, mut window: Window) -> Bounds {
+        let (scale, margin) = (self.scale, self.margin);
+        let stop = self.nodes[node].stop;
+        let mut bounds = self.ends();
+        let mut child = node + 1;
+        match self.sums {
+            Sums::BareAlpha => window.alpha = scale.divided(window.alpha),
+            Sums::BareBeta => window.beta = scale.divided(window.beta),
+            _ => (),
         }
+        // The greatest margin is past every span, so a greater one cuts no more.
+        let below = match self.sums {
+            Sums::MarginBelow => (margin * scale.total).min(GREATEST_MARGIN),
+            _ => margin,
+        };
+        let cut = loop {
+            let weight = self.nodes[child].weight;
+            let weight = weight.expect("a child of a C has a weight");
+            self.margin = below;
+            let found = self.enter(child, || Window {
+                alpha: scale.alpha_below(weight, window.alpha, bounds.high),
+                beta: scale.beta_below(weight, window.beta, bounds.low),
+            });
+            self.margin = margin;
+            // A child that is itself divided once too often may leave a remainder.
+            bounds.low += weight * (found.low - scale.least) / scale.total;
+            bounds.high -= weight * (scale.greatest - found.high) / scale.total;
+            window.narrow(bounds);
+            child = self.nodes[child].stop;
+            if child == stop {
+                break false;
+            }
+            let cuts = self.cuts(node, window);
+            let Window { alpha, beta } = window;
+            if match self.sums {
+                Sums::BareMargin => scale.total * beta <= scale.total * alpha + margin,
+                _ => cuts,
+            } {
+                break true;
+            }
+        };
+        if self.sums == Sums::DividedAgain || self.sums == Sums::DividedAgainAtCut && cut {
+            bounds.low = scale.divided(bounds.low);
+            bounds.high = scale.divided(bounds.high);
+        }
+        bounds
     }
 }
