@@ -10,3 +10,4 @@ pub mod Marks
 pub mod Worked
 pub mod Budget
 pub mod Safer
+pub mod Sums

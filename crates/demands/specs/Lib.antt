@@ -7,3 +7,4 @@ pub mod Level
 pub mod Marks
 pub mod Budget
 pub mod Safer
+pub mod Sums
