@@ -6,7 +6,7 @@ use native.Mathlib.Omega.{arith}
 use Rattle.field.proofs.Small.{choose}
 use Rattle.table.specs.Tree.{Kind, MAX, MIN, CHANCE, Forest, end, leaf, inner, weigh}
 use Rattle.search.specs.Search.{Frame, Seen, State, Rules, begin, finish, cut, point, metSpent, met, lower, upper, update, stop}
-use Rattle.search.specs.Sums.{keptMargin, keep, leave, scanSums}
+use Rattle.search.specs.Sums.{scaled, keep, leave, scanSums}
 use Rattle.search.specs.Inside.{natural, naturalSums, heightSums}
 use Rattle.search.proofs.Steps.{sumsUnder, sumsAfter}
 use Rattle.search.proofs.Heights.{Paid, Sound, Within}
@@ -23,7 +23,7 @@ Ranked e CHANCE W s = (e .total * e .bottom ≤ s .lo) × (s .lo + W * (e .top -
 
 -- its window, on its scale
 abbrev pub Small : ℕ → Frame ℕ → Kind → State ℕ → Type 0
-Small S e k s = (s .alpha ≤ keptMargin e k S) × (s .beta ≤ keptMargin e k S)
+Small S e k s = (s .alpha ≤ scaled e k S) × (s .beta ≤ scaled e k S)
 
 -- ---- before the first child
 
@@ -35,7 +35,7 @@ ranked-begin e CHANCE f a b l q =
     (le-refl _, rw (q .weighed) (omega (arith, mul-sub (e .total) (e .top) (e .bottom), mul-le-mul-left (e .total) (q .ends))), le-refl _)
 
 pub small-begin : (S : ℕ) (e : Frame ℕ) (k : Kind) (a b : ℕ) (l : List ℕ) → a ≤ S → b ≤ S → Small S e k (keep heightSums e k (begin e k a b l))
-unfolding keep begin keptMargin
+unfolding keep begin scaled
 small-begin S e MAX a b l x y = (x, y)
 small-begin S e MIN a b l x y = (x, y)
 small-begin S e CHANCE a b l x y = (mul-le-mul-left (e .total) x, mul-le-mul-left (e .total) y)
@@ -55,7 +55,7 @@ ranked-update e CHANCE n w W s r b i =
 
 pub small-update : (S : ℕ) (e : Frame ℕ) (k : Kind) (n w W : ℕ) (s : State ℕ) (r : Seen ℕ) → e .top ≤ S → Between e r → Ranked e k (w + W) s → Small S e k s
     → Small S e k (update naturalSums e k n w s r)
-unfolding update keptMargin
+unfolding update scaled
 small-update S e MAX n w W s r t b i x =
     (omega (arith, x .0, i .1, i .2, b .1, b .2), le-trans (min-le-left _ _) (x .1))
 small-update S e MIN n w W s r t b i x = (omega (arith, x .0, i .0, i .1, i .2), le-trans (min-le-left _ _) (x .1))
@@ -96,7 +96,7 @@ module _ (R : Rules ℕ) where
 
   between-after : (e : Frame ℕ) (k : Kind) (rest : Forest ℕ) (t : State ℕ) → Paid e k → Ranked e k (weigh rest) t → Between e (scanSums heightSums natural R e k rest t)
       → Between e (sumsAfter heightSums natural R e k rest t)
-  between-after e k rest t q i b = choose (Between e) (stop natural (keptMargin e k (R .margin)) rest t) (λ _. between-cut e k (weigh rest) t q i) (λ _. b)
+  between-after e k rest t q i b = choose (Between e) (stop natural (scaled e k (R .margin)) rest t) (λ _. between-cut e k (weigh rest) t q i) (λ _. b)
 
   between-scan : (e : Frame ℕ) (k : Kind) (f : Forest ℕ) (s : State ℕ) → Paid e k → Within (R .frame) e f → Ranked e k (weigh f) s → Between e (scanSums heightSums natural R e k f s)
   unfolding weigh scanSums

@@ -4,7 +4,7 @@ use mathlib.Core.Path.{_≡_, refl}
 use mathlib.Core.Bool.{Bool, true, false, cond}
 use Rattle.table.specs.Tree.{Kind, Forest}
 use Rattle.search.specs.Search.{Frame, Seen, State, Arith, Rules, enter, after, scan}
-use Rattle.search.specs.Sums.{Sums, enterSums, afterSums, scanSums}
+use Rattle.search.specs.Sums.{SumArith, enterSums, afterSums, scanSums}
 
 pub cond-map : {A B : Type 0} (h : A → B) (x y : A) (b : Bool) → cond b (h x) (h y) ≡ h (cond b x y)
 cond-map h x y true = refl
@@ -37,7 +37,7 @@ module _ {A : Type 0} (O : Arith A) (R : Rules A) where
   seenAfter e k rest t = after O R e k rest t (scan O R e k rest t)
 
 -- the same with running sums
-module _ {A : Type 0} (P : Sums A) (O : Arith A) (R : Rules A) where
+module _ {A : Type 0} (P : SumArith A) (O : Arith A) (R : Rules A) where
   abbrev pub sumsUnder : Frame A → Kind → (n w : ℕ) → Kind → Forest A → State A → Seen A
   sumsUnder e k n w c under s = scanSums P O R (R .frame n under) c under (enterSums P O e k w (R .frame n under) c s)
 

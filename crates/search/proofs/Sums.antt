@@ -7,13 +7,13 @@ use mathlib.Core.List.{[]}
 use Rattle.table.specs.Tree.{Kind, MAX, MIN, CHANCE, Forest, end, leaf, inner, isEnd}
 use Rattle.search.specs.Search.{Frame, Play, noPlay, child, Seen, State, Arith, Rules, begin, finish, cut, point, met, lower, upper, prefer, update, stop, enter, scan, search, searchRoot}
 use Rattle.search.specs.Exact.{AtChance, EachTaken, EachTakenRoot}
-use Rattle.search.specs.Sums.{Sums, onSums, keptMargin, kept, divided, keep, leave, enterSums, scanSums, searchSums, rootSums, AreSums, EachBefore, EachBeforeRoot}
+use Rattle.search.specs.Sums.{SumArith, onSums, scaled, kept, divided, keep, leave, enterSums, scanSums, searchSums, rootSums, AreSums, EachBefore, EachBeforeRoot}
 use Rattle.search.proofs.Steps.{cond-else, seenUnder, seenAfter, sumsAfter}
 use Rattle.search.proofs.Heights.{Paid, PaidUnder}
 
 -- What sums need of an arithmetic: T times keeps order, a sum of T times x divided by T is x, and lines 9, 10, 20 and 21 are the same on the two scales;
 -- 20 and 21 where Q holds of the child, which is that their quotients leave no remainder.
-pub record SumLaws {A : Type 0} (O : Arith A) (P : Sums A) (Q : Frame A → ℕ → Seen A → Type 0) : Type 0 where
+pub record SumLaws {A : Type 0} (O : Arith A) (P : SumArith A) (Q : Frame A → ℕ → Seen A → Type 0) : Type 0 where
   pub high-of : (T : ℕ) (a b : A) → 0 < T → O .high-of (P .times T a) (P .times T b) ≡ P .times T (O .high-of a b)
   pub low-of : (T : ℕ) (a b : A) → 0 < T → O .low-of (P .times T a) (P .times T b) ≡ P .times T (O .low-of a b)
   pub near : (T ε : ℕ) (α β : A) → 0 < T → O .near (T * ε) (P .times T α) (P .times T β) ≡ O .near ε α β
@@ -23,7 +23,7 @@ pub record SumLaws {A : Type 0} (O : Arith A) (P : Sums A) (Q : Frame A → ℕ 
   pub gain : (e : Frame A) (w : ℕ) (L : A) (r : Seen A) → Q e w r → P .gain e w (P .times (e .total) L) (r .low) ≡ P .times (e .total) (O .gain e w L (r .low))
   pub loss : (e : Frame A) (w : ℕ) (U : A) (r : Seen A) → Q e w r → P .loss e w (P .times (e .total) U) (r .high) ≡ P .times (e .total) (O .loss e w U (r .high))
 
-module _ {A : Type 0} (O : Arith A) (P : Sums A) (Q : Frame A → ℕ → Seen A → Type 0) (L : SumLaws O P Q) (R : Rules A) where
+module _ {A : Type 0} (O : Arith A) (P : SumArith A) (Q : Frame A → ℕ → Seen A → Type 0) (L : SumLaws O P Q) (R : Rules A) where
   -- ---- the steps of a line on its scale
 
   keep-lower : (e : Frame A) (k : Kind) (w : ℕ) (s : State A) → lower (onSums O P) e k w (keep P e k s) ≡ lower O e k w s
@@ -58,8 +58,8 @@ module _ {A : Type 0} (O : Arith A) (P : Sums A) (Q : Frame A → ℕ → Seen A
   keep-cut e MIN s q = refl
   keep-cut e CHANCE s q = λ i. record { low = keep-divided e CHANCE (s .lo) q i; high = keep-divided e CHANCE (s .hi) q i; play = s .play; read = s .read; spent = s .spent }
 
-  keep-stop : (e : Frame A) (k : Kind) (rest : Forest A) (s : State A) → Paid e k → stop O (keptMargin e k (R .margin)) rest (keep P e k s) ≡ stop O (R .margin) rest s
-  unfolding stop keptMargin keep
+  keep-stop : (e : Frame A) (k : Kind) (rest : Forest A) (s : State A) → Paid e k → stop O (scaled e k (R .margin)) rest (keep P e k s) ≡ stop O (R .margin) rest s
+  unfolding stop scaled keep
   keep-stop e MAX rest s q = refl
   keep-stop e MIN rest s q = refl
   keep-stop e CHANCE rest s q = ap (λ (b : Bool). not (isEnd rest) && b) (L .near (e .total) (R .margin) (s .alpha) (s .beta) q)
@@ -89,7 +89,7 @@ module _ {A : Type 0} (O : Arith A) (P : Sums A) (Q : Frame A → ℕ → Seen A
       let b = ap (O .low-of (P .times T (s .beta))) h ∙ L .low-of T (s .beta) (O .loss e w (s .hi) (r .high)) q in
       λ i. record { alpha = a i; beta = b i; lo = l i; hi = h i; play = noPlay; read = r .read; spent = r .spent }
 
-  are-sums : (e : Frame A) (k : Kind) (s : State A) → AreSums P O R e k (keep P e k s) s
+  are-sums : (e : Frame A) (k : Kind) (s : State A) → AreSums P e k (keep P e k s) s
   unfolding keep
   are-sums e MAX s = tt
   are-sums e MIN s = tt

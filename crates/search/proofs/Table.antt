@@ -1,5 +1,5 @@
--- The search of an accepted table is the search over heights, from the lowest end up; no more leaves are read than there are, and its play is a
--- node of the table. Document 01, 'The search'. Assumes nothing.
+-- The search of an accepted table is the search over heights, from the lowest end up; no more leaves are read than there are, its play is a node of the
+-- table, and its divisions by T leave no remainder. Document 01, 'The search' and 'Grains'. Assumes nothing.
 use Prim.Native.Nat.{ℕ, _+_, _-_, _*_, _^_, _≤_, _<_}
 use mathlib.Core.Path.{_≡_, refl, sym, ap, _∙_}
 use mathlib.Core.Bool.{Bool, false}

@@ -4,31 +4,46 @@ use mathlib.Core.Path.{_≡_, refl}
 use mathlib.Core.List.{[], _∷_}
 use lib.IntN.{ℤ, pos}
 use Rattle.numbers.specs.Integers.{maxZ, minZ, floorZ}
-use Rattle.table.specs.Tree.{CHANCE}
-use Rattle.search.specs.Search.{Frame, State, begin, cut, point, update}
+use Rattle.table.specs.Tree.{CHANCE, Forest, end, leaf}
+use Rattle.search.specs.Search.{Frame, State, Rules, unlimited, begin, finish, cut, point, update, stop}
 use Rattle.search.specs.Whole.{whole, gainZ, lossZ}
-use Rattle.search.specs.Sums.{onSums, keep, leave, sumsZ}
+use Rattle.search.specs.Sums.{onSums, scaled, keep, leave, searchSums, scanSums, sumsZ}
 
--- The C of document 01's table B: T is 4, the ends are 0 and 32 grains. It is searched in the window from 20, the worth of the play before it, to 32.
+-- A root C of three leaves: T is 4, the ends are 0 and 32 grains; the leaves weigh 1, 2 and 1 and are worth 24, 8 and 32 grains.
 abbrev chance : Frame ℤ
 chance = record { bottom = pos 0; top = pos 32; total = 4 }
 
-abbrev entered : State ℤ
-entered = begin chance CHANCE (pos 20) (pos 32) (1 ∷ [])
+abbrev children : Forest ℤ
+children = leaf 1 1 (pos 24) (leaf 2 2 (pos 8) (leaf 3 1 (pos 32) end))
 
--- its first child, node 3, weighs 3 and is worth 8 grains
-abbrev dividing : State ℤ
-dividing = update whole chance CHANCE 3 3 entered (point 3 (pos 8) (1 ∷ []))
+abbrev first : State ℤ
+first = begin chance CHANCE (pos 0) (pos 32) []
 
-abbrev summing : State ℤ
-summing = update (onSums whole sumsZ) chance CHANCE 3 3 (keep sumsZ chance CHANCE entered) (point 3 (pos 8) (1 ∷ []))
+-- Algorithm 1 before its second and its third child
+abbrev dividing2 : State ℤ
+dividing2 = update whole chance CHANCE 1 1 first (point 1 (pos 24) [])
 
--- before its second child Algorithm 1's low is 6 and its high 14, and the sums are 24 and 56
-pub sums-in-b : (dividing .lo ≡ pos 6) × (dividing .hi ≡ pos 14) × (summing .lo ≡ pos 24) × (summing .hi ≡ pos 56)
+abbrev dividing3 : State ℤ
+dividing3 = update whole chance CHANCE 2 2 dividing2 (point 2 (pos 8) (1 ∷ []))
+
+-- and with sums
+abbrev summing2 : State ℤ
+summing2 = update (onSums whole sumsZ) chance CHANCE 1 1 (keep sumsZ chance CHANCE first) (point 1 (pos 24) [])
+
+abbrev summing3 : State ℤ
+summing3 = update (onSums whole sumsZ) chance CHANCE 2 2 summing2 (point 2 (pos 8) (1 ∷ []))
+
+-- low and high are 6 and 30, then 10 and 18; the sums are 24 and 120, then 40 and 72
+pub sums-of-three : (dividing2 .lo ≡ pos 6) × (dividing2 .hi ≡ pos 30) × (summing2 .lo ≡ pos 24) × (summing2 .hi ≡ pos 120)
+    × (dividing3 .lo ≡ pos 10) × (dividing3 .hi ≡ pos 18) × (summing3 .lo ≡ pos 40) × (summing3 .hi ≡ pos 72)
 unfolding begin point update keep gainZ lossZ floorZ
-sums-in-b = (refl, refl, refl, refl)
+sums-of-three = (refl, refl, refl, refl, refl, refl, refl, refl)
 
--- the window from 20 to 14 is cut there at any margin, and the sums are divided: 6 and 14
-pub left-in-b : (leave sumsZ chance CHANCE (cut chance CHANCE summing) .low ≡ pos 6) × (leave sumsZ chance CHANCE (cut chance CHANCE summing) .high ≡ pos 14)
-unfolding begin point update keep gainZ lossZ floorZ leave cut maxZ minZ
-left-in-b = (refl, refl)
+abbrev rulesAt : (margin : ℕ) → Rules ℤ
+rulesAt margin = record { frame = λ n under. chance; margin = margin; full = unlimited }
+
+-- after the third both sums are 72, and are divided: 18 and 18; a margin of 8 cuts before it, at 40 and 72, so 10 and 18
+pub left-by-three : (searchSums sumsZ whole (rulesAt 7) chance CHANCE children .low ≡ pos 18) × (searchSums sumsZ whole (rulesAt 7) chance CHANCE children .high ≡ pos 18)
+    × (searchSums sumsZ whole (rulesAt 8) chance CHANCE children .low ≡ pos 10) × (searchSums sumsZ whole (rulesAt 8) chance CHANCE children .high ≡ pos 18)
+unfolding searchSums scanSums begin point update finish cut keep leave scaled stop gainZ lossZ floorZ maxZ minZ
+left-by-three = (refl, refl, refl, refl)

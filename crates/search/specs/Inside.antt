@@ -8,7 +8,7 @@ use Rattle.table.specs.Table.{Table, grain}
 use Rattle.table.specs.Inside.{heightTree}
 use Rattle.table.specs.Accepted.{span}
 use Rattle.search.specs.Search.{Arith, Rules, Seen, framed, safer, searchRoot}
-use Rattle.search.specs.Sums.{Sums, onSums, rootSums, EachBeforeRoot}
+use Rattle.search.specs.Sums.{SumArith, onSums, rootSums, EachBeforeRoot}
 
 -- x divided by w, rounded up
 unfoldable pub ceil : (x w : ℕ) → ℕ
@@ -27,7 +27,7 @@ natural = record {
 }
 
 -- Item 4: T times a height, a sum divided by T, and the four lines on sums
-abbrev pub heightSums : Sums ℕ
+abbrev pub heightSums : SumArith ℕ
 heightSums = record {
   times = λ T x. T * x;
   over = λ T x. x / T;
@@ -53,10 +53,10 @@ heightRules bottom top ε full = record { frame = λ (n : ℕ) (f : Forest ℕ).
 abbrev pub heightSearched : Table → (ε : ℕ) (full : List ℕ → Bool) → Seen ℕ
 heightSearched t ε full = searchRoot natural (heightRules 0 (span (t .head) * grain t) ε full) (grained (grain t) (heightTree t))
 
--- the same with running sums: what the code does
+-- the same with running sums: what the code computes
 abbrev pub heightSummed : Table → (ε : ℕ) (full : List ℕ → Bool) → Seen ℕ
 heightSummed t ε full = rootSums heightSums natural (heightRules 0 (span (t .head) * grain t) ε full) (grained (grain t) (heightTree t))
 
--- what the code keeps before each child
+-- before each child the sums that the code keeps are T times low and high over heights, so above the lowest end
 abbrev pub HeightSumsBefore : Table → (ε : ℕ) (full : List ℕ → Bool) → Type 0
 HeightSumsBefore t ε full = EachBeforeRoot heightSums natural (heightRules 0 (span (t .head) * grain t) ε full) (grained (grain t) (heightTree t))

@@ -13,7 +13,7 @@ use Rattle.search.specs.Whole.{whole, inGrains, rules}
 
 -- What a C that keeps sums computes with: T times x, and a sum divided by T; `down` and `up` are lines 9 and 10 from T × α and T × U, and T × β and
 -- T × L; `gain` and `loss` are lines 20 and 21 from T × L and L(c), and T × U and U(c), to T × L and T × U.
-pub record Sums (A : Type 0) : Type 0 where
+pub record SumArith (A : Type 0) : Type 0 where
   pub times : (T : ℕ) (x : A) → A
   pub over : (T : ℕ) (x : A) → A
   pub down : (e : Frame A) (w : ℕ) (α U : A) → A
@@ -23,7 +23,7 @@ pub record Sums (A : Type 0) : Type 0 where
 
 module _ {A : Type 0} where
   -- the same arithmetic, on sums
-  abbrev pub onSums : Arith A → Sums A → Arith A
+  abbrev pub onSums : Arith A → SumArith A → Arith A
   onSums O P =
       record {
         high-of = O .high-of;
@@ -36,13 +36,13 @@ module _ {A : Type 0} where
         beats = O .beats;
       }
 
-  -- the margin on a line's scale
-  unfoldable pub keptMargin : (e : Frame A) (k : Kind) (ε : ℕ) → ℕ
-  keptMargin e MAX ε = ε
-  keptMargin e MIN ε = ε
-  keptMargin e CHANCE ε = e .total * ε
+  -- so many grains, as the margin, on a line's scale
+  unfoldable pub scaled : (e : Frame A) (k : Kind) (x : ℕ) → ℕ
+  scaled e MAX x = x
+  scaled e MIN x = x
+  scaled e CHANCE x = e .total * x
 
-  module _ (P : Sums A) where
+  module _ (P : SumArith A) where
     -- a number on a line's scale: "keep T times its low and high as running sums"
     unfoldable pub kept : (e : Frame A) (k : Kind) (x : A) → A
     kept e MAX x = x
@@ -66,15 +66,21 @@ module _ {A : Type 0} where
     unfolding divided
     leave e k r = record { low = divided e k (r .low); high = divided e k (r .high); play = r .play; read = r .read; spent = r .spent }
 
+    -- "the sums are T times Algorithm 1's low and high": of u, where the search with sums stands at a node, and s, where Algorithm 1 does
+    abbrev pub AreSums : (e : Frame A) (k : Kind) (u s : State A) → Type 0
+    AreSums e MAX u s = Unit {0}
+    AreSums e MIN u s = Unit {0}
+    AreSums e CHANCE u s = (u .lo ≡ P .times (e .total) (s .lo)) × (u .hi ≡ P .times (e .total) (s .hi))
+
     module _ (O : Arith A) where
       -- lines 3 to 10 for a child of weight w, whose frame is d and whose kind is c
       abbrev pub enterSums : (e : Frame A) (k : Kind) (w : ℕ) (d : Frame A) (c : Kind) (s : State A) → State A
       enterSums e k w d c s = keep d c (enter (onSums O P) e k w d c s)
 
       module _ (R : Rules A) where
-        -- line 24 after a child, as Search.antt has it: the return of a line that is cut leaves it; a margin not multiplied would cut a C too late
+        -- line 24 after a child, as Search.antt has it, with the margin on the line's scale; a line that is cut is left
         abbrev pub afterSums : (e : Frame A) (k : Kind) (rest : Forest A) (t : State A) (later : Seen A) → Seen A
-        afterSums e k rest t later = cond (stop O (keptMargin e k (R .margin)) rest t) (leave e k (cut e k t)) later
+        afterSums e k rest t later = cond (stop O (scaled e k (R .margin)) rest t) (leave e k (cut e k t)) later
 
         -- lines 11 to 27 for the children that are left, as Search.antt has them
         unfoldable pub scanSums : (e : Frame A) (k : Kind) (f : Forest A) (s : State A) → Seen A
@@ -87,7 +93,7 @@ module _ {A : Type 0} where
             let t : State A = update (onSums O P) e k n w s (met R e (s .read) (scanSums d c under (enterSums e k w d c s))) in
             afterSums e k rest t (scanSums e k rest t)
 
-        -- the search of the first node
+        -- line 6, and the search of the first node, as Search.antt has them
         unfoldable pub searchSums : (e : Frame A) (k : Kind) (f : Forest A) → Seen A
         searchSums e k f = met R e [] (scanSums e k f (keep e k (begin e k (e .bottom) (e .top) [])))
 
@@ -98,13 +104,8 @@ module _ {A : Type 0} where
 
         -- ---- "before each child the sums are T times Algorithm 1's low and high there"
 
-        -- u is where the search with sums stands before a child of a node, s where Algorithm 1 does
-        abbrev pub AreSums : (e : Frame A) (k : Kind) (u s : State A) → Type 0
-        AreSums e MAX u s = Unit {0}
-        AreSums e MIN u s = Unit {0}
-        AreSums e CHANCE u s = (u .lo ≡ P .times (e .total) (s .lo)) × (u .hi ≡ P .times (e .total) (s .hi))
-
-        -- of every child that Algorithm 1 comes to: the walk of `scan`, which goes under no node met unread, and past no cut
+        -- of every child that Algorithm 1 comes to: the walk of `scan`, which goes under no node met unread, and past no cut; u and s are where the two
+        -- searches stand before the first of these children
         abbrev pub EachBefore : (e : Frame A) (k : Kind) (f : Forest A) (u s : State A) → Type 0
         EachBefore e k end u s = Unit {0}
         EachBefore e k (leaf n w v rest) u s =
@@ -138,7 +139,7 @@ downSum e w α U = maxZ (e .bottom) (floorZ (α -ℤ U) w +ℤ e .top)
 unfoldable pub upSum : (e : Frame ℤ) (w : ℕ) (β L : ℤ) → ℤ
 upSum e w β L = minZ (e .top) (ceilZ (β -ℤ L) w +ℤ e .bottom)
 
-abbrev pub sumsZ : Sums ℤ
+abbrev pub sumsZ : SumArith ℤ
 sumsZ = record {
   times = λ T x. pos T *ℤ x;
   over = λ T x. floorZ x T;

@@ -14,7 +14,7 @@ use Rattle.table.specs.Tree.{Kind, MAX, MIN, CHANCE, Forest, end, leaf, inner, 
 use Rattle.table.proofs.Nodes.{restOf, numberOf, weightOf}
 use Rattle.search.specs.Search as alg
 use Rattle.search.specs.Search.{Frame, Play, noPlay, child, Seen, Arith, Rules, limited, begin, finish, cut, point, metSpent, met, lower, upper, below, safer, prefer, update, stop, framed, nodeOf}
-use Rattle.search.specs.Sums.{Sums, onSums, keptMargin, keep, leave, scanSums}
+use Rattle.search.specs.Sums.{SumArith, onSums, scaled, keep, leave, scanSums}
 use Rattle.search.specs.Inside.{natural, naturalSums, heightSums, grained}
 use Rattle.search.proofs.Steps.{cond-map, sumsUnder, sumsAfter}
 use Rattle.search.proofs.Below.{below-le, below-ge}
@@ -63,7 +63,7 @@ module _ {A : Type 0} where
     upper-ahead e MIN w s l = refl
     upper-ahead e CHANCE w s l = refl
 
-  module _ (P : Sums A) where
+  module _ (P : SumArith A) where
     begin-ahead : (e : Frame A) (k : Kind) (a b : A) (l m : List ℕ) → keep P e k (begin e k a b (l ++ m)) ≡ aheadS l (keep P e k (begin e k a b m))
     unfolding begin keep
     begin-ahead e k a b l m = refl
@@ -88,7 +88,7 @@ module _ {A : Type 0} where
           → scanSums P O R e k rest (aheadS l t) ≡ ahead l (scanSums P O R′ e k rest t) → sumsAfter P O R e k rest (aheadS l t) ≡ ahead l (sumsAfter P O R′ e k rest t)
       unfolding cut stop leave
       after-ahead e k rest t x =
-          let b : Bool = stop O (keptMargin e k ε) rest t in
+          let b : Bool = stop O (scaled e k ε) rest t in
           let c : Seen A = leave P e k (cut e k t) in
           ap (λ (y : Seen A). cond b (ahead l c) y) x ∙ cond-map (ahead l) c (scanSums P O R′ e k rest t) b
 

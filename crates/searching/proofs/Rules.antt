@@ -16,7 +16,7 @@ use Rattle.runs.specs.Inside.{weighAt}
 use Rattle.runs.proofs.Scan.{spans-weigh}
 use Rattle.search.specs.Search as alg
 use Rattle.search.specs.Search.{Frame, Play, noPlay, Seen, framed, begin, finish, cut, point, metSpent, lower, upper, prefer, runLow, runHigh, update, stop}
-use Rattle.search.specs.Sums.{keptMargin, divided, keep, leave, scanSums}
+use Rattle.search.specs.Sums.{scaled, divided, keep, leave, scanSums}
 use Rattle.search.specs.Inside.{natural, naturalSums, heightSums, grained}
 use Rattle.search.proofs.Steps.{cond-past, sumsAfter}
 use Rattle.search.proofs.Grains.{grained-weigh}
@@ -26,7 +26,7 @@ use Rattle.steps.specs.declared.Ends.{Ends}
 use Rattle.steps.specs.declared.State.{State}
 use Rattle.steps.specs.declared.Window.{Window}
 use Rattle.steps.specs.declared.Found.{Found}
-use Rattle.steps.specs.Inside.{frameAt, lift, sumsAt, windowFor, after, stops, rulesOf, putFrom, Gives, leftIn, metSpentIn, leafSeen, limit, sumLimit, OkEnds, OkSums}
+use Rattle.steps.specs.Inside.{frameAt, lift, sumsAt, windowFor, after, stops, rulesOf, putFrom, Gives, leftIn, metSpentIn, leafSeen, limit, OkEnds, OkSums}
 use Rattle.searching.specs.Inside.{seenIn, OkRule, Light, Fit, ReadyChildren, Told}
 use Rattle.searching.proofs.Bridge.{ahead, nodeSeen, update-lift, scan-step, Plays, plays-number, plays-after}
 use Rattle.searching.proofs.Fits.{grained-split, fit-rest, fit-weight, fit-sound, node-between}
@@ -265,17 +265,21 @@ chance-weight {t} {g} {v} I =
     let u = fit-weight g v CHANCE (I .nodes) (st .some) (I .fit) refl in
     (omega (arith, st .weight, u), omega (arith, st .weight, weigh-split (I .nodes), I .part), I .light refl)
 
--- the numbers of a C's line are those of at most 64 bounds
-times-small : (N x : ℕ) → N ≤ 64 → x ≤ limit → N * x ≤ sumLimit
-times-small N x p q = mul-le-mul {n₂ = 64} {m₂ = limit} p q
+-- a number on a line's scale is at most 64 times as large
+kept-small : (f : Frame ℕ) (k : Kind) (x B : ℕ) → (isChance k ≡ true → f .total ≤ 64) → x ≤ B → scaled f k x ≤ 64 * B
+unfolding scaled
+kept-small f MAX x B l h = omega arith
+kept-small f MIN x B l h = omega arith
+kept-small f CHANCE x B l h = mul-le-mul (l refl) h
 
 pub chance-small : {t : Slices} {g : Rule} {v : Ends} {w : Window} {c₀ e left₀ : ℕ} {came₀ : List ℕ} {s : State} {c left : ℕ} {came : List ℕ}
     (I : Going t g v CHANCE w c₀ e left₀ came₀ s c left came) → OkSums s
-unfolding keptMargin
+unfolding scaled
 chance-small {g = g} {v = v} I =
-    let light : weigh (grained (g .grain) (I .all)) ≤ 64 = omega (arith, grained-weigh (g .grain) (I .all), I .light refl) in
-    let far = times-small (weigh (grained (g .grain) (I .all))) limit light (omega arith) in
-    let top = times-small (weigh (grained (g .grain) (I .all))) (v .top) light (I .ends .top) in
+    let f : Frame ℕ = frameOf g v (I .all) in
+    let light : isChance CHANCE ≡ true → f .total ≤ 64 = λ h. omega (arith, grained-weigh (g .grain) (I .all), I .light h) in
+    let far = kept-small f CHANCE limit limit light (omega arith) in
+    let top = kept-small f CHANCE (v .top) limit light (I .ends .top) in
     record {
       alpha = le-trans (I .small .0) far;
       beta = le-trans (I .small .1) far;
@@ -290,8 +294,8 @@ chance-total {t} {c₀ = c₀} {e = e} I q = q ∙ spans-weigh t 1024 c₀ e (I 
 
 -- the margin m on its scale
 pub chance-margin-is : {t : Slices} {g : Rule} {v : Ends} {w : Window} {c₀ e left₀ : ℕ} {came₀ : List ℕ} {s : State} {c left : ℕ} {came : List ℕ}
-    (I : Going t g v CHANCE w c₀ e left₀ came₀ s c left came) {N m : ℕ} → m ≡ N * g .margin → N ≡ weigh (I .all) → m ≡ keptMargin (frameOf g v (I .all)) CHANCE (g .margin)
-unfolding keptMargin
+    (I : Going t g v CHANCE w c₀ e left₀ came₀ s c left came) {N m : ℕ} → m ≡ N * g .margin → N ≡ weigh (I .all) → m ≡ scaled (frameOf g v (I .all)) CHANCE (g .margin)
+unfolding scaled
 chance-margin-is {g = g} I p q = p ∙ ap (λ (n : ℕ). n * g .margin) (q ∙ sym (grained-weigh (g .grain) (I .all)))
 
 pub window-small : (v : Ends) (w : ℕ) (s : State) → OkEnds v → (windowFor (frameAt v 0) CHANCE w s .alpha ≤ limit) × (windowFor (frameAt v 0) CHANCE w s .beta ≤ limit)
@@ -411,14 +415,14 @@ module _ (g : Rule) (v : Ends) (left : ℕ) (f : Frame ℕ) (k : Kind) (s : Stat
   left-none (leaf n w h rest) q = absurd (true-ne-false (sym q))
   left-none (inner n w j under rest) q = absurd (true-ne-false (sym q))
 
-  left-cut : (F : Forest ℕ) → isEnd F ≡ false → stops (keptMargin f k (g .margin)) s ≡ true
+  left-cut : (F : Forest ℕ) → isEnd F ≡ false → stops (scaled f k (g .margin)) s ≡ true
       → seenLeft F ≡ leftWith (runLow f k (s .low)) (runHigh f k (s .high))
   unfolding grained stop cut
   left-cut end q h = absurd (true-ne-false q)
   left-cut (leaf n w x rest) q h = rw h refl
   left-cut (inner n w j under rest) q h = rw h refl
 
-  left-more : (F : Forest ℕ) → isEnd F ≡ false → stops (keptMargin f k (g .margin)) s ≡ false
+  left-more : (F : Forest ℕ) → isEnd F ≡ false → stops (scaled f k (g .margin)) s ≡ false
       → seenLeft F ≡ scanSums heightSums natural (rulesOf g v left) f k (grained (g .grain) F) (lift s p l x)
   unfolding grained stop
   left-more end q h = absurd (true-ne-false q)
@@ -435,7 +439,7 @@ pub record Turn (t : Slices) (g : Rule) (v : Ends) (k : Kind) (w : Window) (c₀
   pub stop : x ≡ stopOf t c
   pub told : ChildTold going r now
   pub state : s′ ≡ after (frameOf g v (going .all)) k c (getD (t .weights) c 0) s (r .low) (r .high)
-  pub margin : m ≡ keptMargin (frameOf g v (going .all)) k (g .margin)
+  pub margin : m ≡ scaled (frameOf g v (going .all)) k (g .margin)
 
 module _ {t : Slices} {g : Rule} {v : Ends} {k : Kind} {w : Window} {c₀ e left₀ : ℕ} {came₀ : List ℕ} {s : State} {c left : ℕ} {came : List ℕ}
     (I : Going t g v k w c₀ e left₀ came₀ s c left came) {r : Found} {now : List ℕ} (told : ChildTold I r now) where
@@ -522,13 +526,6 @@ module _ {t : Slices} {g : Rule} {v : Ends} {k : Kind} {w : Window} {c₀ e left
         subst (λ (z : State). Plays frame k z played) state-next
         (plays-after frame k (numberOf F) (weightOf F) s (I .play) (ahead (I .read) own) (omega (arith, going-step I .number, I .later, I .past)) (own-between .0) (own-between .2) (I .plays))
 
--- a number on a line's scale is at most 64 times as large
-kept-small : (f : Frame ℕ) (k : Kind) (x B : ℕ) → (isChance k ≡ true → f .total ≤ 64) → x ≤ B → keptMargin f k x ≤ 64 * B
-unfolding keptMargin
-kept-small f MAX x B l h = omega arith
-kept-small f MIN x B l h = omega arith
-kept-small f CHANCE x B l h = mul-le-mul (l refl) h
-
 module _ {t : Slices} {g : Rule} {v : Ends} {k : Kind} {w : Window} {c₀ e left₀ m : ℕ} {came₀ : List ℕ} {c x : ℕ} {r : Found} {s′ : State} {now : List ℕ}
     (U : Turn t g v k w c₀ e left₀ m came₀ c x r s′ now) where
   pub turn-same : length now ≡ length came₀
@@ -583,7 +580,7 @@ module _ {t : Slices} {g : Rule} {v : Ends} {k : Kind} {w : Window} {c₀ e left
   some-left ne = spans-more t (stopOf t c) e (restOf (U .going .nodes)) (going-step (U .going) .rest) (λ h. ne (U .stop ∙ h))
 
   -- y is what `stopped` answered
-  stopped-is : {y z : Bool} → y ≡ stops m s′ → y ≡ z → stops (keptMargin (frameOf g v (U .going .all)) k (g .margin)) s′ ≡ z
+  stopped-is : {y z : Bool} → y ≡ stops m s′ → y ≡ z → stops (scaled (frameOf g v (U .going .all)) k (g .margin)) s′ ≡ z
   stopped-is p q = ap (λ (n : ℕ). stops n s′) (sym (U .margin)) ∙ sym p ∙ q
 
   pub turn-cut : (x ≡ e → ⊥) → {y : Bool} → y ≡ stops m s′ → y ≡ true

@@ -157,8 +157,8 @@ fn min_over(
     }
 }
 
-// The same for the children of a C. Their weights are added up once, here; low, high and the window are kept times that total, and divided by it where the
-// C is left. A leaf needs no window.
+// The same for the children of a C. Their weights are added up once, here; the window, low and high are kept times that total, and low and high divided by
+// it where the C is left. A leaf needs no window.
 fn chance_over(
     kind: &[u8],
     stop: &[u16],

@@ -18,7 +18,7 @@ use Rattle.steps.specs.declared.Found.{Found}
 
 -- ---- the code's numbers as Algorithm 1's
 
--- the ends of a node, and its total; an M or N needs none
+-- the ends of a node, and its total; no step of the code needs one, as a C's is in its sums
 abbrev pub frameAt : Ends → (total : ℕ) → Frame ℕ
 frameAt v total = record { bottom = v .bottom; top = v .top; total = total }
 

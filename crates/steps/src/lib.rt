@@ -1,5 +1,5 @@
 // One step of the bounded search: the window of a child, the state after it, a leaf read, and a node met when no read is left. Lines are those of
-// Algorithm 1 of document 000, numbers are in grains above the lowest end.
+// Algorithm 1 of document 000, numbers are in grains above the lowest end, and in a C's state its total times that.
 ghost use mathlib.Core.Path.{_≡_};
 ghost use mathlib.Core.Bool.{_||_, cond};
 ghost use Prim.Native.Nat.{_+_, _*_, _/_, _<_, _≤_};
@@ -131,7 +131,7 @@ pub fn min_after(v: Ends, i: usize, s: State, low: u64, high: u64) -> State
     }
 }
 
-// Times a C's total: a number of its sums' scale.
+// x on the scale of a C's sums.
 fn times(total: u64, x: u64) -> u64
     requires { ⌜ (total ≤ 64) × (x ≤ 40000000000000) ⌝ }
     ensures { λ r. ⌜ r ≡ total * x ⌝ }
@@ -147,8 +147,8 @@ pub fn chance_margin(g: Rule, total: u64) -> u64
     times(total, g.margin)
 }
 
-// Before a C's first child, in the window from alpha to beta: the total times each number of lines 3 to 10. With the window as a struct, M and N would write
-// one for each child.
+// Before a C's first child, in the window from alpha to beta: the total times each number of lines 3 to 10. Two numbers and no struct: else the compiled
+// M and N store a window for each child (docs/SPEED.md).
 pub fn chance_start(v: Ends, total: u64, alpha: u64, beta: u64) -> State
     requires { ⌜ OkEnds v × (total ≤ 64) × (alpha ≤ limit) × (beta ≤ limit) ⌝ }
     ensures { λ r. ⌜ r ≡ sumsAt v total alpha beta ⌝ }
@@ -199,7 +199,7 @@ pub fn chance_after(v: Ends, s: State, w: u64, low: u64, high: u64) -> State
 }
 
 // A sum divided by the total.
-fn part(sum: u64, total: u64) -> u64
+fn divided(sum: u64, total: u64) -> u64
     requires { ⌜ 0 < total ⌝ }
     ensures { λ r. ⌜ r ≡ sum / total ⌝ }
 {
@@ -211,8 +211,8 @@ pub fn chance_left(total: u64, s: State, left: usize, spent: bool) -> Found
     requires { ⌜ 0 < total ⌝ }
     ensures { λ r. ⌜ r ≡ leftIn total s left spent ⌝ }
 {
-    let l = part(s.low, total);
-    let h = part(s.high, total);
+    let l = divided(s.low, total);
+    let h = divided(s.high, total);
     Found {
         low: l,
         high: h,

@@ -33,7 +33,7 @@ fn searches(
     }
 }
 
-// The same from the text. A table that is refused is not searched, and none is at a margin that is.
+// The same from the text. A table that is refused is not searched, nor is any at a refused margin.
 fn again(text: &[u8], margin: i64, times: u64) {
     let mut kind = [0u8; 1024];
     let mut stop = [0u16; 1024];

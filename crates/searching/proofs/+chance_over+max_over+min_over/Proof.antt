@@ -14,7 +14,7 @@ use Rattle.table.specs.Tree.{MAX, MIN, CHANCE, weigh}
 use Rattle.table.specs.Inside.{slices}
 use Rattle.runs.proofs.sum_weights.Reads as sum-weights-reads
 use Rattle.search.specs.Search.{runLow, runHigh}
-use Rattle.search.specs.Sums.{keptMargin, divided}
+use Rattle.search.specs.Sums.{scaled, divided}
 use Rattle.steps.specs.declared.State.{State}
 use Rattle.steps.specs.declared.Window.{Window}
 use Rattle.steps.specs.Inside.{limit}
@@ -374,7 +374,7 @@ max-over-child : (t : ℕ) (c : max-over-lts.After-at8 (max-over-claims t) (max-
     → let a = c .before .before .before .before .before .before .before .before .before .args in
     let l = c .before .before .loop in
     Child (slices (a .kind .now) (a .stop .now) (a .weight .now) (a .height .now)) (a .g) (a .v) (a .c) (a .end) (l .i) (c .before .node-at .result) (l .n) (length (l .leaves)) (windowOf (l .t))
-unfolding keptMargin
+unfolding scaled
 max-over-child t c =
     let l = c .before .before .loop in
     let x = c .before .node-at in
@@ -435,7 +435,7 @@ max-over-turn : (t : ℕ) (c : max-over-lts.After-max-after (max-over-claims t) 
     → let a = c .before .before .before .before .before .before .before .before .before .before .before .args in
     Turn (slices (a .kind .now) (a .stop .now) (a .weight .now) (a .height .now)) (a .g) (a .v) MAX (a .w) (a .c) (a .end) (a .left) (a .g .margin) (a .leaves .now)
     (c .before .before .before .before .loop .i) (c .before .before .before .node-at .result) (c .before .if2 .r) (c .max-after .result) (c .before .if2 .leaves)
-unfolding keptMargin
+unfolding scaled
 max-over-turn t c =
     let l = c .before .before .before .before .loop in
     let r = c .before .if2 .r in
@@ -526,7 +526,7 @@ min-over-child : (t : ℕ) (c : min-over-lts.After-at8 (min-over-claims t) (min-
     → let a = c .before .before .before .before .before .before .before .before .before .args in
     let l = c .before .before .loop in
     Child (slices (a .kind .now) (a .stop .now) (a .weight .now) (a .height .now)) (a .g) (a .v) (a .c) (a .end) (l .i) (c .before .node-at .result) (l .n) (length (l .leaves)) (windowOf (l .t))
-unfolding keptMargin
+unfolding scaled
 min-over-child t c =
     let l = c .before .before .loop in
     let x = c .before .node-at in
@@ -587,7 +587,7 @@ min-over-turn : (t : ℕ) (c : min-over-lts.After-min-after (min-over-claims t) 
     → let a = c .before .before .before .before .before .before .before .before .before .before .before .args in
     Turn (slices (a .kind .now) (a .stop .now) (a .weight .now) (a .height .now)) (a .g) (a .v) MIN (a .w) (a .c) (a .end) (a .left) (a .g .margin) (a .leaves .now)
     (c .before .before .before .before .loop .i) (c .before .before .before .node-at .result) (c .before .if2 .r) (c .min-after .result) (c .before .if2 .leaves)
-unfolding keptMargin
+unfolding scaled
 min-over-turn t c =
     let l = c .before .before .before .before .loop in
     let r = c .before .if2 .r in
