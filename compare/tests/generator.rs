@@ -14,7 +14,7 @@ use compare::texts::{self, bench, level, matches, ties, windows};
 type Setting = (&'static str, fn(&mut Random) -> Knobs);
 
 /// Every setting whose tables are valid, and some with knobs turned besides.
-const SETTINGS: [Setting; 19] = [
+const SETTINGS: [Setting; 21] = [
     ("any", Knobs::any),
     ("plain", Knobs::plain),
     ("close", Knobs::close),

@@ -63,7 +63,7 @@ fn random_tables() {
             comparison.tables.count(&sort, here);
         }
     }
-    // About half of what the usual seed gives, or less, here and below.
+    // About half of what the usual seed gives, or less, here and below, for each fault.
     comparison.demand_tests(2_500);
     comparison.demand_faults(3_000, 500);
     comparison.tables.demand(300);
@@ -78,6 +78,7 @@ fn random_tables() {
         let count = comparison.plain.tables.of(sort);
         assert!(count >= least, "{sort} came only {count} times");
     }
+    // Of any fault: so many tables are not there for nothing.
     say(&format!("{telling} of {cases} tables tell a faulty engine"));
     assert!(telling >= 20_000, "only {telling} tables");
 }

@@ -3,8 +3,8 @@
 
 use compare::engine;
 use compare::hold::span;
-use compare::hold::tally::say;
-use compare::random::{seed, Random};
+use compare::hold::tally::{Tally, OF_TABLES};
+use compare::random::Random;
 use compare::second::{self, GREATEST_MARGIN};
 use compare::texts;
 use margin_engine::raw;
@@ -15,37 +15,34 @@ const NUMBER: i64 = -0x5a5a_5a5a;
 
 #[test]
 fn answers_as_the_search_does() {
-    let (mut accepted, mut refused) = (0, 0);
-    for number in 0..4_000 {
-        let mut random = Random::of_case(seed(), number);
+    let mut tally = Tally::new("searching many times");
+    for number in 0..24_000 {
+        let mut random = Random::of_case(tally.seed, number);
         let text = texts::case(&mut random).text;
         let (leaves, span) = match second::read(&text) {
             Ok(table) => (table.leaves, span(&table)),
             Err(_) => (3, 9),
         };
-        // A list one entry short, an exact one and a long one.
+        // A list one entry short, an exact one and a long one; numbers of any length.
         let room = (leaves + random.below(3)).saturating_sub(1);
+        let length = random.below(9);
         let margin = match random.below(8) {
             0 => random.pick(&[-1, GREATEST_MARGIN + 1, i64::MIN, i64::MAX]),
             _ => random.between(0, span),
         };
         let mut list = vec![LEAF; room];
-        let mut numbers = [NUMBER; 8];
+        let mut numbers = vec![NUMBER; length];
         let returned = engine::search(&text, margin, &mut list, &mut numbers);
         for times in [0, 1, 5] {
-            let mut again = vec![LEAF; room];
-            let mut numbers_again = [NUMBER; 8];
-            let returned_again =
-                raw::search_times(&text, margin, times, &mut again, &mut numbers_again);
-            assert_eq!(returned_again, returned, "case {number}, {times} times");
-            assert_eq!(numbers_again, numbers, "case {number}, {times} times");
-            assert_eq!(again, list, "case {number}, {times} times");
+            let mut again = (vec![LEAF; room], vec![NUMBER; length]);
+            let code = raw::search_times(&text, margin, times, &mut again.0, &mut again.1);
+            assert_eq!(code, returned, "{}, {times} times", tally.place());
+            assert_eq!(again.0, list, "{}, {times} times", tally.place());
+            assert_eq!(again.1, numbers, "{}, {times} times", tally.place());
         }
-        match returned {
-            0 => accepted += 1,
-            _ => refused += 1,
-        }
+        tally.add(&[returned]);
     }
-    say(&format!("accepted {accepted}, refused {refused}"));
-    assert!(accepted >= 500 && refused >= 500, "too much alike");
+    tally.report();
+    tally.demand_refusals(&OF_TABLES);
+    tally.demand_refusals(&[11, 12]);
 }

@@ -129,8 +129,8 @@ impl Ties {
 /// How a C takes its numbers: as they are, as Algorithm 1 does. An engine may keep T times
 /// them instead (document 02, Item 4) and must answer alike. The other ways are what it
 /// answers if it takes a number for T times that number, or the other way round; they are
-/// there for tests to count where one would have changed an answer. Their numbers count
-/// from the lowest end, which is natural where a sum begins with 0 and none is below it.
+/// there for tests to count where one would have changed an answer. The faults count from
+/// the lowest end, as an engine does whose sums begin with 0.
 #[derive(Clone, Copy, Debug, PartialEq, Eq)]
 pub enum Sums {
     Right,
