@@ -9,7 +9,7 @@ use lib.IntN.{ℤ, pos, _+ℤ_, _-ℤ_, _*ℤ_}
 use Rattle.numbers.specs.Integers.{floorZ}
 use Rattle.numbers.proofs.Signs.{Is, is-unique, is-eq, is-minus, is-mul, is-floor}
 use Rattle.table.specs.Tree.{Kind, MAX, MIN, CHANCE, Forest, end, leaf, inner, isEnd, weigh}
-use Rattle.search.specs.Search.{Frame, Seen, State, Rules, begin, point, met, lower, upper, update, stop}
+use Rattle.search.specs.Search.{Frame, Seen, State, Rules, begin, point, met, lower, upper, enter, update, stop}
 use Rattle.search.specs.Whole.{whole}
 use Rattle.search.specs.Inside.{natural}
 use Rattle.search.proofs.Steps.{seenUnder}
@@ -94,39 +94,63 @@ module _ (p q : ℕ) where
       share-whole (e .total) w (e .top) (r .high) (ez .top) (x .high) (j .4) (h .3) (f .top) (o .high) (a .1),
     )
 
-    -- what is left to do once a child has given r, over the integers x
-    rest-shift : (e : Frame ℕ) (ez : Frame ℤ) (k : Kind) (n w : ℕ) (rest : Forest ℕ) (s : State ℕ) (z : State ℤ) (r : Seen ℕ) (x : Seen ℤ) (v : ℕ)
-        → RelFrame p q e ez → e .top ≤ S → Holding e v r → Safe S e k (w + weigh rest) s → RelState p q s z → RelSeen p q r x
-        → (stop natural (R .margin) rest (update natural e k n w s r) ≡ false → EachTaken natural R WholeHeights e k rest (update natural e k n w s r))
-        → ((t : State ℕ) (y : State ℤ) → Safe S e k (weigh rest) t → Open k (isEnd rest) t → RelState p q t y → EachTaken natural R WholeHeights e k rest t
-        → EachTaken whole Z WholeQuotients ez k (shift Lo rest) y)
-        → stop whole (R .margin) (shift Lo rest) (update whole ez k n w z x) ≡ false
-        → EachTaken whole Z WholeQuotients ez k (shift Lo rest) (update whole ez k n w z x)
-    rest-shift e ez k n w rest s z r x v f t h j i o a ih c =
-        let lh = le-trans (h .1) (h .2) in
-        let j2 = safe-update S e k n w (weigh rest) s r t (h .0) lh (h .3) j in
-        let i2 = rel-update p q S e ez k n w (weigh rest) s z r x f (h .0) lh (h .3) j i o in
-        let d : stop natural (R .margin) rest (update natural e k n w s r) ≡ false =
-        sym (rel-stop p q Lo isLo S R frameZ frames flat rest (update natural e k n w s r) (update whole ez k n w z x) i2) ∙ c in
-        ih (update natural e k n w s r) (update whole ez k n w z x) j2 (open-update (R .margin) e k n w s r rest (rw d tt)) i2 (a d)
+    -- ---- the two searches side by side
 
-    taken-shift : (e : Frame ℕ) (ez : Frame ℤ) (k : Kind) (f : Forest ℕ) (s : State ℕ) (z : State ℤ) → RelFrame p q e ez → e .bottom ≤ e .top
-        → e .top ≤ S
-        → Within (R .frame) e f → Positive k f → Safe S e k (weigh f) s → Open k (isEnd f) s → RelState p q s z
-        → EachTaken natural R WholeHeights e k f s → EachTaken whole Z WholeQuotients ez k (shift Lo f) z
-    unfolding shift weigh
-    taken-shift e ez k end s z f b t i o j r g a = tt
-    taken-shift e ez k (leaf n w h rest) s z f b t i o j r g a =
+    -- before a child of weight w they stand at s and z; what it gave is r and x, and held v
+    pub record Pair (e : Frame ℕ) (ez : Frame ℤ) (k : Kind) (n w : ℕ) (s : State ℕ) (z : State ℤ) (r : Seen ℕ) (x : Seen ℤ) : Type 0 where
+      pub frame : RelFrame p q e ez
+      pub before : RelState p q s z
+      pub seen : RelSeen p q r x
+      pub after : RelState p q (update natural e k n w s r) (update whole ez k n w z x)
+      pub worth : ℕ
+      pub held : Holding e worth r
+      pub others : ℕ
+      pub safe : Safe S e k others s
+
+    -- of every child that both come to
+    abbrev pub EachPair : (e : Frame ℕ) (ez : Frame ℤ) (k : Kind) (f : Forest ℕ) (s : State ℕ) (z : State ℤ) → Type 0
+    EachPair e ez k end s z = Unit {0}
+    EachPair e ez k (leaf n w h rest) s z =
+        let r : Seen ℕ = met R e (s .read) (point n h (s .read)) in
+        let x : Seen ℤ = met Z ez (z .read) (point n (Lo +ℤ pos h) (z .read)) in
+        Pair e ez k n w s z r x
+        × (stop natural (R .margin) rest (update natural e k n w s r) ≡ false → EachPair e ez k rest (update natural e k n w s r) (update whole ez k n w z x))
+    EachPair e ez k (inner n w c under rest) s z =
+        let d : Frame ℕ = R .frame n under in
+        let dz : Frame ℤ = frameZ n (shift Lo under) in
+        let r : Seen ℕ = met R e (s .read) (seenUnder natural R e k n w c under s) in
+        let x : Seen ℤ = met Z ez (z .read) (seenUnder whole Z ez k n w c (shift Lo under) z) in
+        Pair e ez k n w s z r x
+        × (R .full (s .read) ≡ false → EachPair d dz c under (enter natural e k w d c s) (enter whole ez k w dz c z))
+        × (stop natural (R .margin) rest (update natural e k n w s r) ≡ false → EachPair e ez k rest (update natural e k n w s r) (update whole ez k n w z x))
+
+    pair : (e : Frame ℕ) (ez : Frame ℤ) (k : Kind) (n w W : ℕ) (s : State ℕ) (z : State ℤ) (r : Seen ℕ) (x : Seen ℤ) (v : ℕ)
+        → RelFrame p q e ez → Holding e v r → Safe S e k (w + W) s → RelState p q s z → RelSeen p q r x → Pair e ez k n w s z r x
+    pair e ez k n w W s z r x v f h j i o =
+        record { frame = f; before = i; seen = o; after = rel-update p q S e ez k n w W s z r x f (h .0) (le-trans (h .1) (h .2)) (h .3) j i o; worth = v; held = h; others = w + W; safe = j }
+
+    -- what is left to do once a child has given r, over the integers x
+    pair-rest : (e : Frame ℕ) (ez : Frame ℤ) (k : Kind) (n w : ℕ) (rest : Forest ℕ) (s : State ℕ) (z : State ℤ) (r : Seen ℕ) (x : Seen ℤ) (v : ℕ)
+        → e .top ≤ S → Holding e v r → Safe S e k (w + weigh rest) s → RelState p q (update natural e k n w s r) (update whole ez k n w z x)
+        → ((t : State ℕ) (y : State ℤ) → Safe S e k (weigh rest) t → Open k (isEnd rest) t → RelState p q t y → EachPair e ez k rest t y)
+        → stop natural (R .margin) rest (update natural e k n w s r) ≡ false → EachPair e ez k rest (update natural e k n w s r) (update whole ez k n w z x)
+    pair-rest e ez k n w rest s z r x v t h j i ih d =
+        ih (update natural e k n w s r) (update whole ez k n w z x) (safe-update S e k n w (weigh rest) s r t (h .0) (le-trans (h .1) (h .2)) (h .3) j)
+        (open-update (R .margin) e k n w s r rest (rw d tt)) i
+
+    pairs : (e : Frame ℕ) (ez : Frame ℤ) (k : Kind) (f : Forest ℕ) (s : State ℕ) (z : State ℤ) → RelFrame p q e ez → e .bottom ≤ e .top → e .top ≤ S
+        → Within (R .frame) e f → Positive k f → Safe S e k (weigh f) s → Open k (isEnd f) s → RelState p q s z → EachPair e ez k f s z
+    unfolding weigh
+    pairs e ez k end s z f b t i o j r g = tt
+    pairs e ez k (leaf n w h rest) s z f b t i o j r g =
         let y : Seen ℕ = met R e (s .read) (point n h (s .read)) in
         let yz : Seen ℤ = met Z ez (z .read) (point n (Lo +ℤ pos h) (z .read)) in
         let v = hold-met R e (s .read) h (point n h (s .read)) (hold-point e n h (s .read) (i .0, i .1)) in
         let u : RelSeen p q y yz = rel-met p q Lo isLo S R frameZ frames flat e ez (s .read) (z .read) _ _ f (g .read)
-        (rel-point p q Lo isLo S R frameZ frames flat n h (s .read) (z .read) (g .read)) in (
-          at-shift e ez k w _ h s y yz f v j u (a .0),
-          rest-shift e ez k n w rest s z y yz h f t v j g u (a .1)
-              (λ x y j2 r2 g2 a2. taken-shift e ez k rest x y f b t (i .2) (o .1) j2 r2 g2 a2),
-        )
-    taken-shift e ez k (inner n w c under rest) s z f b t i o j r g a =
+        (rel-point p q Lo isLo S R frameZ frames flat n h (s .read) (z .read) (g .read)) in
+        let x = pair e ez k n w (weigh rest) s z y yz h f v j g u in
+        (x, pair-rest e ez k n w rest s z y yz h t v j (x .after) (λ x y j2 r2 g2. pairs e ez k rest x y f b t (i .2) (o .1) j2 r2 g2))
+    pairs e ez k (inner n w c under rest) s z f b t i o j r g =
         let d : Frame ℕ = R .frame n under in
         let dz : Frame ℤ = frameZ n (shift Lo under) in
         let la : ℕ = lower natural e k w s in
@@ -144,13 +168,57 @@ module _ (p q : ℕ) where
         let g2 = rel-begin p q d dz c la ub (lower whole ez k w z) (upper whole ez k w z) (s .read) (z .read) (frames n under)
         (rel-lower p q e ez k w s z (o .0) b f r g) (rel-upper p q e ez k w s z (o .0) b f r g) (g .read) in
         let u : RelSeen p q y yz = rel-met p q Lo isLo S R frameZ frames flat e ez (s .read) (z .read) _ _ f (g .read)
-        (shifted p q Lo isLo S R frameZ frames flat d dz c under s2 z2 (frames n under) (i .2 .ends) (le-trans (i .1) t) (i .3) (o .1) j2 r2 g2) in (
-          at-shift e ez k w _ _ s y yz f v j u (a .0),
-          λ m. taken-shift d dz c under s2 z2 (frames n under) (i .2 .ends) (le-trans (i .1) t) (i .3) (o .1) j2 r2 g2
-              (a .1 (ap (R .full) (sym (g .read)) ∙ m)),
-          rest-shift e ez k n w rest s z y yz _ f t v j g u (a .2)
-              (λ x y j2 r2 g2 a2. taken-shift e ez k rest x y f b t (i .4) (o .2) j2 r2 g2 a2),
+        (shifted p q Lo isLo S R frameZ frames flat d dz c under s2 z2 (frames n under) (i .2 .ends) (le-trans (i .1) t) (i .3) (o .1) j2 r2 g2) in
+        let a = pair e ez k n w (weigh rest) s z y yz _ f v j g u in (
+          a,
+          λ _. pairs d dz c under s2 z2 (frames n under) (i .2 .ends) (le-trans (i .1) t) (i .3) (o .1) j2 r2 g2,
+          pair-rest e ez k n w rest s z y yz _ t v j (a .after) (λ x y j2 r2 g2. pairs e ez k rest x y f b t (i .4) (o .2) j2 r2 g2),
         )
+
+    -- in the search of a root
+    abbrev pub EachPairRoot : Forest ℕ → Type 0
+    EachPairRoot end = Unit {0}
+    EachPairRoot (leaf n w h rest) = Unit {0}
+    EachPairRoot (inner n w k under rest) =
+        let d : Frame ℕ = R .frame n under in
+        let dz : Frame ℤ = frameZ n (shift Lo under) in
+        EachPair d dz k under (begin d k (d .bottom) (d .top) []) (begin dz k (dz .bottom) (dz .top) [])
+
+    pub pairs-root : (e : Frame ℕ) (f : Forest ℕ) → e .top ≤ S → Within (R .frame) e f → Positive MAX f → EachPairRoot f
+    pairs-root e end t i o = tt
+    pairs-root e (leaf n w h rest) t i o = tt
+    pairs-root e (inner n w k under rest) t i o =
+        let d : Frame ℕ = R .frame n under in
+        let dz : Frame ℤ = frameZ n (shift Lo under) in
+        let y : RelFrame p q d dz = frames n under in
+        let u : d .top ≤ S = le-trans (i .1) t in
+        pairs d dz k under (begin d k (d .bottom) (d .top) []) (begin dz k (dz .bottom) (dz .top) []) y (i .2 .ends) u (i .3) (o .1)
+        (safe-begin S d k under (d .bottom) (d .top) [] (i .2) u (le-trans (i .2 .ends) u) u)
+        (open-begin d k (isEnd under) (d .bottom) (d .top) [] (i .2 .ends, i .2 .ends))
+        (rel-begin p q d dz k (d .bottom) (d .top) (dz .bottom) (dz .top) [] [] y (y .bottom) (y .top) refl)
+
+    -- ---- no remainder over the integers
+
+    at-pair : (e : Frame ℕ) (ez : Frame ℤ) (k : Kind) (n w : ℕ) (s : State ℕ) (z : State ℤ) (r : Seen ℕ) (x : Seen ℤ) → Pair e ez k n w s z r x
+        → AtChance natural R WholeHeights e k w r → AtChance whole Z WholeQuotients ez k w x
+    at-pair e ez k n w s z r x a h = at-shift e ez k w (a .others) (a .worth) s r x (a .frame) (a .held) (a .safe) (a .seen) h
+
+    -- the two go on together
+    pub together : (e : Frame ℕ) (ez : Frame ℤ) (k : Kind) (n w : ℕ) (rest : Forest ℕ) (s : State ℕ) (z : State ℤ) (r : Seen ℕ) (x : Seen ℤ) → Pair e ez k n w s z r x
+        → stop whole (R .margin) (shift Lo rest) (update whole ez k n w z x) ≡ false → stop natural (R .margin) rest (update natural e k n w s r) ≡ false
+    together e ez k n w rest s z r x a c = sym (rel-stop p q Lo isLo S R frameZ frames flat rest (update natural e k n w s r) (update whole ez k n w z x) (a .after)) ∙ c
+
+    taken-pairs : (e : Frame ℕ) (ez : Frame ℤ) (k : Kind) (f : Forest ℕ) (s : State ℕ) (z : State ℤ) → EachPair e ez k f s z
+        → EachTaken natural R WholeHeights e k f s → EachTaken whole Z WholeQuotients ez k (shift Lo f) z
+    unfolding shift
+    taken-pairs e ez k end s z a h = tt
+    taken-pairs e ez k (leaf n w v rest) s z a h =
+        (at-pair e ez k n w s z _ _ (a .0) (h .0), λ c. let d = together e ez k n w rest s z _ _ (a .0) c in taken-pairs e ez k rest _ _ (a .1 d) (h .1 d))
+    taken-pairs e ez k (inner n w c under rest) s z a h = (
+      at-pair e ez k n w s z _ _ (a .0) (h .0),
+      λ m. let l = ap (R .full) (sym (a .0 .before .read)) ∙ m in taken-pairs (R .frame n under) (frameZ n (shift Lo under)) c under _ _ (a .1 l) (h .1 l),
+      λ m. let d = together e ez k n w rest s z _ _ (a .0) m in taken-pairs e ez k rest _ _ (a .2 d) (h .2 d),
+    )
 
     -- in the search of a root that is not below a C
     pub whole-root : (e : Frame ℕ) (g : ℕ) (f : Forest ℕ) → e .top ≤ S → Within (R .frame) e f → Positive MAX f → Fit (R .frame) g f
@@ -159,12 +227,4 @@ module _ (p q : ℕ) where
     whole-root e g end t i o x = tt
     whole-root e g (leaf n w h rest) t i o x = tt
     whole-root e g (inner n w k under rest) t i o x =
-        let d : Frame ℕ = R .frame n under in
-        let dz : Frame ℤ = frameZ n (shift Lo under) in
-        let y : RelFrame p q d dz = frames n under in
-        let u : d .top ≤ S = le-trans (i .1) t in
-        λ z. taken-shift d dz k under (begin d k (d .bottom) (d .top) []) (begin dz k (dz .bottom) (dz .top) []) y (i .2 .ends) u (i .3) (o .1)
-        (safe-begin S d k under (d .bottom) (d .top) [] (i .2) u (le-trans (i .2 .ends) u) u)
-        (open-begin d k (isEnd under) (d .bottom) (d .top) [] (i .2 .ends, i .2 .ends))
-        (rel-begin p q d dz k (d .bottom) (d .top) (dz .bottom) (dz .top) [] [] y (y .bottom) (y .top) refl)
-        (heights-root R e g (inner n w k under rest) i x z)
+        λ z. taken-pairs (R .frame n under) (frameZ n (shift Lo under)) k under _ _ (pairs-root e (inner n w k under rest) t i o) (heights-root R e g (inner n w k under rest) i x z)

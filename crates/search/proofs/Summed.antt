@@ -1,29 +1,31 @@
 -- Running sums in the search of an accepted table, over heights and in whole grains. Document 02, Item 4. Assumes nothing.
 use Prim.Native.Nat.{ℕ, _+_, _*_, _-_, _/_, _^_, min, max}
-use mathlib.Core.Path.{_≡_, sym, ap, _∙_}
+use mathlib.Core.Path.{_≡_, refl, sym, ap, _∙_}
 use mathlib.Core.Bool.{Bool}
 use mathlib.Core.List.{List}
-use native.Mathlib.Nat.{mul-sub, mul-div-right}
+use native.Mathlib.Nat.{mul-sub, mul-div-right, le-refl}
 use native.Mathlib.Omega.{arith}
 use lib.Dec.{leb}
 use lib.IntN.{ℤ, pos, _+ℤ_, _-ℤ_, _*ℤ_, pos-*ℤ-pos}
 use lib.Signed.{leZ}
 use Rattle.numbers.specs.Integers.{maxZ, minZ, floorZ, ceilZ}
+use Rattle.numbers.proofs.Signs.{Is, plus, minus, parts, is-unique, is-minus}
 use Rattle.line.specs.Refusal.{fine}
 use Rattle.table.specs.Tree.{Kind, MAX, MIN, CHANCE, Forest, end, leaf, inner}
 use Rattle.table.specs.Table.{Table, tree, readText, grain}
 use Rattle.table.specs.Inside.{heightTree}
 use Rattle.table.specs.Accepted.{span}
-use Rattle.search.specs.Search.{Frame, Rules}
+use Rattle.search.specs.Search.{Frame, State, Rules}
 use Rattle.search.specs.Whole.{whole, downZ, upZ, gainZ, lossZ, inGrains, rules, searchedUntil}
 use Rattle.search.specs.Exact.{EachTakenRoot, WholeQuotients}
-use Rattle.search.specs.Sums.{downSum, upSum, sumsZ, summedUntil, SumsBefore}
-use Rattle.search.specs.Inside.{natural, ceil, grained, heightSums, heightRules, heightSearched, heightSummed, HeightSumsBefore}
+use Rattle.search.specs.Sums.{AreSums, EachBefore, EachBeforeRoot, downSum, upSum, sumsZ, summedUntil, SumsBefore}
+use Rattle.search.specs.Inside.{natural, ceil, grained, heightSums, heightRules, heightSearched, heightSummed, AreAbove, EachAbove, EachAboveRoot, SumsKept}
 use Rattle.search.proofs.Heights.{Paid, PaidUnder, Within, shift}
 use Rattle.search.proofs.Times.{mul-max, mul-min, mul-test, mul-apart, times-plus, times-minus, times-order, times-max, times-min, times-over}
-use Rattle.search.proofs.Remainder.{WholeHeights, heights-root}
+use Rattle.search.proofs.Shift.{Rel, RelFrame, RelState}
+use Rattle.search.proofs.Remainder.{WholeHeights, heights-root, EachPair, EachPairRoot, pairs-root, together}
 use Rattle.search.proofs.Sums.{SumLaws, same-root, before-root}
-use Rattle.search.proofs.Table.{frames, tree-shift, tree-within, tree-fit, no-remainder}
+use Rattle.search.proofs.Table.{frames, tree-shift, tree-within, tree-positive, tree-fit, no-remainder}
 
 -- ---- what the sums need of the two arithmetics
 
@@ -72,6 +74,46 @@ module _ (Lo : ℤ) (frame : ℕ → Forest ℕ → Frame ℕ) (frameZ : ℕ →
   paid-shift (leaf n w h rest) p = paid-shift rest p
   paid-shift (inner n w k under rest) p = (paid-same k n under (p .0), paid-shift under (p .1), paid-shift rest (p .2))
 
+-- ---- the sums over heights, beside Algorithm 1 in whole grains
+
+-- T times a height is T times the integer above the lowest end
+times-above : (p q : ℕ) (Lo : ℤ) → Is Lo p q → (T h u : ℕ) (z : ℤ) → Rel p q h z → u ≡ T * h → pos u ≡ pos T *ℤ (z -ℤ Lo)
+times-above p q Lo isLo T h u z i e =
+    let a : z -ℤ Lo ≡ pos h = is-unique (z -ℤ Lo) (pos h) (p + h + q) (q + p) (is-minus z Lo (p + h) q p q i isLo) (omega arith) in
+    ap pos e ∙ sym (pos-*ℤ-pos T h) ∙ ap (λ (y : ℤ). pos T *ℤ y) (sym a)
+
+module _ (p q : ℕ) (Lo : ℤ) (isLo : Is Lo p q) (S : ℕ) (R : Rules ℕ) (frameZ : ℕ → Forest ℤ → Frame ℤ)
+    (frames : (n : ℕ) (f : Forest ℕ) → RelFrame p q (R .frame n f) (frameZ n (shift Lo f)))
+    (flat : (n : ℕ) (f : Forest ℕ) → (R .frame n f .bottom ≡ 0) × (R .frame n f .top ≡ S)) where
+  abbrev Z : Rules ℤ
+  Z = record { frame = frameZ; margin = R .margin; full = R .full }
+
+  are-above : (e : Frame ℕ) (k : Kind) (u s : State ℕ) (z : State ℤ) → RelState p q s z → AreSums heightSums e k u s → AreAbove Lo e k u z
+  are-above e MAX u s z i b = tt
+  are-above e MIN u s z i b = tt
+  are-above e CHANCE u s z i b =
+      (times-above p q Lo isLo (e .total) (s .lo) (u .lo) (z .lo) (i .lo) (b .0), times-above p q Lo isLo (e .total) (s .hi) (u .hi) (z .hi) (i .hi) (b .1))
+
+  above : (e : Frame ℕ) (ez : Frame ℤ) (k : Kind) (f : Forest ℕ) (u s : State ℕ) (z : State ℤ) → EachPair p q Lo isLo S R frameZ frames flat e ez k f s z
+      → EachBefore heightSums natural R e k f u s → EachAbove Lo R Z e ez k f (shift Lo f) u z
+  unfolding shift
+  above e ez k end u s z a b = tt
+  above e ez k (leaf n w h rest) u s z a b = (
+    are-above e k u s z (a .0 .before) (b .0),
+    λ c. let d = together p q Lo isLo S R frameZ frames flat e ez k n w rest s z _ _ (a .0) c in above e ez k rest _ _ _ (a .1 d) (b .1 d),
+  )
+  above e ez k (inner n w c under rest) u s z a b = (
+    are-above e k u s z (a .0 .before) (b .0),
+    λ m. let l = ap (R .full) (sym (a .0 .before .read)) ∙ m in above (R .frame n under) (frameZ n (shift Lo under)) c under _ _ _ (a .1 l) (b .1 l),
+    λ m. let d = together p q Lo isLo S R frameZ frames flat e ez k n w rest s z _ _ (a .0) m in above e ez k rest _ _ _ (a .2 d) (b .2 d),
+  )
+
+  above-root : (f : Forest ℕ) → EachPairRoot p q Lo isLo S R frameZ frames flat f → EachBeforeRoot heightSums natural R f → EachAboveRoot Lo R Z f (shift Lo f)
+  unfolding shift
+  above-root end a b = tt
+  above-root (leaf n w h rest) a b = tt
+  above-root (inner n w k under rest) a b = λ m. above (R .frame n under) (frameZ n (shift Lo under)) k under _ _ _ a (b m)
+
 -- ---- the search of a table at the margin ε, until the budget is spent
 
 module _ (s : List ℕ) (t : Table) (r : readText s ≡ fine t) (ε : ℕ) (full : List ℕ → Bool) where
@@ -90,12 +132,18 @@ module _ (s : List ℕ) (t : Table) (r : readText s ≡ fine t) (ε : ℕ) (full
   heights-taken : EachTakenRoot natural R WholeHeights heights
   heights-taken = heights-root R (record { bottom = 0; top = span (t .head) * grain t; total = 0 }) (t .head .total ^ 0) heights (tree-within s t r) (tree-fit s t r)
 
-  -- what the code does gives what Algorithm 1 gives over heights, and keeps T times its low and high
+  -- what the code computes is what Algorithm 1 gives over heights
   pub heights-summed : heightSummed t ε full ≡ heightSearched t ε full
   heights-summed = same-root natural heightSums WholeHeights height-laws R heights heights-paid heights-taken
 
-  pub heights-before : HeightSumsBefore t ε full
-  heights-before = before-root natural heightSums WholeHeights height-laws R heights heights-paid heights-taken
+  -- before each child the sums that the code keeps are T times Algorithm 1's low and high above the lowest end
+  pub sums-kept : SumsKept t ε full
+  sums-kept =
+      rw (tree-shift s t r)
+      (above-root (plus base) (minus base) base (parts base) (span (t .head) * grain t) R (rules t ε full .frame) (λ n f. frames s t r f) (λ n f. (refl, refl)) heights
+      (pairs-root (plus base) (minus base) base (parts base) (span (t .head) * grain t) R (rules t ε full .frame) (λ n f. frames s t r f) (λ n f. (refl, refl))
+      (record { bottom = 0; top = span (t .head) * grain t; total = 0 }) heights (le-refl _) (tree-within s t r) (tree-positive s t r))
+      (before-root natural heightSums WholeHeights height-laws R heights heights-paid heights-taken))
 
   grains-paid : PaidUnder (rules t ε full .frame) (inGrains (grain t) (tree t))
   grains-paid = rw (tree-shift s t r) (paid-shift base (R .frame) (rules t ε full .frame) (λ n f. frames s t r f .total) heights heights-paid)
