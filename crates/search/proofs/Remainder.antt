@@ -1,4 +1,4 @@
--- The divisions of lines 20 and 21 leave no remainder: over heights, and so over the integers. Assumes nothing.
+-- The divisions of lines 20 and 21 leave no remainder: over heights, and so over the integers, where both searches are walked side by side. Assumes nothing.
 use Prim.Native.Nat.{ℕ, _+_, _*_, _-_, _/_, _≤_, _<_}
 use mathlib.Core.Path.{_≡_, refl, sym, ap, _∙_}
 use mathlib.Core.Bool.{false}
