@@ -266,20 +266,21 @@ chance-weight {t} {g} {v} I =
     (omega (arith, st .weight, u), omega (arith, st .weight, weigh-split (I .nodes), I .part), I .light refl)
 
 -- a number on a line's scale is at most 64 times as large
-kept-small : (f : Frame ℕ) (k : Kind) (x B : ℕ) → (isChance k ≡ true → f .total ≤ 64) → x ≤ B → scaled f k x ≤ 64 * B
+scaled-small : (f : Frame ℕ) (k : Kind) (x B : ℕ) → (isChance k ≡ true → f .total ≤ 64) → x ≤ B → scaled f k x ≤ 64 * B
 unfolding scaled
-kept-small f MAX x B l h = omega arith
-kept-small f MIN x B l h = omega arith
-kept-small f CHANCE x B l h = mul-le-mul (l refl) h
+scaled-small f MAX x B l h = omega arith
+scaled-small f MIN x B l h = omega arith
+scaled-small f CHANCE x B l h = mul-le-mul (l refl) h
 
+-- the numbers that a C keeps fit
 pub chance-small : {t : Slices} {g : Rule} {v : Ends} {w : Window} {c₀ e left₀ : ℕ} {came₀ : List ℕ} {s : State} {c left : ℕ} {came : List ℕ}
     (I : Going t g v CHANCE w c₀ e left₀ came₀ s c left came) → OkSums s
 unfolding scaled
 chance-small {g = g} {v = v} I =
     let f : Frame ℕ = frameOf g v (I .all) in
     let light : isChance CHANCE ≡ true → f .total ≤ 64 = λ h. omega (arith, grained-weigh (g .grain) (I .all), I .light h) in
-    let far = kept-small f CHANCE limit limit light (omega arith) in
-    let top = kept-small f CHANCE (v .top) limit light (I .ends .top) in
+    let far = scaled-small f CHANCE limit limit light (omega arith) in
+    let top = scaled-small f CHANCE (v .top) limit light (I .ends .top) in
     record {
       alpha = le-trans (I .small .0) far;
       beta = le-trans (I .small .1) far;
@@ -539,7 +540,7 @@ module _ {t : Slices} {g : Rule} {v : Ends} {k : Kind} {w : Window} {c₀ e left
       let I = U .going in
       let f : Frame ℕ = frameOf g v (I .all) in
       let light : isChance k ≡ true → f .total ≤ 64 = λ h. omega (arith, grained-weigh (g .grain) (I .all), I .light h) in
-      omega (arith, small-next I (U .told) s′ (U .state) .0, kept-small f k limit limit light (omega arith), U .margin, kept-small f k (g .margin) 40000000000000 light (I .rule .margin))
+      omega (arith, small-next I (U .told) s′ (U .state) .0, scaled-small f k limit limit light (omega arith), U .margin, scaled-small f k (g .margin) 40000000000000 light (I .rule .margin))
 
   -- whatever the nodes are said to be, they are those
   told-all : (out : Found) → Gives left₀ out (seenIn g v left₀ k (U .going .all) w) came₀ now → Told t g v k w c₀ e left₀ out came₀ now
