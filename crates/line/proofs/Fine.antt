@@ -1,11 +1,11 @@
 -- What is known of a header and of a node line that was not refused. Assumes nothing.
-use Prim.Native.Nat.{ℕ, suc, _≤_, _<_}
-use mathlib.Core.Path.{_≡_, refl, sym, ap, subst}
+use Prim.Native.Nat.{ℕ, zero, suc, _≤_, _<_}
+use mathlib.Core.Path.{_≡_, refl, sym, ap, subst, _∙_}
 use mathlib.Core.Bool.{Bool, true, false, not, _||_, cond}
 use mathlib.Core.List.{List, [], _∷_}
 use native.Mathlib.Omega.{arith}
 use native.Mathlib.Nat.{le-trans}
-use borrow.Author.Tests.{eqb-true, ltb-false, not-false}
+use borrow.Author.Tests.{eqb-true, eq-eqb, ltb-false, not-false}
 use lib.ListN.{length}
 use lib.Dec.{ltb, eqb}
 use lib.IntN.{ℤ, pos, negsuc, natAbs}
@@ -18,8 +18,8 @@ use Rattle.line.specs.declared.Heading.{Heading}
 use Rattle.line.specs.declared.Entry.{Entry}
 use Rattle.line.specs.declared.Refusal.{Refusal}
 use Rattle.line.specs.Refusal.{refused, fine, Check, unless, unlessAt}
-use Rattle.line.specs.Line.{isIll, isBlank, outside, valueOf, toNat, countOf, headOf, headerChecks, headerFor, letterCode, Step, Above, wrong, path, climb, ancestors, isWrong, stepsOf, chancesOf, atChance, stepped, Placed, placed, lineChecks, placeOf, Within}
-use Rattle.line.specs.Inside.{Ranged, Weighs, Sized}
+use Rattle.line.specs.Line.{isIll, isBlank, hasNumber, outside, valueOf, toNat, countOf, badSecond, headOf, totals, among, larger, headerChecks, headerFor, letterCode, Step, Above, wrong, path, climb, ancestors, isWrong, stepsOf, chancesOf, atChance, stepped, Placed, placed, lineChecks, placeOf, Within}
+use Rattle.line.specs.Inside.{Ranged, other, Weighs, Sized}
 use Rattle.line.proofs.Signs.{true-ne-false}
 use Rattle.line.proofs.Checks.{or-left, or-right}
 
@@ -87,21 +87,84 @@ nor9 false false false false false false false true i x = absurd (true-ne-false 
 nor9 false false false false false false false false true x = absurd (true-ne-false x)
 nor9 false false false false false false false false false x = (refl, refl, refl, refl, refl, refl, refl, refl, refl)
 
+pub nor10 : (a b c d e f g h i j : Bool) → (a || b || c || d || e || f || g || h || i || j) ≡ false
+    → (a ≡ false) × (b ≡ false) × (c ≡ false) × (d ≡ false) × (e ≡ false) × (f ≡ false) × (g ≡ false) × (h ≡ false) × (i ≡ false) × (j ≡ false)
+nor10 true b c d e f g h i j x = absurd (true-ne-false x)
+nor10 false b c d e f g h i j x = let r = nor9 b c d e f g h i j x in (refl, r .0, r .1, r .2, r .3, r .4, r .5, r .6, r .7, r .8)
+
 -- ---- the header
+
+-- the second total's field, which may be blank
+second-small : (f : Field) → isIll f ≡ false → outside (pos 1) (pos 64) f ≡ false → countOf f ≤ 64
+second-small Blank i o = omega arith
+second-small Ill i o = absurd (true-ne-false i)
+second-small (Number z) i o = inside-natural 64 z (inside-field (pos 1) (pos 64) (Number z) refl refl o) .1
+
+second-apart : (f : Field) (n : ℕ) → 0 < n → isIll f ≡ false → hasNumber n f ≡ false → countOf f ≡ n → ⊥
+second-apart Blank n p i d e = omega arith
+second-apart Ill n p i d e = true-ne-false i
+second-apart (Number (pos m)) n p i d e = true-ne-false (sym (eq-eqb m n e) ∙ d)
+second-apart (Number (negsuc m)) n p i d e = omega arith
 
 pub header-ranged : (n last : ℕ) (g : Heading) (h : Head) → headerFor n last g ≡ fine h → Ranged h
 header-ranged n last g h e =
     let r = unless-fine (headerChecks n last g) (headOf g) h e in
-    let i = nor9 (not (eqb last 10)) (isIll (g .count)) (isIll (g .total)) (isIll (g .lowest)) (isIll (g .highest)) (isBlank (g .count)) (isBlank (g .total)) (isBlank (g .lowest)) (isBlank (g .highest)) (r .0 .0) in
-    let w = nor9 false false false false false (outside (pos 1) (pos 64) (g .total)) (outside (negsuc 999999) (pos 1000000) (g .lowest)) (outside (negsuc 999999) (pos 1000000) (g .highest)) (ltZ (valueOf (g .highest)) (valueOf (g .lowest))) (r .0 .1 .0) in
-    let t = inside-natural 64 (valueOf (g .total)) (inside-field (pos 1) (pos 64) (g .total) (i .6) (i .2) (w .5)) in
+    let i = nor10 (not (eqb last 10)) (isIll (g .count)) (isIll (g .second)) (isIll (g .total)) (isIll (g .lowest)) (isIll (g .highest)) (isBlank (g .count)) (isBlank (g .total)) (isBlank (g .lowest)) (isBlank (g .highest)) (r .0 .0) in
+    let b = badSecond g in
+    let w = nor9 false false false false b (outside (pos 1) (pos 64) (g .total)) (outside (negsuc 999999) (pos 1000000) (g .lowest)) (outside (negsuc 999999) (pos 1000000) (g .highest)) (ltZ (valueOf (g .highest)) (valueOf (g .lowest))) (r .0 .1 .0) in
+    let t = inside-natural 64 (valueOf (g .total)) (inside-field (pos 1) (pos 64) (g .total) (i .7) (i .3) (w .5)) in
+    let o = or-left (outside (pos 1) (pos 64) (g .second)) (hasNumber (countOf (g .total)) (g .second)) (w .4) in
+    let d = or-right (outside (pos 1) (pos 64) (g .second)) (hasNumber (countOf (g .total)) (g .second)) (w .4) in
     subst Ranged (r .1) (record {
       some = t .0;
       total = t .1;
-      lowest = inside-abs (valueOf (g .lowest)) (inside-field (negsuc 999999) (pos 1000000) (g .lowest) (i .7) (i .3) (w .6));
-      highest = inside-abs (valueOf (g .highest)) (inside-field (negsuc 999999) (pos 1000000) (g .highest) (i .8) (i .4) (w .7));
+      second = second-small (g .second) (i .2) o;
+      apart = second-apart (g .second) (countOf (g .total)) (t .0) (i .2) d;
+      lowest = inside-abs (valueOf (g .lowest)) (inside-field (negsuc 999999) (pos 1000000) (g .lowest) (i .8) (i .4) (w .6));
+      highest = inside-abs (valueOf (g .highest)) (inside-field (negsuc 999999) (pos 1000000) (g .highest) (i .9) (i .5) (w .7));
       order = w .8;
     })
+
+-- ---- the totals
+
+or-none : (a : Bool) → (a || false) ≡ a
+or-none true = refl
+or-none false = refl
+
+-- what holds of the first total, and of the second where there is one, holds of each
+pub each-total : (P : ℕ → Type 0) (h : Head) → P (h .total) → ((h .second ≡ 0 → ⊥) → P (h .second)) → (n : ℕ) → among n (totals h) ≡ true → P n
+unfolding among
+each-total P h p q n m = go (eqb n (h .total)) refl (eqb (h .second) 0) refl m
+  where
+    go : (a : Bool) → eqb n (h .total) ≡ a → (b : Bool) → eqb (h .second) 0 ≡ b → (a || among n (cond b [] (h .second ∷ []))) ≡ true → P n
+    go true x b y m = subst P (sym (eqb-true n (h .total) x)) p
+    go false x true y m = absurd (true-ne-false (sym m))
+    go false x false y m = last (eqb n (h .second)) refl m
+      where
+        last : (c : Bool) → eqb n (h .second) ≡ c → (c || false) ≡ true → P n
+        last true z m = subst P (sym (eqb-true n (h .second) z)) (q (λ e. true-ne-false (sym (eq-eqb (h .second) 0 e) ∙ y)))
+        last false z m = absurd (true-ne-false (sym m))
+
+some-second : (n : ℕ) → (n ≡ 0 → ⊥) → 0 < n
+some-second zero e = absurd (e refl)
+some-second (suc n) e = omega arith
+
+-- a sum is one of the totals where it is the first, or the other
+pub among-either : (h : Head) (n : ℕ) → among n (totals h) ≡ (eqb n (h .total) || eqb n (other h))
+unfolding among
+among-either h n = go (eqb n (h .total)) refl (eqb (h .second) 0)
+  where
+    go : (a : Bool) → eqb n (h .total) ≡ a → (b : Bool) → (a || among n (cond b [] (h .second ∷ []))) ≡ (a || eqb n (cond b (h .total) (h .second)))
+    go true x b = refl
+    go false x true = sym x
+    go false x false = or-none (eqb n (h .second))
+
+pub larger-small : (h : Head) → Ranged h → larger h ≤ 64
+larger-small h r = omega (arith, r .total, r .second)
+
+-- "T 1 to 64", whichever of the totals it is
+pub total-ranged : (h : Head) → Ranged h → (n : ℕ) → among n (totals h) ≡ true → (0 < n) × (n ≤ 64)
+total-ranged h r n m = each-total (λ (x : ℕ). (0 < x) × (x ≤ 64)) h (r .some, r .total) (λ e. (some-second (h .second) e, r .second)) n m
 
 -- ---- a node line
 
@@ -190,7 +253,7 @@ pub record Read (h : Head) (i : ℕ) (P Q : List Step) (p : Placed) : Type 0 whe
   pub chances : p .line .chances ≡ chancesOf (p .steps)
   pub few : chancesOf (p .steps) ≤ 4
   pub short : length (p .steps) ≤ 64
-  pub weight : Weighs (atChance Q) (h .total) (p .line .weight)
+  pub weight : Weighs (atChance Q) (larger h) (p .line .weight)
   pub utility : Valued (eqb (p .line .kind) 0) h (p .line .utility)
 
 code-small : (b : ℕ) → eqb (letterCode b) 4 ≡ false → letterCode b < 4
@@ -217,8 +280,8 @@ line-read h i e fifth last P p eq =
     let o = c .1 .1 .1 .1 .1 .1 .0 in
     let mw = or-left (cond (atChance Q) (isBlank (e .weight)) (not (isBlank (e .weight)))) (cond (eqb k 0) (isBlank (e .utility)) (not (isBlank (e .utility)))) m in
     let mu = or-right (cond (atChance Q) (isBlank (e .weight)) (not (isBlank (e .weight)))) (cond (eqb k 0) (isBlank (e .utility)) (not (isBlank (e .utility)))) m in
-    let ow = or-left (outside (pos 1) (pos (h .total)) (e .weight)) (outside (h .lowest) (h .highest) (e .utility)) o in
-    let ou = or-right (outside (pos 1) (pos (h .total)) (e .weight)) (outside (h .lowest) (h .highest) (e .utility)) o in
+    let ow = or-left (outside (pos 1) (pos (larger h)) (e .weight)) (outside (h .lowest) (h .highest) (e .utility)) o in
+    let ou = or-right (outside (pos 1) (pos (larger h)) (e .weight)) (outside (h .lowest) (h .highest) (e .utility)) o in
     subst (Read h i P Q) (r .1) (record {
       climbs = ancestors-path (e .parent) P Q (right-path a (c .1 .1 .1 .0));
       node = refl;
@@ -227,7 +290,7 @@ line-read h i e fifth last P p eq =
       chances = refl;
       few = ltb-false 4 (chancesOf (stepped i k Q)) (or-right (ltb 64 (length (stepped i k Q))) (ltb 4 (chancesOf (stepped i k Q))) far);
       short = ltb-false 64 (length (stepped i k Q)) (or-left (ltb 64 (length (stepped i k Q))) (ltb 4 (chancesOf (stepped i k Q))) far);
-      weight = weighs (atChance Q) (h .total) (e .weight) (w .4) mw ow;
+      weight = weighs (atChance Q) (larger h) (e .weight) (w .4) mw ow;
       utility = valued (eqb k 0) h (e .utility) (w .5) mu ou;
     })
 
@@ -240,6 +303,6 @@ pub read-sized : (h : Head) (i : ℕ) (P Q : List Step) (p : Placed) → Ranged 
 read-sized h i P Q p r f R =
     record {
       parent = climbs-small P Q (p .line .parent) f (R .climbs);
-      weight = le-trans (weighs-small (atChance Q) (h .total) (p .line .weight) (R .weight)) (r .total);
+      weight = le-trans (weighs-small (atChance Q) (larger h) (p .line .weight) (R .weight)) (larger-small h r);
       utility = valued-small (eqb (p .line .kind) 0) h (p .line .utility) r (R .utility);
     }

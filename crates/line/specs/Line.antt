@@ -1,5 +1,5 @@
--- What one line says. Document 01, 'The table on paper', with the conditions of 'Refused tables and calls'.
-use Prim.Native.Nat.{ℕ, _+_}
+-- What one line says. Document 01, 'The table on paper', with the conditions of 'Refused tables and calls'; of the header's totals document 02, Item 5.
+use Prim.Native.Nat.{ℕ, _+_, max}
 use mathlib.Core.Path.{_≡_}
 use mathlib.Core.Bool.{Bool, true, false, not, _||_, cond}
 use mathlib.Core.List.{List, [], _∷_, _++_}
@@ -58,15 +58,24 @@ countOf f = toNat (valueOf f)
 
 -- ---- the header
 
--- "columns 1-4 count of nodes, 5-8 the total T, 9-16 the lowest end, 17-24 the highest end"
+-- "columns 1-4 count of nodes, 5-8 the total T, 9-16 the lowest end, 17-24 the highest end". Item 5: "Header columns 5-6, blank so far, may hold a
+-- second total, .. different from the first, which then has columns 7-8"
 abbrev pub headingOf : List ℕ → Heading
-headingOf s = record { count = fieldOf s 0 4; total = fieldOf s 4 4; lowest = fieldOf s 8 8; highest = fieldOf s 16 8 }
+headingOf s =
+    record {
+      count = fieldOf s 0 4;
+      second = fieldOf s 4 2;
+      total = cond (isBlank (fieldOf s 4 2)) (fieldOf s 4 4) (fieldOf s 6 2);
+      lowest = fieldOf s 8 8;
+      highest = fieldOf s 16 8;
+    }
 
--- 2: "byte 25 is no newline, a field is ill-written, .. or a field blank"
+-- 2: "byte 25 is no newline, a field is ill-written, .. or a field blank", but for the second total's
 abbrev pub illHeading : ℕ → Heading → Bool
 illHeading last g =
     not (eqb last 10)
     || isIll (g .count)
+    || isIll (g .second)
     || isIll (g .total)
     || isIll (g .lowest)
     || isIll (g .highest)
@@ -75,16 +84,22 @@ illHeading last g =
     || isBlank (g .lowest)
     || isBlank (g .highest)
 
+-- "A bad second total is refused 3": it may be "1 to 64, different from the first"
+abbrev pub badSecond : Heading → Bool
+badSecond g = outside (pos 1) (pos 64) (g .second) || hasNumber (countOf (g .total)) (g .second)
+
 -- 3: "T, an end .. out of range, or lowest end above highest"
 abbrev pub wideHeading : Heading → Bool
 wideHeading g =
-    outside (pos 1) (pos 64) (g .total)
+    badSecond g
+    || outside (pos 1) (pos 64) (g .total)
     || outside (negsuc 999999) (pos 1000000) (g .lowest)
     || outside (negsuc 999999) (pos 1000000) (g .highest)
     || ltZ (valueOf (g .highest)) (valueOf (g .lowest))
 
+-- a second total of 0 stands for none
 abbrev pub headOf : Heading → Head
-headOf g = record { total = countOf (g .total); lowest = valueOf (g .lowest); highest = valueOf (g .highest) }
+headOf g = record { total = countOf (g .total); second = countOf (g .second); lowest = valueOf (g .lowest); highest = valueOf (g .highest) }
 
 -- the header of a table of n node lines, with the byte of column 25: 2, 3, 4
 abbrev pub headerChecks : ℕ → ℕ → Heading → List Check
@@ -99,6 +114,19 @@ headerFor n last g = unless (headerChecks n last g) (headOf g)
 
 abbrev pub header : ℕ → List ℕ → Verdict Head
 header n s = headerFor n (getD s 24 0) (headingOf s)
+
+-- the totals: the first, and the second where there is one
+abbrev pub totals : Head → List ℕ
+totals h = h .total ∷ cond (eqb (h .second) 0) [] (h .second ∷ [])
+
+-- "A chance line's weights sum to either total": n is one of these
+unfoldable pub among : ℕ → List ℕ → Bool
+among n [] = false
+among n (t ∷ ts) = eqb n t || among n ts
+
+-- "Weights go up to the larger total."
+abbrev pub larger : Head → ℕ
+larger h = max (h .total) (h .second)
 
 -- ---- a node line
 
@@ -175,9 +203,9 @@ abbrev pub misfilled : Bool → Bool → Entry → Bool
 misfilled underC isLeaf e =
     cond underC (isBlank (e .weight)) (not (isBlank (e .weight))) || cond isLeaf (isBlank (e .utility)) (not (isBlank (e .utility)))
 
--- 3: "weights 1 to T", "utilities within the ends"
+-- 3: "weights 1 to T", by Item 5 to the larger total; "utilities within the ends"
 abbrev pub wideEntry : Head → Entry → Bool
-wideEntry h e = outside (pos 1) (pos (h .total)) (e .weight) || outside (h .lowest) (h .highest) (e .utility)
+wideEntry h e = outside (pos 1) (pos (larger h)) (e .weight) || outside (h .lowest) (h .highest) (e .utility)
 
 -- the steps of node i, of the kind k, under the steps P
 abbrev pub stepped : ℕ → ℕ → List Step → List Step

@@ -3,7 +3,8 @@ ghost use mathlib.Core.Path.{_≡_};
 ghost use mathlib.Core.Bool.{cond};
 ghost use Prim.Native.Nat.{_<_};
 ghost use Rattle.line.specs.Refusal.{numberOf, lineOf};
-ghost use Rattle.line.specs.Line.{valueOf, toNat, letterCode};
+ghost use Rattle.line.specs.Line.{valueOf, toNat, larger, letterCode};
+ghost use Rattle.line.specs.Inside.{other};
 use field::Field;
 
 // Why a table, a call on an accepted one, a match file or a report's scale is refused. A case that has a line names it: the header is line 0, and
@@ -26,12 +27,14 @@ pub enum Refusal {
     TooMany,
     NoPosition,
     BadBudget,
+    TooManyGrains,
     BadScale,
 }
 
-// The header's fields, and what they say.
+// The header's fields, and what they say. A second total of 0 stands for none.
 pub struct Heading {
     pub count: Field,
+    pub second: Field,
     pub total: Field,
     pub lowest: Field,
     pub highest: Field,
@@ -39,6 +42,7 @@ pub struct Heading {
 
 pub struct Head {
     pub total: u64,
+    pub second: u64,
     pub lowest: i64,
     pub highest: i64,
 }
@@ -84,6 +88,7 @@ pub fn refusal_number(r: Refusal) -> u64
         Refusal::TooMany => 15,
         Refusal::NoPosition => 16,
         Refusal::BadBudget => 17,
+        Refusal::TooManyGrains => 18,
         Refusal::BadScale => 20,
     }
 }
@@ -110,6 +115,7 @@ pub fn refusal_line(r: Refusal) -> usize
         Refusal::TooMany => 0,
         Refusal::NoPosition => 0,
         Refusal::BadBudget => 0,
+        Refusal::TooManyGrains => 0,
         Refusal::BadScale => 0,
     }
 }
@@ -132,6 +138,26 @@ pub fn natural(z: i64) -> u64
         return 0;
     }
     z as u64
+}
+
+// The greatest weight that there may be.
+pub fn larger_total(h: Head) -> u64
+    ensures { λ r. ⌜ r ≡ larger h ⌝ }
+{
+    if h.total < h.second {
+        return h.second;
+    }
+    h.total
+}
+
+// The second total, or the first again where there is none.
+pub fn other_total(h: Head) -> u64
+    ensures { λ r. ⌜ r ≡ other h ⌝ }
+{
+    if h.second == 0 {
+        return h.total;
+    }
+    h.second
 }
 
 pub fn letter_code(b: u8) -> u8

@@ -4,7 +4,8 @@ ghost use mathlib.Core.Bool.{not, cond};
 ghost use mathlib.Core.List.{List};
 ghost use Prim.Native.Nat.{ℕ, _+_, _<_, _≤_};
 ghost use lib.ListN.{length};
-ghost use Rattle.line.specs.Line.{isIll, isBlank, hasNumber, outside, headingOf, illHeading, wideHeading, entryOf, letterCode, climb, ancestors, chancesOf, atChance, lineSaid, placeOf, illEntry, misfilled, wideEntry, nodeLine, header as headerOf};
+ghost use Rattle.line.specs.Line.{isIll, isBlank, hasNumber, outside, headingOf, illHeading, badSecond, wideHeading, larger, entryOf, letterCode, climb, ancestors, chancesOf, atChance, lineSaid, placeOf, illEntry, misfilled, wideEntry, nodeLine, header as headerOf};
+ghost use Rattle.field.specs.Field.{fieldOf};
 ghost use Rattle.parsing.specs.Inside.{headShown, pathOf, aboveShown, placingShown, placingOf, Upto, Roomy, Bounded};
 use field::Field;
 use line::Entry;
@@ -70,16 +71,29 @@ fn is_outside(lo: i64, hi: i64, f: Field) -> bool
     }
 }
 
+// The first total: it has columns 7-8 where a second one stands in 5-6, else 5-8.
+fn read_total(line: &[u8], second: Field) -> Field
+    requires { ⌜ length (now line) ≡ 25 ⌝ }
+    ensures { λ r. ⌜ r ≡ cond (isBlank second) (fieldOf (now (line .entry)) 4 4) (fieldOf (now (line .entry)) 6 2) ⌝ }
+{
+    if is_blank(second) {
+        return field::read(line, 4, 4);
+    }
+    field::read(line, 6, 2)
+}
+
 fn read_heading(line: &[u8]) -> Heading
     requires { ⌜ length (now line) ≡ 25 ⌝ }
     ensures { λ r. ⌜ r ≡ headingOf (now (line .entry)) ⌝ }
 {
     let count = field::read(line, 0, 4);
-    let total = field::read(line, 4, 4);
+    let second = field::read(line, 4, 2);
+    let total = read_total(line, second);
     let lowest = field::read(line, 8, 8);
     let highest = field::read(line, 16, 8);
     Heading {
         count: count,
+        second: second,
         total: total,
         lowest: lowest,
         highest: highest,
@@ -90,11 +104,13 @@ fn is_ill_heading(last: u8, g: Heading) -> bool
     ensures { λ r. ⌜ r ≡ illHeading last g ⌝ }
 {
     let count = g.count;
+    let second = g.second;
     let total = g.total;
     let lowest = g.lowest;
     let highest = g.highest;
     (last != b'\n')
         | is_ill(count)
+        | is_ill(second)
         | is_ill(total)
         | is_ill(lowest)
         | is_ill(highest)
@@ -104,13 +120,23 @@ fn is_ill_heading(last: u8, g: Heading) -> bool
         | is_blank(highest)
 }
 
+// A second total that is out of range, or the first again.
+fn is_bad_second(g: Heading) -> bool
+    ensures { λ r. ⌜ r ≡ badSecond g ⌝ }
+{
+    let second = g.second;
+    let total = g.total;
+    is_outside(1, 64, second) | is_number(line::natural(line::value(total)), second)
+}
+
 fn is_wide_heading(g: Heading) -> bool
     ensures { λ r. ⌜ r ≡ wideHeading g ⌝ }
 {
     let total = g.total;
     let lowest = g.lowest;
     let highest = g.highest;
-    is_outside(1, 64, total)
+    is_bad_second(g)
+        | is_outside(1, 64, total)
         | is_outside(-1000000, 1000000, lowest)
         | is_outside(-1000000, 1000000, highest)
         | (line::value(highest) < line::value(lowest))
@@ -166,12 +192,12 @@ fn is_misfilled(chance: bool, leaf: bool, e: Entry) -> bool
 }
 
 fn is_wide_entry(h: Head, e: Entry) -> bool
-    requires { ⌜ h .total ≤ 64 ⌝ }
+    requires { ⌜ larger h ≤ 64 ⌝ }
     ensures { λ r. ⌜ r ≡ wideEntry h e ⌝ }
 {
     let weight = e.weight;
     let utility = e.utility;
-    is_outside(1, h.total as i64, weight) | is_outside(h.lowest, h.highest, utility)
+    is_outside(1, line::larger_total(h) as i64, weight) | is_outside(h.lowest, h.highest, utility)
 }
 
 // Looks for the parent from the last step of the path upward: a step that is passed is on no later path.
@@ -266,7 +292,7 @@ fn place_below(
     chances: &[u64; 64],
     d: usize,
 ) -> Placing
-    requires { ⌜ (d ≤ 64) × (i < 1024) × (h .total ≤ 64) × Bounded (now chances) ⌝ }
+    requires { ⌜ (d ≤ 64) × (i < 1024) × (larger h ≤ 64) × Bounded (now chances) ⌝ }
     ensures shown { λ r. ⌜ ((ns : List ℕ) → placingShown ns (now (kinds .entry)) (now (chances .entry)) r ≡ placingOf h i kind e (pathOf ns (now (kinds .entry)) (now (chances .entry)) d)) ⌝ }
     ensures roomy { λ r. ⌜ Roomy r ⌝ }
 {
@@ -301,7 +327,7 @@ fn place(
     chances: &[u64; 64],
     depth: usize,
 ) -> Placing
-    requires { ⌜ (depth ≤ 64) × (i < 1024) × (h .total ≤ 64) × Bounded (now chances) ⌝ }
+    requires { ⌜ (depth ≤ 64) × (i < 1024) × (larger h ≤ 64) × Bounded (now chances) ⌝ }
     ensures shown { λ r. ⌜ placingShown (now (nodes .entry)) (now (kinds .entry)) (now (chances .entry)) r ≡ placeOf h i e fifth last (pathOf (now (nodes .entry)) (now (kinds .entry)) (now (chances .entry)) depth) ⌝ }
     ensures roomy { λ r. ⌜ Roomy r ⌝ }
 {
@@ -332,7 +358,7 @@ pub fn node_line(
     chances: &[u64; 64],
     depth: usize,
 ) -> Placing
-    requires { ⌜ (length (now line) ≡ 25) × (depth ≤ 64) × (i < 1024) × (h .total ≤ 64) × Bounded (now chances) ⌝ }
+    requires { ⌜ (length (now line) ≡ 25) × (depth ≤ 64) × (i < 1024) × (larger h ≤ 64) × Bounded (now chances) ⌝ }
     ensures shown { λ r. ⌜ placingShown (now (nodes .entry)) (now (kinds .entry)) (now (chances .entry)) r ≡ nodeLine h i (pathOf (now (nodes .entry)) (now (kinds .entry)) (now (chances .entry)) depth) (now (line .entry)) ⌝ }
     ensures roomy { λ r. ⌜ Roomy r ⌝ }
 {
@@ -365,11 +391,13 @@ pub fn header(line: &[u8], n: usize) -> HeadRead
     if !is_number(n as u64, count) {
         return HeadRead::Refused(Refusal::Misnumbered(0));
     }
+    let second = g.second;
     let total = g.total;
     let lowest = g.lowest;
     let highest = g.highest;
     HeadRead::Fine(Head {
         total: line::natural(line::value(total)),
+        second: line::natural(line::value(second)),
         lowest: line::value(lowest),
         highest: line::value(highest),
     })

@@ -59,6 +59,9 @@ enum-told-8 c = search needs
 enum-told-9 : tie.Need-enum-told-9
 enum-told-9 c = search needs
 
+enum-told-10 : tie.Need-enum-told-10
+enum-told-10 c = search needs
+
 returns : tie.Need-returns
 returns c = sym (ap lineOf (c .enum-told .given .1))
 
@@ -113,6 +116,9 @@ returns-17 c = sym (ap lineOf (c .enum-told8 .given .1))
 returns-18 : tie.Need-returns-18
 returns-18 c = sym (ap lineOf (c .enum-told9 .given .1))
 
+returns-19 : tie.Need-returns-19
+returns-19 c = sym (ap lineOf (c .enum-told10 .given .1))
+
 pub refusal-line-spec : {M : Type 1} → statement M
 refusal-line-spec =
     tie.close
@@ -135,6 +141,7 @@ refusal-line-spec =
     enum-told-7
     enum-told-8
     enum-told-9
+    enum-told-10
     returns
     returns-2
     returns-3
@@ -152,4 +159,5 @@ refusal-line-spec =
     returns-15
     returns-16
     returns-17
-    returns-18)
+    returns-18
+    returns-19)

@@ -70,23 +70,31 @@ natural-requires c κs = search needs
 value-requires-2 : tie.Need-value-requires-2
 value-requires-2 c κs = search needs
 
+natural-requires-2 : tie.Need-natural-requires-2
+natural-requires-2 c κs = search needs
+
 value-requires-3 : tie.Need-value-requires-3
 value-requires-3 c κs = search needs
 
+value-requires-4 : tie.Need-value-requires-4
+value-requires-4 c κs = search needs
+
 returns-4 : tie.Need-returns-4
 returns-4 c =
-    let hi = c .value3 in
-    let lo = c .before .value2 in
-    let t = c .before .before .before .value in
+    let hi = c .value4 in
+    let lo = c .before .value3 in
+    let s = c .before .before .before .value2 in
+    let t = c .before .before .before .before .before .value in
     let back-hi : toZ w64 (ofZ w64 (hi .result)) ≡ hi .result = search needs in
     let back-lo : toZ w64 (ofZ w64 (lo .result)) ≡ lo .result = search needs in
+    let back-s : toZ w64 (ofZ w64 (s .result)) ≡ s .result = search needs in
     let back-t : toZ w64 (ofZ w64 (t .result)) ≡ t .result = search needs in
-    let n = c .before .before .before .before .before in
+    let n = c .before .before .before .before .before .before .before in
     let w = n .before .before in
     let i = w .before .before in
-    rw (back-hi, back-lo, c .before .before .natural .ensures, back-t, hi .ensures, lo .ensures, t .ensures)
+    rw (back-hi, back-lo, c .before .before .natural2 .ensures, c .before .before .before .before .natural .ensures, back-s, back-t, hi .ensures, lo .ensures, s .ensures, t .ensures)
     (head-fine (lines-of i) (last-of i) (heads i) (sym (i .is-ill-heading .ensures) ∙ w .before .if1 .left) (sym (w .is-wide-heading .ensures) ∙ n .before .if2 .left)
-    (sym (n .is-number .ensures) ∙ not-false (n .is-number .result) (c .before .before .before .before .if3 .left))
+    (sym (n .is-number .ensures) ∙ not-false (n .is-number .result) (c .before .before .before .before .before .before .if3 .left))
     ∙ same i)
 
 pub header-spec : {M : Type 1} → statement M
@@ -104,5 +112,7 @@ header-spec =
     value-requires
     natural-requires
     value-requires-2
+    natural-requires-2
     value-requires-3
+    value-requires-4
     returns-4)

@@ -15,6 +15,9 @@ is-ill-requires-3 c κs = search needs
 is-ill-requires-4 : tie.Need-is-ill-requires-4
 is-ill-requires-4 c κs = search needs
 
+is-ill-requires-5 : tie.Need-is-ill-requires-5
+is-ill-requires-5 c κs = search needs
+
 is-blank-requires : tie.Need-is-blank-requires
 is-blank-requires c κs = search needs
 
@@ -38,6 +41,7 @@ is-ill-heading-spec =
     is-ill-requires-2
     is-ill-requires-3
     is-ill-requires-4
+    is-ill-requires-5
     is-blank-requires
     is-blank-requires-2
     is-blank-requires-3
