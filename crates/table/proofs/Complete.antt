@@ -1,17 +1,20 @@
--- From decoded node lines to the whole verdict: 8, 9, and the numbers of an accepted table. Assumes nothing.
+-- From decoded node lines to the whole verdict: 8, 9, 18, and the numbers of an accepted table. Assumes nothing.
 use Prim.Native.Nat.{ℕ, suc, _+_, _≤_, _<_}
 use mathlib.Core.Path.{_≡_, refl, ap, subst, _∙_}
+use mathlib.Core.Bool.{false}
 use mathlib.Core.List.{List, [], _∷_}
 use native.Mathlib.Omega.{arith}
+use lib.Dec.{ltb}
 use lib.ListN.{length, getD, length-map}
 use Rattle.line.specs.declared.Head.{Head}
 use Rattle.line.specs.declared.Line.{Line}
 use Rattle.line.specs.declared.Refusal.{Refusal}
 use Rattle.line.specs.declared.Refusal.the-variants.{Childless, WrongSum}
-use Rattle.line.specs.Refusal.{fine, unlessAt}
-use Rattle.line.proofs.Fine.{unlessAt-fine}
+use Rattle.line.specs.Refusal.{Verdict, fine, unless, unlessAt, next}
+use Rattle.line.specs.Line.{totals}
+use Rattle.line.proofs.Fine.{unless-fine, unlessAt-fine}
 use Rattle.table.specs.Tree.{Forest, end, leaf, inner, childless, unbalanced}
-use Rattle.table.specs.Table.{Table, nodeLines, tree, complete}
+use Rattle.table.specs.Table.{Table, nodeLines, tree, grain, grainChecks, complete}
 use Rattle.table.specs.Inside.{Slices, Spans, slicesOf, heightTree}
 use Rattle.table.specs.Slices.{heightOf, lineStops, laid, kindsOf, weightsOf, heightsOf, stopsOf}
 use Rattle.table.proofs.Spans.{spans-le}
@@ -43,20 +46,26 @@ unfolding lineStops
 stops-long [] = refl
 stops-long (l ∷ ls) = ap suc (stops-long ls)
 
--- ---- 8 and 9
+-- ---- 8, 9 and 18
 
--- a table that is complete is the table, and has no node that 8 or 9 is for
-pub completed : (a t : Table) → complete a ≡ fine t → (a ≡ t) × (childless (tree t) ≡ []) × (unbalanced (t .head .total) (tree t) ≡ [])
+-- a table that is complete is the table, has no node that 8 or 9 is for, and not too many grains
+pub completed : (a t : Table) → complete a ≡ fine t
+    → (a ≡ t) × (childless (tree t) ≡ []) × (unbalanced (totals (t .head)) (tree t) ≡ []) × (ltb 16777216 (grain t) ≡ false)
 unfolding complete
 completed a t e =
     let f : ℕ → Refusal = λ n. Childless (n + 1) in
     let g : ℕ → Refusal = λ n. WrongSum (n + 1) in
-    let (b, p, q) = next-fine (unlessAt f (childless (tree a)) a) (λ (t : Table). unlessAt g (unbalanced (t .head .total) (tree t)) t) t e in
+    let last : Table → Verdict Table = λ t. unless (grainChecks t) t in
+    let sums : Table → Verdict Table = λ t. unlessAt g (unbalanced (totals (t .head)) (tree t)) t in
+    let (b, p, q) = next-fine (unlessAt f (childless (tree a)) a) (λ (t : Table). next (sums t) last) t e in
     let (c, r) = unlessAt-fine f (childless (tree a)) a b p in
-    let (d, u) = unlessAt-fine g (unbalanced (b .head .total) (tree b)) b t q in (
-      r ∙ u,
-      subst (λ (x : Table). childless (tree x) ≡ []) (r ∙ u) c,
-      subst (λ (x : Table). unbalanced (x .head .total) (tree x) ≡ []) u d,
+    let (d, v, z) = next-fine (sums b) last t q in
+    let (x, u) = unlessAt-fine g (unbalanced (totals (b .head)) (tree b)) b d v in
+    let (y, w) = unless-fine (grainChecks d) d t z in (
+      r ∙ u ∙ w,
+      subst (λ (x : Table). childless (tree x) ≡ []) (r ∙ u ∙ w) c,
+      subst (λ (x : Table). unbalanced (totals (x .head)) (tree x) ≡ []) (u ∙ w) x,
+      subst (λ (x : Table). ltb 16777216 (grain x) ≡ false) w (y .0),
     )
 
 module _ (h : Head) (n : ℕ) (s : List ℕ) (ls : List Line) (e : nodeLines h n 0 [] s ≡ fine ls) (some : 0 < n) where

@@ -12,7 +12,7 @@ use Rattle.line.specs.declared.Head.{Head}
 use Rattle.line.specs.declared.Line.{Line}
 use Rattle.line.specs.declared.Refusal.{Refusal}
 use Rattle.line.specs.Refusal.{Verdict, refused, fine, next}
-use Rattle.line.specs.Line.{Step, wrong, path, climb, ancestors, stepsOf, chancesOf, atChance, stepped, Placed, entryOf, nodeLine, Within}
+use Rattle.line.specs.Line.{larger, Step, wrong, path, climb, ancestors, stepsOf, chancesOf, atChance, stepped, Placed, entryOf, nodeLine, Within}
 use Rattle.line.proofs.Signs.{true-ne-false}
 use Rattle.line.proofs.Fine.{Falling, falling-more, Headed, climbed, Valued, Read, line-read}
 use Rattle.table.specs.Tree.{Kind, MAX, MIN, CHANCE, Forest, end, leaf, inner, codeOf}
@@ -118,7 +118,7 @@ module _ (h : Head) (K : ℕ) where
   -- the nodes T below the last step of the path P, numbered from i on; a leaf has none
   record Grown (P : List Step) (i : ℕ) (T : Forest ℤ) : Type 0 where
     numbered : Numbered i T
-    proper : Proper (h .total) K (Within h) (length P) (chancesOf P) (atChance P) T
+    proper : Proper (larger h) K (Within h) (length P) (chancesOf P) (atChance P) T
     barren : atLeaf P ≡ true → T ≡ end
 
   abbrev linesAt : List Step → Forest ℤ → List Line
@@ -246,7 +246,7 @@ module _ (h : Head) where
     pub tree : Forest ℤ
     pub lines : flat 0 0 tree ≡ ls
     pub numbered : Numbered 0 tree
-    pub proper : Proper (h .total) (greatest ls) (Within h) 0 0 false tree
+    pub proper : Proper (larger h) (greatest ls) (Within h) 0 0 false tree
     pub rooted : Rooted tree
 
   rooted : (K : ℕ) (T : Forest ℤ) → Grown h K [] 0 T → 0 < size T → restOf T ≡ end → Rooted T

@@ -12,11 +12,11 @@ use lib.Signed.{ltZ}
 use Rattle.line.specs.declared.Line.{Line}
 use Rattle.line.specs.Line.{toNat}
 use Rattle.line.proofs.Signs.{true-ne-false}
-use Rattle.table.specs.Tree.{Forest, end, leaf, inner, isChance, isEnd, kindOf, run, after, forest, weigh, leaves}
+use Rattle.table.specs.Tree.{Forest, end, leaf, inner, isChance, isEnd, kindOf, run, after, forest, weigh, uses, leaves}
 use Rattle.table.specs.Table.{Table, tree}
 use Rattle.table.specs.Slices.{heightOf}
-use Rattle.table.specs.Inside.{heightTree}
-use Rattle.table.specs.Accepted.{one, Filled, Balanced, Proper, Rooted}
+use Rattle.table.specs.Inside.{heightTree, deepest}
+use Rattle.table.specs.Accepted.{one, Filled, Totals, Proper, Rooted}
 
 -- ---- differences of integers
 
@@ -85,10 +85,22 @@ module _ {A B : Type 0} (g : A → B) where
   map-filled (leaf n w v rest) f = map-filled rest f
   map-filled (inner n w k under rest) f = (map-end under ∙ f .0, map-filled under (f .1), map-filled rest (f .2))
 
-  pub map-balanced : (T : ℕ) (F : Forest A) → Balanced T F → Balanced T (mapForest F)
-  map-balanced T end b = tt
-  map-balanced T (leaf n w v rest) b = map-balanced T rest b
-  map-balanced T (inner n w k under rest) b = (λ e. map-weigh under ∙ b .0 e, map-balanced T under (b .1), map-balanced T rest (b .2))
+  pub map-totals : (P : ℕ → Type 0) (F : Forest A) → Totals P F → Totals P (mapForest F)
+  map-totals P end b = tt
+  map-totals P (leaf n w v rest) b = map-totals P rest b
+  map-totals P (inner n w k under rest) b = (λ e. rw (map-weigh under) (b .0 e), map-totals P under (b .1), map-totals P rest (b .2))
+
+  pub map-uses : (t : ℕ) (F : Forest A) → uses t (mapForest F) ≡ uses t F
+  unfolding uses
+  map-uses t end = refl
+  map-uses t (leaf n w v rest) = map-uses t rest
+  map-uses t (inner n w k under rest) = rw (map-weigh under, map-uses t under, map-uses t rest)
+
+  pub map-deepest : (F : Forest A) → deepest (mapForest F) ≡ deepest F
+  unfolding deepest
+  map-deepest end = refl
+  map-deepest (leaf n w v rest) = map-deepest rest
+  map-deepest (inner n w k under rest) = rw (map-deepest under, map-deepest rest)
 
   pub map-rooted : (T : Forest A) → Rooted T → Rooted (mapForest T)
   map-rooted end r = r

@@ -7,7 +7,7 @@ use native.Mathlib.Omega.{arith}
 use lib.ListN.{length}
 use Rattle.line.specs.declared.Line.{Line}
 use Rattle.line.specs.Refusal.{fine}
-use Rattle.line.specs.Line.{Within}
+use Rattle.line.specs.Line.{larger, Within}
 use Rattle.table.specs.Tree.{forest, leaves}
 use Rattle.table.specs.Table.{Table, nodeLines, tree, greatest, leafLines}
 use Rattle.table.specs.Inside.{Spans, heightTree, slicesOf}
@@ -48,8 +48,8 @@ module _ (t : Table) (n : ℕ) (b : List ℕ) (e : nodeLines (t .head) n 0 [] b 
     pub read-rooted : Rooted (tree t)
     read-rooted = subst Rooted tree-is (grown .rooted)
 
-    pub read-proper : Proper (t .head .total) (greatest (t .lines)) (Within (t .head)) 0 0 false (tree t)
-    read-proper = subst (Proper (t .head .total) (greatest (t .lines)) (Within (t .head)) 0 0 false) tree-is (grown .proper)
+    pub read-proper : Proper (larger (t .head)) (greatest (t .lines)) (Within (t .head)) 0 0 false (tree t)
+    read-proper = subst (Proper (larger (t .head)) (greatest (t .lines)) (Within (t .head)) 0 0 false) tree-is (grown .proper)
 
     pub read-leaves : leaves (tree t) ≡ leafLines (t .lines)
     read-leaves = flat-leaves 0 0 (tree t) ∙ ap leafLines read-flat

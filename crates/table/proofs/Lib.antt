@@ -2,6 +2,7 @@ pub mod Laid
 pub mod Runs
 pub mod Grown
 pub mod Heights
+pub mod Totals
 pub mod Spans
 pub mod Nodes
 pub mod Known

@@ -1,22 +1,30 @@
--- A table is refused with a number up to 10, which is not 1 where the length is good, and with a line of the table. Assumes nothing.
-use Prim.Native.Nat.{ℕ, zero, suc, _+_, _≤_, _<_}
-use mathlib.Core.Path.{_≡_, refl, sym, subst, _∙_}
+-- A table is refused with a number up to 10 or with 18, not with 1 where the length is good, and with a line of the table; 18 only for what it is for.
+-- Assumes nothing.
+use Prim.Native.Nat.{ℕ, zero, suc, _+_, _^_, _≤_, _<_}
+use mathlib.Core.Path.{_≡_, refl, sym, ap, subst, _∙_}
 use mathlib.Core.Bool.{Bool, true, false, cond}
 use mathlib.Core.List.{List, [], _∷_, _++_}
 use native.Mathlib.Omega.{arith}
+use borrow.Author.Tests.{ltb-true, lt-ltb}
+use lib.Dec.{ltb}
 use lib.ListN.{length, take, drop, getD}
+use Rattle.numbers.proofs.Powers.{power-small}
 use Rattle.line.specs.declared.Head.{Head}
 use Rattle.line.specs.declared.Line.{Line}
 use Rattle.line.specs.declared.Refusal.{Refusal}
-use Rattle.line.specs.declared.Refusal.the-variants.{Childless, WrongSum}
+use Rattle.line.specs.declared.Refusal.the-variants.{Length, IllWritten, OutOfRange, Misnumbered, UnknownKind, WrongParent, Misfilled, Childless, WrongSum, TooDeep, TooManyGrains}
 use Rattle.line.specs.Refusal.{Verdict, refused, fine, Check, unless, unlessAt, next, numberOf, lineOf}
-use Rattle.line.specs.Line.{Step, Placed, ancestors, stepped, stepsOf, placed, letterCode, entryOf, headingOf, headOf, header, headerChecks, lineChecks, nodeLine}
-use Rattle.line.proofs.Fine.{unlessAt-fine}
-use Rattle.table.specs.Tree.{Kind, Forest, end, leaf, inner, nodesWhere, childless, unbalanced}
-use Rattle.table.specs.Table.{Table, prefix, nodeLines, tree, complete, badLength, count, linesOf, readText}
+use Rattle.line.specs.Line.{Step, Placed, ancestors, stepped, stepsOf, placed, letterCode, entryOf, headingOf, headOf, totals, header, headerChecks, lineChecks, nodeLine}
+use Rattle.line.proofs.Fine.{unlessAt-fine, header-ranged}
+use Rattle.table.specs.Tree.{Kind, Forest, end, leaf, inner, nodesWhere, childless, unbalanced, grainOf}
+use Rattle.table.specs.Table.{Table, prefix, nodeLines, tree, grain, grainChecks, complete, badLength, count, linesOf, readText, greatest}
+use Rattle.table.specs.Inside.{deepest}
+use Rattle.table.specs.Accepted.{Balanced, Excessive}
 use Rattle.table.proofs.Runs.{size, Numbered}
 use Rattle.table.proofs.Top.{good-length, read-length, read-header}
-use Rattle.table.proofs.Known.{read-numbered, read-size}
+use Rattle.table.proofs.Totals.{root-deepest, grain-one}
+use Rattle.table.proofs.Accepted.{balanced}
+use Rattle.table.proofs.Known.{read-numbered, read-size, read-few, read-flat}
 
 -- ---- checks
 
@@ -43,26 +51,45 @@ pub next-upto : {A B : Type 0} (P : Refusal → Type 0) (v : Verdict A) (f : A �
 next-upto P (refused r) f h g = h
 next-upto P (fine a) f h g = g a refl
 
--- a refusal of a table at line m or before, another than 1
+-- a refusal of a table at line m or before, another than 1: 2 to 10, or 18
 abbrev pub OfTable : ℕ → Refusal → Type 0
-OfTable m r = (2 ≤ numberOf r) × (numberOf r ≤ 10) × (lineOf r ≤ m)
+OfTable m r = (2 ≤ numberOf r) × (10 < numberOf r → numberOf r ≡ 18) × (lineOf r ≤ m)
 
 prefix-upto : (P : Refusal → Type 0) (done : List Line) (v : Verdict (List Line)) → Upto P v → Upto P (prefix done v)
 prefix-upto P done (refused r) h = h
 prefix-upto P done (fine ls) h = tt
 
-module _ (h : Head) (m : ℕ) where
-  lines-upto : (n i : ℕ) (P : List Step) (s : List ℕ) → i + n ≤ m → Upto (OfTable m) (nodeLines h n i P s)
+-- P of each refusal of a header, and of the line of node i
+pub record OfHeader (P : Refusal → Type 0) : Type 0 where
+  pub ill : P (IllWritten 0)
+  pub wide : P (OutOfRange 0)
+  pub count : P (Misnumbered 0)
+
+pub record OfLine (P : Refusal → Type 0) (i : ℕ) : Type 0 where
+  pub ill : P (IllWritten (i + 1))
+  pub number : P (Misnumbered (i + 1))
+  pub kind : P (UnknownKind (i + 1))
+  pub parent : P (WrongParent (i + 1))
+  pub deep : P (TooDeep (i + 1))
+  pub filled : P (Misfilled (i + 1))
+  pub wide : P (OutOfRange (i + 1))
+
+pub header-upto : (P : Refusal → Type 0) → OfHeader P → (n : ℕ) (s : List ℕ) → Upto P (header n s)
+header-upto P o n s = unless-upto P (headerChecks n (getD s 24 0) (headingOf s)) (headOf (headingOf s)) (o .ill, (o .wide, (o .count, tt)))
+
+module _ (P : Refusal → Type 0) (h : Head) (m : ℕ) (of-line : (i : ℕ) → i + 1 ≤ m → OfLine P i) where
+  pub lines-upto : (n i : ℕ) (Q : List Step) (s : List ℕ) → i + n ≤ m → Upto P (nodeLines h n i Q s)
   unfolding nodeLines
-  lines-upto zero i P s l = tt
-  lines-upto (suc n) i P s l =
+  lines-upto zero i Q s l = tt
+  lines-upto (suc n) i Q s l =
       let e = entryOf (take 25 s) in
-      let a = ancestors (e .parent) P in
+      let a = ancestors (e .parent) Q in
       let k : ℕ = letterCode (e .letter) in
-      let here : i + 1 ≤ m = omega arith in
-      next-upto (OfTable m) (nodeLine h i P (take 25 s)) (λ (p : Placed). prefix (p .line ∷ []) (nodeLines h n (suc i) (p .steps) (drop 25 s)))
-      (unless-upto (OfTable m) (lineChecks h i e (getD (take 25 s) 4 0) (getD (take 25 s) 24 0) a) (placed i k e (stepped i k (stepsOf a))) ((omega arith, omega arith, here), ((omega arith, omega arith, here), ((omega arith, omega arith, here), ((omega arith, omega arith, here), ((omega arith, omega arith, here), ((omega arith, omega arith, here), ((omega arith, omega arith, here), tt))))))))
-      (λ p q. prefix-upto (OfTable m) (p .line ∷ []) (nodeLines h n (suc i) (p .steps) (drop 25 s)) (lines-upto n (suc i) (p .steps) (drop 25 s) (omega arith)))
+      let o = of-line i (omega arith) in
+      next-upto P (nodeLine h i Q (take 25 s)) (λ (p : Placed). prefix (p .line ∷ []) (nodeLines h n (suc i) (p .steps) (drop 25 s)))
+      (unless-upto P (lineChecks h i e (getD (take 25 s) 4 0) (getD (take 25 s) 24 0) a) (placed i k e (stepped i k (stepsOf a)))
+      (o .ill, (o .number, (o .kind, (o .parent, (o .deep, (o .filled, (o .wide, tt))))))))
+      (λ p q. prefix-upto P (p .line ∷ []) (nodeLines h n (suc i) (p .steps) (drop 25 s)) (lines-upto n (suc i) (p .steps) (drop 25 s) (omega arith)))
 
 -- ---- nodes
 
@@ -87,53 +114,156 @@ where-below bad m i (inner n w k under rest) N l =
     below-append m (cond (bad k under) (n ∷ []) []) (nodesWhere bad under ++ nodesWhere bad rest) (below-one m n (bad k under) (omega (arith, N .0)))
     (below-append m (nodesWhere bad under) (nodesWhere bad rest) (where-below bad m (suc i) under (N .1) (omega arith)) (where-below bad m (suc i + size under) rest (N .2) (omega arith)))
 
-unless-at : {A : Type 0} (m : ℕ) (gives : ℕ → Refusal) (xs : List ℕ) (a : A) → ((x : ℕ) → x < m → OfTable m (gives x)) → Below m xs → Upto (OfTable m) (unlessAt gives xs a)
+unless-at : {A : Type 0} (P : Refusal → Type 0) (m : ℕ) (gives : ℕ → Refusal) (xs : List ℕ) (a : A) → ((x : ℕ) → x < m → P (gives x)) → Below m xs → Upto P (unlessAt gives xs a)
 unfolding unlessAt
-unless-at m gives [] a g b = tt
-unless-at m gives (x ∷ xs) a g b = g x (b .0)
+unless-at P m gives [] a g b = tt
+unless-at P m gives (x ∷ xs) a g b = g x (b .0)
 
-complete-upto : (m : ℕ) (t : Table) → Numbered 0 (tree t) → size (tree t) ≤ m → Upto (OfTable m) (complete t)
-unfolding complete
-complete-upto m t N l =
-    next-upto (OfTable m) (unlessAt (λ (n : ℕ). Childless (n + 1)) (childless (tree t)) t) (λ (t : Table). unlessAt (λ (n : ℕ). WrongSum (n + 1)) (unbalanced (t .head .total) (tree t)) t)
-    (unless-at m (λ (n : ℕ). Childless (n + 1)) (childless (tree t)) t (λ x h. (omega arith, omega arith, omega arith)) (where-below _ m 0 (tree t) N (omega arith)))
-    (λ t′ e.
-    let z : t ≡ t′ = unlessAt-fine (λ (n : ℕ). Childless (n + 1)) (childless (tree t)) t t′ e .1 in
-    subst (λ (y : Table). Upto (OfTable m) (unlessAt (λ (n : ℕ). WrongSum (n + 1)) (unbalanced (y .head .total) (tree y)) y)) z
-    (unless-at m (λ (n : ℕ). WrongSum (n + 1)) (unbalanced (t .head .total) (tree t)) t (λ x h. (omega arith, omega arith, omega arith)) (where-below _ m 0 (tree t) N (omega arith))))
+-- 8, 9 and 18: what is known where the last is given
+module _ (P : Refusal → Type 0) (m : ℕ) (t : Table) (bare : (n : ℕ) → n < m → P (Childless (n + 1))) (odd : (n : ℕ) → n < m → P (WrongSum (n + 1)))
+    (many : childless (tree t) ≡ [] → unbalanced (totals (t .head)) (tree t) ≡ [] → ltb 16777216 (grain t) ≡ true → P TooManyGrains) where
+  grains-upto : childless (tree t) ≡ [] → unbalanced (totals (t .head)) (tree t) ≡ [] → Upto P (unless (grainChecks t) t)
+  unfolding unless
+  grains-upto c u = go (ltb 16777216 (grain t)) refl
+    where
+      go : (b : Bool) → ltb 16777216 (grain t) ≡ b → Upto P (cond b (refused TooManyGrains) (fine t))
+      go true e = many c u e
+      go false e = tt
+
+  sums-upto : childless (tree t) ≡ [] → Numbered 0 (tree t) → size (tree t) ≤ m
+      → Upto P (next (unlessAt (λ (n : ℕ). WrongSum (n + 1)) (unbalanced (totals (t .head)) (tree t)) t) (λ (t : Table). unless (grainChecks t) t))
+  sums-upto c N l =
+      next-upto P (unlessAt (λ (n : ℕ). WrongSum (n + 1)) (unbalanced (totals (t .head)) (tree t)) t) (λ (t : Table). unless (grainChecks t) t)
+      (unless-at P m (λ (n : ℕ). WrongSum (n + 1)) (unbalanced (totals (t .head)) (tree t)) t odd (where-below _ m 0 (tree t) N (omega arith)))
+      (λ y e.
+      let (u, z) = unlessAt-fine (λ (n : ℕ). WrongSum (n + 1)) (unbalanced (totals (t .head)) (tree t)) t y e in
+      subst (λ (y : Table). Upto P (unless (grainChecks y) y)) z (grains-upto c u))
+
+  complete-upto : Numbered 0 (tree t) → size (tree t) ≤ m → Upto P (complete t)
+  unfolding complete
+  complete-upto N l =
+      next-upto P (unlessAt (λ (n : ℕ). Childless (n + 1)) (childless (tree t)) t)
+      (λ (t : Table). next (unlessAt (λ (n : ℕ). WrongSum (n + 1)) (unbalanced (totals (t .head)) (tree t)) t) (λ (t : Table). unless (grainChecks t) t))
+      (unless-at P m (λ (n : ℕ). Childless (n + 1)) (childless (tree t)) t bare (where-below _ m 0 (tree t) N (omega arith)))
+      (λ y e.
+      let (c, z) = unlessAt-fine (λ (n : ℕ). Childless (n + 1)) (childless (tree t)) t y e in
+      subst (λ (y : Table). Upto P (next (unlessAt (λ (n : ℕ). WrongSum (n + 1)) (unbalanced (totals (y .head)) (tree y)) y) (λ (t : Table). unless (grainChecks t) t))) z
+      (sums-upto c N l))
 
 -- ---- the whole text
 
-read-upto : (s : List ℕ) → badLength (length s) ≡ false → Upto (OfTable 1024) (readText s)
-read-upto s e =
+-- P of every refusal that a text of a good length may get: those of the header, of a line up to 1,024, 8 and 9 there, and 18 for what it is for
+pub record OfText (P : Refusal → Type 0) (s : List ℕ) : Type 0 where
+  pub of-header : OfHeader P
+  pub of-line : (i : ℕ) → i + 1 ≤ 1024 → OfLine P i
+  pub bare : (n : ℕ) → n < 1024 → P (Childless (n + 1))
+  pub odd : (n : ℕ) → n < 1024 → P (WrongSum (n + 1))
+  pub many : Excessive s → P TooManyGrains
+
+pub text-upto : (P : Refusal → Type 0) (s : List ℕ) → badLength (length s) ≡ false → OfText P s → Upto P (readText s)
+text-upto P s e o =
     let g = good-length (length s) e in
     let n : ℕ = count s in
     rw (read-header s e)
-    (next-upto (OfTable 1024) (header n (take 25 s)) (λ (h : Head). linesOf h n (drop 25 s))
-    (unless-upto (OfTable 1024) (headerChecks n (getD (take 25 s) 24 0) (headingOf (take 25 s))) (headOf (headingOf (take 25 s)))
-    ((omega arith, omega arith, omega arith), ((omega arith, omega arith, omega arith), ((omega arith, omega arith, omega arith), tt))))
+    (next-upto P (header n (take 25 s)) (λ (h : Head). linesOf h n (drop 25 s)) (header-upto P (o .of-header) n (take 25 s))
     (λ h p.
-    next-upto (OfTable 1024) (nodeLines h n 0 [] (drop 25 s)) (λ (ls : List Line). complete (record { head = h; lines = ls })) (lines-upto h 1024 n 0 [] (drop 25 s) (omega (arith, g .2)))
+    next-upto P (nodeLines h n 0 [] (drop 25 s)) (λ (ls : List Line). complete (record { head = h; lines = ls }))
+    (lines-upto P h 1024 (o .of-line) n 0 [] (drop 25 s) (omega (arith, g .2)))
     (λ ls q.
     let t : Table = record { head = h; lines = ls } in
-    complete-upto 1024 t (read-numbered t n (drop 25 s) q (g .1)) (omega (arith, read-size t n (drop 25 s) q (g .1), g .2)))))
+    complete-upto P 1024 t (o .bare) (o .odd)
+    (λ c u x. o .many (record { table = t; long = e; head = p; lines = q; no-childless = c; no-unbalanced = u; grains = ltb-true 16777216 (grain t) x }))
+    (read-numbered t n (drop 25 s) q (g .1)) (omega (arith, read-size t n (drop 25 s) q (g .1), g .2)))))
+
+read-upto : (s : List ℕ) → badLength (length s) ≡ false → Upto (OfTable 1024) (readText s)
+read-upto s e =
+    text-upto (OfTable 1024) s e (record {
+      of-header = record {
+        ill = (omega arith, (λ l. omega arith), omega arith);
+        wide = (omega arith, (λ l. omega arith), omega arith);
+        count = (omega arith, (λ l. omega arith), omega arith);
+      };
+      of-line = λ i h. record {
+        ill = (omega arith, (λ l. omega arith), h);
+        number = (omega arith, (λ l. omega arith), h);
+        kind = (omega arith, (λ l. omega arith), h);
+        parent = (omega arith, (λ l. omega arith), h);
+        deep = (omega arith, (λ l. omega arith), h);
+        filled = (omega arith, (λ l. omega arith), h);
+        wide = (omega arith, (λ l. omega arith), h);
+      };
+      bare = λ n h. (omega arith, (λ l. omega arith), omega arith);
+      odd = λ n h. (omega arith, (λ l. omega arith), omega arith);
+      many = λ x. (omega arith, (λ l. omega arith), omega arith);
+    })
 
 pub refused-named : (s : List ℕ) (r : Refusal) → badLength (length s) ≡ false → readText s ≡ refused r → OfTable 1024 r
 refused-named s r g e = subst (Upto (OfTable 1024)) e (read-upto s g)
 
 -- whatever the length
 abbrev AtMost : Refusal → Type 0
-AtMost r = (numberOf r ≤ 10) × (lineOf r ≤ 1024)
+AtMost r = (10 < numberOf r → numberOf r ≡ 18) × (lineOf r ≤ 1024)
 
 at-most : (s : List ℕ) (r : Refusal) → readText s ≡ refused r → AtMost r
 at-most s r e = go (badLength (length s)) refl
   where
     go : (b : Bool) → badLength (length s) ≡ b → AtMost r
-    go true l = subst (Upto AtMost) (sym (read-length s l) ∙ e) (omega arith, omega arith)
+    go true l = subst (Upto AtMost) (sym (read-length s l) ∙ e) ((λ k. omega arith), omega arith)
     go false l = let n = refused-named s r l e in (n .1, n .2)
 
-pub refused-number : (s : List ℕ) (r : Refusal) → readText s ≡ refused r → numberOf r ≤ 10
+pub refused-number : (s : List ℕ) (r : Refusal) → readText s ≡ refused r → 10 < numberOf r → numberOf r ≡ 18
 refused-number s r e = at-most s r e .0
 
 pub refused-line : (s : List ℕ) (r : Refusal) → readText s ≡ refused r → lineOf r ≤ 1024
 refused-line s r e = at-most s r e .1
+
+-- ---- 18
+
+-- another refusal
+other : (s : List ℕ) (r : Refusal) → (numberOf r ≡ 18 → ⊥) → r ≡ TooManyGrains → Excessive s
+other s r h e = absurd (h (ap numberOf e))
+
+pub eighteen-needs : (s : List ℕ) → readText s ≡ refused TooManyGrains → Excessive s
+eighteen-needs s e = go (badLength (length s)) refl
+  where
+    go : (b : Bool) → badLength (length s) ≡ b → Excessive s
+    go true l = let z : Length ≡ TooManyGrains = cc (sym (read-length s l) ∙ e) in other s Length (λ q. omega arith) z
+    go false l =
+        subst (Upto (λ (r : Refusal). r ≡ TooManyGrains → Excessive s)) e
+        (text-upto (λ (r : Refusal). r ≡ TooManyGrains → Excessive s) s l (record {
+          of-header = record {
+            ill = other s (IllWritten 0) (λ q. omega arith);
+            wide = other s (OutOfRange 0) (λ q. omega arith);
+            count = other s (Misnumbered 0) (λ q. omega arith);
+          };
+          of-line = λ i h. record {
+            ill = other s (IllWritten (i + 1)) (λ q. omega arith);
+            number = other s (Misnumbered (i + 1)) (λ q. omega arith);
+            kind = other s (UnknownKind (i + 1)) (λ q. omega arith);
+            parent = other s (WrongParent (i + 1)) (λ q. omega arith);
+            deep = other s (TooDeep (i + 1)) (λ q. omega arith);
+            filled = other s (Misfilled (i + 1)) (λ q. omega arith);
+            wide = other s (OutOfRange (i + 1)) (λ q. omega arith);
+          };
+          bare = λ n h. other s (Childless (n + 1)) (λ q. omega arith);
+          odd = λ n h. other s (WrongSum (n + 1)) (λ q. omega arith);
+          many = λ x z. x;
+        }))
+        refl
+
+pub eighteen-given : (s : List ℕ) → Excessive s → readText s ≡ refused TooManyGrains
+unfolding readText complete unless unlessAt
+eighteen-given s x = rw (x .long, x .head, x .lines, x .no-childless, x .no-unbalanced, lt-ltb 16777216 (grain (x .table)) (x .grains))
+
+-- it needs a second total
+pub one-total-never : (s : List ℕ) (x : Excessive s) → x .table .head .second ≡ 0 → ⊥
+one-total-never s x none =
+    let t : Table = x .table in
+    let g = good-length (length s) (x .long) in
+    let T : ℕ = t .head .total in
+    let e : totals (t .head) ≡ T ∷ [] = rw none refl in
+    let b : Balanced (T ∷ []) (tree t) = subst (λ (ts : List ℕ). Balanced ts (tree t)) e (balanced (totals (t .head)) (tree t) (x .no-unbalanced)) in
+    let d : deepest (tree t) ≡ greatest (t .lines) = sym (root-deepest (tree t)) ∙ ap greatest (read-flat t (count s) (drop 25 s) (x .lines) (g .1)) in
+    let r = header-ranged (count s) (getD (take 25 s) 24 0) (headingOf (take 25 s)) (t .head) (x .head) in
+    let q : grain t ≡ T ^ deepest (tree t) = ap (λ (ts : List ℕ). grainOf ts (tree t)) e ∙ grain-one T (tree t) b in
+    omega (arith, x .grains, q, power-small T (deepest (tree t)) (r .total) (omega (arith, d, read-few t (count s) (drop 25 s) (x .lines))))

@@ -1,4 +1,4 @@
--- The lines of document 01's tables A and B, of B turned, of a lone leaf, of a root C and of a forced play, as bytes.
+-- The lines of document 01's tables A and B, of B turned, of a lone leaf, of a root C, of a forced play and of two totals, as bytes.
 use Prim.Native.Nat.{ℕ}
 use mathlib.Core.List.{List, [], _∷_, _++_}
 
@@ -114,6 +114,30 @@ forced2 = 32 ∷ 32 ∷ 32 ∷ 50 ∷ 32 ∷ 76 ∷ 32 ∷ 32 ∷ 32 ∷ 32 ∷ 
 abbrev pub forced3 : List ℕ
 forced3 = 32 ∷ 32 ∷ 32 ∷ 51 ∷ 32 ∷ 76 ∷ 32 ∷ 32 ∷ 32 ∷ 32 ∷ 49 ∷ 32 ∷ 32 ∷ 32 ∷ 32 ∷ 49 ∷ 32 ∷ 32 ∷ 32 ∷ 32 ∷ 32 ∷ 32 ∷ 32 ∷ 56 ∷ 10 ∷ []
 
+-- "   5 3 4       0      12"
+abbrev pub open-head : List ℕ
+open-head = 32 ∷ 32 ∷ 32 ∷ 53 ∷ 32 ∷ 51 ∷ 32 ∷ 52 ∷ 32 ∷ 32 ∷ 32 ∷ 32 ∷ 32 ∷ 32 ∷ 32 ∷ 48 ∷ 32 ∷ 32 ∷ 32 ∷ 32 ∷ 32 ∷ 32 ∷ 49 ∷ 50 ∷ 10 ∷ []
+
+-- "   0 C                  "
+abbrev pub open0 : List ℕ
+open0 = 32 ∷ 32 ∷ 32 ∷ 48 ∷ 32 ∷ 67 ∷ 32 ∷ 32 ∷ 32 ∷ 32 ∷ 32 ∷ 32 ∷ 32 ∷ 32 ∷ 32 ∷ 32 ∷ 32 ∷ 32 ∷ 32 ∷ 32 ∷ 32 ∷ 32 ∷ 32 ∷ 32 ∷ 10 ∷ []
+
+-- "   1 L    0    1       6"
+abbrev pub open1 : List ℕ
+open1 = 32 ∷ 32 ∷ 32 ∷ 49 ∷ 32 ∷ 76 ∷ 32 ∷ 32 ∷ 32 ∷ 32 ∷ 48 ∷ 32 ∷ 32 ∷ 32 ∷ 32 ∷ 49 ∷ 32 ∷ 32 ∷ 32 ∷ 32 ∷ 32 ∷ 32 ∷ 32 ∷ 54 ∷ 10 ∷ []
+
+-- "   2 C    0    2        "
+abbrev pub open2 : List ℕ
+open2 = 32 ∷ 32 ∷ 32 ∷ 50 ∷ 32 ∷ 67 ∷ 32 ∷ 32 ∷ 32 ∷ 32 ∷ 48 ∷ 32 ∷ 32 ∷ 32 ∷ 32 ∷ 50 ∷ 32 ∷ 32 ∷ 32 ∷ 32 ∷ 32 ∷ 32 ∷ 32 ∷ 32 ∷ 10 ∷ []
+
+-- "   3 L    2    3       2"
+abbrev pub open3 : List ℕ
+open3 = 32 ∷ 32 ∷ 32 ∷ 51 ∷ 32 ∷ 76 ∷ 32 ∷ 32 ∷ 32 ∷ 32 ∷ 50 ∷ 32 ∷ 32 ∷ 32 ∷ 32 ∷ 51 ∷ 32 ∷ 32 ∷ 32 ∷ 32 ∷ 32 ∷ 32 ∷ 32 ∷ 50 ∷ 10 ∷ []
+
+-- "   4 L    2    1      10"
+abbrev pub open4 : List ℕ
+open4 = 32 ∷ 32 ∷ 32 ∷ 52 ∷ 32 ∷ 76 ∷ 32 ∷ 32 ∷ 32 ∷ 32 ∷ 50 ∷ 32 ∷ 32 ∷ 32 ∷ 32 ∷ 49 ∷ 32 ∷ 32 ∷ 32 ∷ 32 ∷ 32 ∷ 32 ∷ 49 ∷ 48 ∷ 10 ∷ []
+
 -- the tables
 abbrev pub table-a : List ℕ
 table-a = a-head ++ (max-root ++ (a1 ++ (a2 ++ (a3 ++ (a4 ++ (a5 ++ a6))))))
@@ -134,3 +158,7 @@ toss = toss-head ++ (toss-root ++ (toss1 ++ toss2))
 -- B without its leaf of 5: the play is forced
 abbrev pub forced-b : List ℕ
 forced-b = forced-head ++ (max-root ++ (forced1 ++ (forced2 ++ forced3)))
+
+-- Item 5: a roll of the total 3, and below it one of the total 4
+abbrev pub openings : List ℕ
+openings = open-head ++ (open0 ++ (open1 ++ (open2 ++ (open3 ++ open4))))

@@ -1,5 +1,6 @@
--- A table's text as a whole. Document 01, 'The table on paper', 'Grains' and the sequence of 'Refused tables and calls'.
-use Prim.Native.Nat.{ℕ, zero, suc, _+_, _-_, _/_, _%_, _^_, max}
+-- A table's text as a whole. Document 01, 'The table on paper', 'Grains' and the sequence of 'Refused tables and calls'; of the grain count and 18
+-- document 02, Item 5.
+use Prim.Native.Nat.{ℕ, zero, suc, _+_, _-_, _/_, _%_, max}
 use mathlib.Core.Bool.{Bool, not, _||_, cond}
 use mathlib.Core.List.{List, [], _∷_, _++_}
 use lib.ListN.{length, take, drop}
@@ -7,13 +8,13 @@ use lib.Dec.{eqb, ltb}
 use lib.IntN.{ℤ}
 use Rattle.line.specs.declared.Head.{Head}
 use Rattle.line.specs.declared.Line.{Line}
-use Rattle.line.specs.declared.Refusal.the-variants.{Length, Childless, WrongSum}
-use Rattle.line.specs.Refusal.{Verdict, refused, fine, unlessAt, next}
-use Rattle.line.specs.Line.{header, Step, Placed, nodeLine}
+use Rattle.line.specs.declared.Refusal.the-variants.{Length, Childless, WrongSum, TooManyGrains}
+use Rattle.line.specs.Refusal.{Verdict, refused, fine, Check, unless, unlessAt, next}
+use Rattle.line.specs.Line.{header, totals, Step, Placed, nodeLine}
 use Rattle.table.specs.declared.Summary.{Summary}
 use Rattle.table.specs.declared.Reading.{Reading}
 use Rattle.table.specs.declared.Reading.the-variants.{Accepted, Refused}
-use Rattle.table.specs.Tree.{Forest, forest, childless, unbalanced}
+use Rattle.table.specs.Tree.{Forest, forest, childless, unbalanced, grainOf}
 
 -- an accepted table: its header and its node lines
 pub record Table : Type 0 where
@@ -39,11 +40,20 @@ nodeLines h (suc n) i P s =
 abbrev pub tree : Table → Forest ℤ
 tree t = forest (λ (l : Line). l .utility) (length (t .lines)) (t .lines)
 
--- "then 8 at the lowest-numbered node, then 9 likewise"
+-- The grain count G: "T to the power K" where there is one total; by Item 5 "each total to the power of its greatest number of uses on a path,
+-- multiplied". That both are the same where there is one total is a theorem (proofs/Accepted.one-total).
+abbrev pub grain : Table → ℕ
+grain t = grainOf (totals (t .head)) (tree t)
+
+-- "18, a grain count above 16,777,216, after 9, line 0"
+abbrev pub grainChecks : Table → List Check
+grainChecks t = record { holds = ltb 16777216 (grain t); gives = TooManyGrains } ∷ []
+
+-- "then 8 at the lowest-numbered node, then 9 likewise"; by Item 5 then 18
 unfoldable pub complete : Table → Verdict Table
 complete t =
     next (unlessAt (λ (n : ℕ). Childless (n + 1)) (childless (tree t)) t)
-    (λ (t : Table). unlessAt (λ (n : ℕ). WrongSum (n + 1)) (unbalanced (t .head .total) (tree t)) t)
+    (λ (t : Table). next (unlessAt (λ (n : ℕ). WrongSum (n + 1)) (unbalanced (totals (t .head)) (tree t)) t) (λ (t : Table). unless (grainChecks t) t))
 
 -- n node lines and what is then known of the whole
 abbrev pub linesOf : Head → ℕ → List ℕ → Verdict Table
@@ -53,22 +63,18 @@ linesOf h n s = next (nodeLines h n 0 [] s) (λ (ls : List Line). complete (reco
 abbrev pub count : List ℕ → ℕ
 count s = length s / 25 - 1
 
--- "Sequence: 1; the header by 2, 3, 4; each node line from the top by 2, 4, 5, 6, 10, 7, 3; then 8 .., then 9 likewise"
+-- "Sequence: 1; the header by 2, 3, 4; each node line from the top by 2, 4, 5, 6, 10, 7, 3; then 8 .., then 9 likewise"; 18 "after 9"
 unfoldable pub readText : List ℕ → Verdict Table
 readText s =
     cond (badLength (length s)) (refused Length)
     (next (header (count s) (take 25 s)) (λ (h : Head). linesOf h (count s) (drop 25 s)))
 
--- ---- grains
+-- ---- numbers of a table
 
 -- "K is the greatest number of C on any path"
 unfoldable pub greatest : List Line → ℕ
 greatest [] = 0
 greatest (l ∷ ls) = max (l .chances) (greatest ls)
-
--- "The grain count G is T to the power K"
-abbrev pub grain : Table → ℕ
-grain t = t .head .total ^ greatest (t .lines)
 
 -- how many lines are leaves
 unfoldable pub leafLines : List Line → ℕ
@@ -87,6 +93,7 @@ summary t =
       chances = greatest (t .lines);
       grain = grain t;
       leaves = leafLines (t .lines);
+      second = t .head .second;
     }
 
 abbrev pub answer : Verdict Table → Reading

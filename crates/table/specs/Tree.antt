@@ -1,9 +1,10 @@
--- The tree that the lines of a table mean. Document 01, 'The table on paper'.
-use Prim.Native.Nat.{ℕ, zero, suc, _+_}
+-- The tree that the lines of a table mean. Document 01, 'The table on paper'; of sums and their uses document 02, Item 5.
+use Prim.Native.Nat.{ℕ, zero, suc, _+_, _*_, _^_, max}
 use mathlib.Core.Bool.{Bool, true, false, not, _&&_, cond}
 use mathlib.Core.List.{List, [], _∷_, _++_}
 use lib.Dec.{eqb, leb}
 use Rattle.line.specs.declared.Line.{Line}
+use Rattle.line.specs.Line.{among}
 
 -- "Kinds: M (MAX), N (MIN), C (chance)": those that have children
 pub data Kind : Type 0 where
@@ -40,6 +41,11 @@ unfoldable pub after : ℕ → List Line → List Line
 after n [] = []
 after n (l ∷ ls) = cond (leb n (l .parent)) (after n ls) (l ∷ ls)
 
+-- each of these to the power K of it, multiplied
+unfoldable pub powers : List ℕ → (K : ℕ → ℕ) → ℕ
+powers [] K = 1
+powers (t ∷ ts) K = t ^ K t * powers ts K
+
 module _ {A : Type 0} where
   -- a line with the nodes under it and those after it
   abbrev pub grow : A → Line → Forest A → Forest A → Forest A
@@ -73,9 +79,23 @@ module _ {A : Type 0} where
   abbrev pub childless : Forest A → List ℕ
   childless f = nodesWhere (λ (k : Kind) (under : Forest A). isEnd under) f
 
-  -- 9: "weights do not sum to T"
-  abbrev pub unbalanced : ℕ → Forest A → List ℕ
-  unbalanced T f = nodesWhere (λ (k : Kind) (under : Forest A). isChance k && not (eqb (weigh under) T)) f
+  -- 9: "weights do not sum to T", by Item 5 "a sum that is neither total"
+  abbrev pub unbalanced : List ℕ → Forest A → List ℕ
+  unbalanced ts f = nodesWhere (λ (k : Kind) (under : Forest A). isChance k && not (among (weigh under) ts)) f
+
+  -- 1 for a C whose weights sum to t, which is "its own sum" and "its T in every rule"
+  abbrev pub used : ℕ → Kind → Forest A → ℕ
+  used t k under = cond (isChance k && eqb (weigh under) t) 1 0
+
+  -- the "greatest number of uses on a path" of the total t
+  unfoldable pub uses : ℕ → Forest A → ℕ
+  uses t end = 0
+  uses t (leaf n w v rest) = uses t rest
+  uses t (inner n w k under rest) = max (used t k under + uses t under) (uses t rest)
+
+  -- "each total to the power of its greatest number of uses on a path, multiplied"
+  abbrev pub grainOf : List ℕ → Forest A → ℕ
+  grainOf ts f = powers ts (λ (t : ℕ). uses t f)
 
   -- how many leaves
   unfoldable pub leaves : Forest A → ℕ

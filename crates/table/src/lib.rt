@@ -1,7 +1,7 @@
 // The types of what is answered of a table; crate `reading` has the code.
 use line::Refusal;
 
-// An accepted table's numbers.
+// An accepted table's numbers. A second total of 0 stands for none.
 pub struct Summary {
     pub nodes: usize,
     pub total: u64,
@@ -10,6 +10,7 @@ pub struct Summary {
     pub chances: u64,
     pub grain: u64,
     pub leaves: usize,
+    pub second: u64,
 }
 
 pub enum Reading {
