@@ -1,4 +1,4 @@
--- From decoded node lines to the whole verdict: 8, 9, and the numbers of an accepted table. Assumes nothing.
+-- From decoded node lines to the whole verdict: 8, 9, 18, and the numbers of an accepted table. Assumes nothing.
 use Prim.Native.Nat.{ℕ, zero, suc, _+_, _-_, _≤_, _<_}
 use mathlib.Core.Path.{_≡_, refl, sym, ap, subst, _∙_}
 use mathlib.Core.Bool.{Bool, true, false, not, _&&_, cond}
@@ -7,30 +7,33 @@ use native.Mathlib.Omega.{arith}
 use borrow.Author.Tests.{lt-ltb, le-ltb}
 use lib.ListN.{length, take, drop, length-map}
 use lib.Seq.{take-append-seam}
-use lib.Dec.{eqb, leb}
+use lib.Dec.{leb, ltb}
 use lib.IntN.{ℤ}
 use Rattle.line.specs.declared.Head.{Head}
 use Rattle.line.specs.declared.Line.{Line}
 use Rattle.line.specs.declared.Refusal.{Refusal}
-use Rattle.line.specs.declared.Refusal.the-variants.{Childless, WrongSum}
-use Rattle.line.specs.Refusal.{Verdict, refused, fine, unlessAt, next}
-use Rattle.line.specs.Line.{Step}
+use Rattle.line.specs.declared.Refusal.the-variants.{Childless, WrongSum, TooManyGrains}
+use Rattle.line.specs.Refusal.{Verdict, refused, fine, unless, unlessAt, next}
+use Rattle.line.specs.Line.{totals, among, Step}
+use Rattle.line.specs.Inside.{other}
 use Rattle.table.specs.declared.Reading.{Reading}
 use Rattle.table.specs.declared.Reading.the-variants.{Accepted, Refused}
-use Rattle.table.specs.Tree.{Kind, Forest, end, leaf, inner, isEnd, isChance, run, weigh, nodesWhere, childless, unbalanced}
-use Rattle.table.specs.Table.{Table, nodeLines, linesOf, tree, complete, greatest, leafLines, answer}
-use Rattle.table.specs.Inside.{Slices, Spans, heightTree}
+use Rattle.table.specs.Tree.{Kind, Forest, end, leaf, inner, isEnd, isChance, run, weigh, nodesWhere, childless, unbalanced, grainOf}
+use Rattle.table.specs.Table.{Table, nodeLines, linesOf, tree, grain, grainChecks, complete, greatest, leafLines, answer}
+use Rattle.table.specs.Inside.{Slices, Spans, heightTree, deepest}
 use Rattle.table.specs.Slices.{heightOf, lineStops, laid, kindsOf, weightsOf, heightsOf, stopsOf}
 use Rattle.table.proofs.Grown.{lines-counted, lines-first}
-use Rattle.table.proofs.Heights.{mapForest, map-end, map-weigh, above, heights-map}
-use Rattle.table.proofs.Known.{read-length}
+use Rattle.table.proofs.Heights.{mapForest, map-end, map-weigh, map-deepest, above, heights-map}
+use Rattle.table.proofs.Totals.{map-grain, root-deepest}
+use Rattle.table.proofs.Known.{read-length, read-flat}
 use Rattle.table.proofs.Complete.{completed, spans}
-use Rattle.runs.specs.Inside.{reach, stopsFrom, scanFrom, firstOr, bareAt, oddAt, Has}
-use Rattle.runs.proofs.Scan.{scan-below, spans-where, bare-tests, odd-tests}
+use Rattle.runs.specs.Inside.{reach, stopsFrom, scanFrom, firstOr, bareAt, oddAt}
+use Rattle.runs.proofs.Scan.{scan-below, spans-where, bare-tests}
 use Rattle.gathering.specs.declared.Lines
 use Rattle.gathering.specs.declared.Lines.{Lines}
 use Rattle.gathering.specs.Inside.{Gathered}
-use Rattle.reading.specs.Inside.{summaryOf, refuseAt, completeAt, Decoded}
+use Rattle.reading.specs.Inside.{Counted, summaryOf, refuseAt, completeAt, Decoded}
+use Rattle.reading.proofs.Grains.{odd-scan}
 
 -- ---- what the node lines left
 
@@ -119,7 +122,7 @@ where-map g bad bad′ s end = refl
 where-map g bad bad′ s (leaf n w v rest) = where-map g bad bad′ s rest
 where-map g bad bad′ s (inner n w k under rest) = rw (s k under, where-map g bad bad′ s under, where-map g bad bad′ s rest)
 
--- ---- 8 and 9
+-- ---- 8, 9 and 18
 
 refuse-list : (gives : ℕ → Refusal) (n : ℕ) (xs : List ℕ) (t : Table) (f : Table → Verdict Table) (else : Reading)
     → ((x : ℕ) (ys : List ℕ) → xs ≡ x ∷ ys → x < n) → else ≡ answer (f t)
@@ -127,10 +130,6 @@ refuse-list : (gives : ℕ → Refusal) (n : ℕ) (xs : List ℕ) (t : Table) (f
 unfolding unlessAt
 refuse-list gives n [] t f else b e = rw (le-ltb n n (omega arith)) e
 refuse-list gives n (x ∷ xs) t f else b e = rw (lt-ltb x n (b x xs refl))
-
-next-fine-same : (v : Verdict Table) → next v (λ (t : Table). fine t) ≡ v
-next-fine-same (refused r) = refl
-next-fine-same (fine t) = refl
 
 module _ (h : Head) (n : ℕ) (s : List ℕ) (ls : List Line) (e : nodeLines h n 0 [] s ≡ fine ls) (some : 0 < n) where
   abbrev t : Table
@@ -146,9 +145,6 @@ module _ (h : Head) (n : ℕ) (s : List ℕ) (ls : List Line) (e : nodeLines h n
     held : Spans S 0 n (heightTree t)
     held = spans h n s ls e some k st w g k′ st′ w′ g′ pk ps pw pg
 
-    pub has : Has k′ st′ w′ 0 n
-    has = record { heights = g′; forest = heightTree t; spans = held }
-
     found-bare : scanFrom (bareAt k′ st′) 0 n ≡ childless (tree t)
     found-bare =
         let z : n - 0 ≡ n = omega arith in
@@ -156,25 +152,40 @@ module _ (h : Head) (n : ℕ) (s : List ℕ) (ls : List Line) (e : nodeLines h n
         ∙ ap childless (heights-map t)
         ∙ where-map (above (h .lowest)) (λ (k : Kind) (f : Forest ℤ). isEnd f) (λ (k : Kind) (f : Forest ℕ). isEnd f) (λ k f. map-end (above (h .lowest)) f) (tree t)
 
-    found-odd : n ≤ 1024 → scanFrom (oddAt k′ st′ w′ (h .total)) 0 n ≡ unbalanced (h .total) (tree t)
+    found-odd : n ≤ 1024 → scanFrom (oddAt k′ st′ w′ (h .total) (other h)) 0 n ≡ unbalanced (totals h) (tree t)
     found-odd small =
-        let z : n - 0 ≡ n = omega arith in
-        sym (rw z at (spans-where S _ (oddAt k′ st′ w′ (h .total)) n (odd-tests S (h .total) n small) 0 n (heightTree t) (omega arith) held))
-        ∙ ap (unbalanced (h .total)) (heights-map t)
-        ∙ where-map (above (h .lowest)) (λ (k : Kind) (f : Forest ℤ). isChance k && not (eqb (weigh f) (h .total))) (λ (k : Kind) (f : Forest ℕ). isChance k && not (eqb (weigh f) (h .total)))
-        (λ k f. ap (λ (x : ℕ). isChance k && not (eqb x (h .total))) (map-weigh (above (h .lowest)) f)) (tree t)
+        odd-scan h S n small (heightTree t) held
+        ∙ ap (unbalanced (totals h)) (heights-map t)
+        ∙ where-map (above (h .lowest)) (λ (k : Kind) (f : Forest ℤ). isChance k && not (among (weigh f) (totals h))) (λ (k : Kind) (f : Forest ℕ). isChance k && not (among (weigh f) (totals h)))
+        (λ k f. ap (λ (x : ℕ). isChance k && not (among x (totals h))) (map-weigh (above (h .lowest)) f)) (tree t)
+
+    grain-is : grainOf (totals h) (heightTree t) ≡ grain t
+    grain-is = ap (grainOf (totals h)) (heights-map t) ∙ map-grain (above (h .lowest)) (totals h) (tree t)
 
     module _ (small : n ≤ 1024) (most leaves : ℕ) (pm : most ≡ greatest ls) (pl : leaves ≡ leafLines ls) where
-      complete-is : completeAt k′ st′ w′ n h most leaves ≡ answer (complete t)
-      unfolding complete
+      -- what the slices hold
+      pub counts : Counted k′ st′ w′ n most
+      counts =
+          record {
+            heights = g′;
+            forest = heightTree t;
+            spans = held;
+            deep = pm ∙ ap greatest (sym (read-flat t n s e some)) ∙ root-deepest (tree t) ∙ sym (ap deepest (heights-map t) ∙ map-deepest (above (h .lowest)) (tree t));
+          }
+
+      complete-is : completeAt k′ st′ w′ n h most leaves (grainOf (totals h) (heightTree t)) ≡ answer (complete t)
+      unfolding complete unless
       complete-is =
-          rw (found-bare, found-odd small, pm, pl)
-          (refuse-list Childless n (childless (tree t)) t (λ (t : Table). unlessAt (λ (n : ℕ). WrongSum (n + 1)) (unbalanced (t .head .total) (tree t)) t) _
+          rw (found-bare, found-odd small, pm, pl, grain-is)
+          (refuse-list Childless n (childless (tree t)) t (λ (t : Table). next (unlessAt (λ (n : ℕ). WrongSum (n + 1)) (unbalanced (totals (t .head)) (tree t)) t) (λ (t : Table). unless (grainChecks t) t)) _
           (λ x xs q. omega (arith, scan-below (bareAt k′ st′) 0 n x xs (found-bare ∙ q)))
-          (refuse-list WrongSum n (unbalanced (h .total) (tree t)) t (λ (t : Table). fine t) _
-          (λ x xs q. omega (arith, scan-below (oddAt k′ st′ w′ (h .total)) 0 n x xs (found-odd small ∙ q)))
-          (ap (λ (m : ℕ). Accepted (summaryOf m h (greatest ls) (leafLines ls))) (sym counted))
-          ∙ ap answer (next-fine-same (unlessAt (λ (n : ℕ). WrongSum (n + 1)) (unbalanced (h .total) (tree t)) t))))
+          (refuse-list WrongSum n (unbalanced (totals h) (tree t)) t (λ (t : Table). unless (grainChecks t) t) _
+          (λ x xs q. omega (arith, scan-below (oddAt k′ st′ w′ (h .total) (other h)) 0 n x xs (found-odd small ∙ q)))
+          (last (ltb 16777216 (grain t)))))
+        where
+          last : (b : Bool) → cond b (Refused TooManyGrains) (Accepted (summaryOf n h (greatest ls) (leafLines ls) (grain t))) ≡ answer (cond b (refused TooManyGrains) (fine t))
+          last true = refl
+          last false = ap (λ (m : ℕ). Accepted (summaryOf m h (greatest ls) (leafLines ls) (grain t))) (sym counted)
 
       decoded-by : (v : Verdict Table) → complete t ≡ v → (out : Reading) → out ≡ answer v → Decoded v out k st w g k′ st′ w′ g′
       decoded-by (refused r) c out o = o
@@ -182,5 +193,7 @@ module _ (h : Head) (n : ℕ) (s : List ℕ) (ls : List Line) (e : nodeLines h n
           let z : t ≡ t′ = completed t t′ c .0 in
           (o, subst (λ (y : Table). k′ ≡ laid (kindsOf y) k) z pk, subst (λ (y : Table). st′ ≡ laid (stopsOf y) st) z ps, subst (λ (y : Table). w′ ≡ laid (weightsOf y) w) z pw, subst (λ (y : Table). g′ ≡ laid (heightsOf y) g) z pg)
 
-      pub decoded-all : (out : Reading) → out ≡ completeAt k′ st′ w′ n h most leaves → Decoded (linesOf h n s) out k st w g k′ st′ w′ g′
-      decoded-all out o = rw e (decoded-by (complete t) refl out (o ∙ complete-is))
+      pub decoded-all : (out : Reading) → ((C : Counted k′ st′ w′ n most) → out ≡ completeAt k′ st′ w′ n h most leaves (grainOf (totals h) (C .forest)))
+          → Decoded (linesOf h n s) out k st w g k′ st′ w′ g′
+      unfolding counts
+      decoded-all out o = rw e (decoded-by (complete t) refl out (o counts ∙ complete-is))

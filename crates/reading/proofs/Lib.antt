@@ -1,3 +1,4 @@
 pub mod Copied
+pub mod Grains
 pub mod Complete
 pub mod Top

@@ -6,8 +6,9 @@ ghost use Rattle.line.specs.Inside.{Ranged};
 ghost use Rattle.table.specs.Table.{linesOf, badLength, readText, answer};
 ghost use Rattle.table.specs.Slices.{fitted, kindsOf, stopsOf, weightsOf, heightsOf, decoded};
 ghost use Rattle.gathering.specs.Inside.{Roomed};
-ghost use Rattle.reading.specs.Inside.{completeAt, Decoded};
-ghost use Rattle.runs.specs.Inside.{Has};
+ghost use Rattle.line.specs.Line.{totals};
+ghost use Rattle.table.specs.Tree.{grainOf};
+ghost use Rattle.reading.specs.Inside.{Counted, Summed, completeAt, Decoded};
 use gathering::Lines;
 use line::Head;
 use line::Refusal;
@@ -29,7 +30,20 @@ fn power(base: u64, k: u64) -> u64
     p
 }
 
-// A table whose node lines are decoded: 8, then 9, then accepted.
+// The grain count of n nodes whose sums are totals. Where there is one total, its uses are all the C; only with a second one are they counted.
+fn grain_of(h: Head, most: u64, kind: &[u8], stop: &[u16], weight: &[u8], n: usize) -> u64
+    requires { ⌜ (n ≤ length (now kind)) × (n ≤ length (now stop)) × (n ≤ length (now weight)) × (n ≤ 1024) × (h .total ≤ 64) × (h .second ≤ 64) × (most ≤ 4) × Summed (now kind) (now stop) (now weight) n most (totals h) ⌝ }
+    ensures { λ r. ⌜ ((S : Summed (now (kind .entry)) (now (stop .entry)) (now (weight .entry)) n most (totals h)) → r ≡ grainOf (totals h) (S .counted .forest)) ⌝ }
+{
+    if h.second == 0 {
+        return power(h.total, most);
+    }
+    let first = runs::most_uses(kind, stop, weight, 0, n, h.total);
+    let second = runs::most_uses(kind, stop, weight, 0, n, h.second);
+    power(h.total, first) * power(h.second, second)
+}
+
+// A table whose node lines are decoded: 8, then 9, then 18, then accepted.
 fn completed(
     h: Head,
     most: u64,
@@ -39,16 +53,20 @@ fn completed(
     weight: &[u8],
     n: usize,
 ) -> Reading
-    requires { ⌜ (n ≤ length (now kind)) × (n ≤ length (now stop)) × (n ≤ length (now weight)) × (n ≤ 1024) × (h .total ≤ 64) × (most ≤ 4) × Has (now kind) (now stop) (now weight) 0 n ⌝ }
-    ensures { λ r. ⌜ r ≡ completeAt (now (kind .entry)) (now (stop .entry)) (now (weight .entry)) n h most leaves ⌝ }
+    requires { ⌜ (n ≤ length (now kind)) × (n ≤ length (now stop)) × (n ≤ length (now weight)) × (n ≤ 1024) × (h .total ≤ 64) × (h .second ≤ 64) × (most ≤ 4) × Counted (now kind) (now stop) (now weight) n most ⌝ }
+    ensures { λ r. ⌜ ((C : Counted (now (kind .entry)) (now (stop .entry)) (now (weight .entry)) n most) → r ≡ completeAt (now (kind .entry)) (now (stop .entry)) (now (weight .entry)) n h most leaves (grainOf (totals h) (C .forest))) ⌝ }
 {
     let bare = runs::first_childless(kind, stop, n);
-    let odd = runs::first_unbalanced(kind, stop, weight, n, h.total);
+    let odd = runs::first_unbalanced(kind, stop, weight, n, h.total, line::other_total(h));
     if bare < n {
         return Reading::Refused(Refusal::Childless(bare + 1));
     }
     if odd < n {
         return Reading::Refused(Refusal::WrongSum(odd + 1));
+    }
+    let grain = grain_of(h, most, kind, stop, weight, n);
+    if 16777216 < grain {
+        return Reading::Refused(Refusal::TooManyGrains);
     }
     Reading::Accepted(Summary {
         nodes: n,
@@ -56,8 +74,9 @@ fn completed(
         lowest: h.lowest,
         highest: h.highest,
         chances: most,
-        grain: power(h.total, most),
+        grain: grain,
         leaves: leaves,
+        second: h.second,
     })
 }
 
@@ -104,7 +123,7 @@ fn keep32(n: usize, from: &[u32], to: &mut [u32])
     }
 }
 
-// The node lines of a table whose header was read, then 8 and 9.
+// The node lines of a table whose header was read, then 8, 9 and 18.
 fn decode_lines(
     text: &[u8],
     n: usize,

@@ -175,9 +175,10 @@ module _ (S : Slices) where
         at-inner = λ c k under h l s. rw (h, code-inner k) (spans-empty (c + 1) (getD (S .stops) c 0) under s);
       }
 
-  pub odd-tests : (T e : ℕ) → e ≤ 1024
-      → Tests S (λ (k : Kind) (under : Forest ℕ). isChance k && not (eqb (weigh under) T)) (oddAt (S .kinds) (S .stops) (S .weights) T) e
-  odd-tests T e small =
+  pub odd-tests : (T U e : ℕ) → e ≤ 1024
+      → Tests S (λ (k : Kind) (under : Forest ℕ). isChance k && (not (eqb (weigh under) T) && not (eqb (weigh under) U)))
+      (oddAt (S .kinds) (S .stops) (S .weights) T U) e
+  odd-tests T U e small =
       record {
         at-leaf = λ c h. rw h;
         at-inner = λ c k under h l s. rw (h, code-chance k, spans-weigh S 1024 (c + 1) (getD (S .stops) c 0) under s (omega arith));

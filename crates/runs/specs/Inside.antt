@@ -1,11 +1,11 @@
--- Runs of nodes in the slices, and the nodes that 8 or 9 is for: what the contracts cite. No promise of a public call names these.
+-- Runs of nodes in the slices, the nodes that 8 or 9 is for, and the uses of a total: what the contracts cite. No promise of a public call names these.
 use Prim.Native.Nat.{ℕ, zero, suc, _+_, _≤_, _<_}
 use mathlib.Core.Bool.{Bool, not, _&&_, cond}
 use mathlib.Core.List.{List, [], _∷_, _++_}
 use mathlib.Core.Path.{_≡_}
 use lib.ListN.{length, getD, drop}
 use lib.Dec.{leb, ltb, eqb}
-use Rattle.table.specs.Tree.{Forest}
+use Rattle.table.specs.Tree.{Forest, uses}
 use Rattle.table.specs.Inside.{Spans}
 
 -- ---- runs, by the parents' numbers alone
@@ -53,6 +53,20 @@ unfoldable pub weighAt : List ℕ → List ℕ → ℕ → ℕ → ℕ → ℕ
 weighAt stops weights zero c e = 0
 weighAt stops weights (suc k) c e = cond (ltb c e) (getD weights c 0 + weighAt stops weights k (getD stops c 0) e) 0
 
--- 9: a C whose children's weights do not sum to T
-abbrev pub oddAt : List ℕ → List ℕ → List ℕ → ℕ → ℕ → Bool
-oddAt kinds stops weights T i = eqb (getD kinds i 0) 3 && not (eqb (weighAt stops weights 1024 (i + 1) (getD stops i 0)) T)
+-- the weights of the children of node i, summed
+abbrev pub sumAt : List ℕ → List ℕ → ℕ → ℕ
+sumAt stops weights i = weighAt stops weights 1024 (i + 1) (getD stops i 0)
+
+-- 9: a C whose children's weights sum to neither total, T or U
+abbrev pub oddAt : List ℕ → List ℕ → List ℕ → ℕ → ℕ → ℕ → Bool
+oddAt kinds stops weights T U i = eqb (getD kinds i 0) 3 && (not (eqb (sumAt stops weights i) T) && not (eqb (sumAt stops weights i) U))
+
+-- ---- the uses of a total
+
+-- 1 for a C whose children's weights sum to T
+abbrev pub useAt : List ℕ → List ℕ → List ℕ → ℕ → ℕ → ℕ
+useAt kinds stops weights T i = cond (eqb (getD kinds i 0) 3 && eqb (sumAt stops weights i) T) 1 0
+
+-- r is the greatest number of uses of T on a path down through the nodes in the entries from c up to e
+abbrev pub UsedMost : (kinds stops weights : List ℕ) (T c e r : ℕ) → Type 0
+UsedMost kinds stops weights T c e r = (R : Has kinds stops weights c e) → r ≡ uses T (R .forest)

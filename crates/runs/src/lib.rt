@@ -1,10 +1,11 @@
-// Runs of nodes in the decoded slices: where each stops, and the nodes without a child or with weights that do not sum to T.
+// Runs of nodes in the decoded slices: where each stops, the nodes without a child or with weights that sum to no total, and how often a total is used.
 ghost use mathlib.Core.Path.{_≡_};
 ghost use Prim.Native.Nat.{_+_, _<_, _≤_};
 ghost use lib.ListN.{length, getD, take};
 ghost use Rattle.table.specs.Slices.{laid};
-ghost use Rattle.runs.specs.Inside.{stopIn, stopsFrom, HasStops, firstOr, scanFrom, bareAt, Has, weighAt, oddAt};
+ghost use Rattle.runs.specs.Inside.{stopIn, stopsFrom, HasStops, firstOr, scanFrom, bareAt, Has, weighAt, oddAt, useAt, UsedMost};
 use numbers::index;
+use numbers::max_of;
 use numbers::wide8;
 
 // One past the run of node i, from child to child: the entries of the later nodes are there, and `next` is that of node i + 1, so that on a
@@ -84,28 +85,75 @@ pub fn sum_weights(kind: &[u8], stop: &[u16], weight: &[u8], c: usize, e: usize)
     sum
 }
 
-// Whether node i is a C whose children's weights do not sum to the total.
-fn is_unbalanced(kind: &[u8], stop: &[u16], weight: &[u8], n: usize, total: u64, i: usize) -> bool
+// Whether node i is a C whose children's weights sum to neither total.
+fn is_unbalanced(
+    kind: &[u8],
+    stop: &[u16],
+    weight: &[u8],
+    n: usize,
+    total: u64,
+    other: u64,
+    i: usize,
+) -> bool
     requires { ⌜ (i < n) × (n ≤ length (now kind)) × (n ≤ length (now stop)) × (n ≤ length (now weight)) × (n ≤ 1024) × Has (now kind) (now stop) (now weight) 0 n ⌝ }
-    ensures { λ r. ⌜ r ≡ oddAt (now (kind .entry)) (now (stop .entry)) (now (weight .entry)) total i ⌝ }
+    ensures { λ r. ⌜ r ≡ oddAt (now (kind .entry)) (now (stop .entry)) (now (weight .entry)) total other i ⌝ }
 {
     if kind[i] != 3 {
         return false;
     }
-    sum_weights(kind, stop, weight, i + 1, index(stop[i])) != total
+    let sum = sum_weights(kind, stop, weight, i + 1, index(stop[i]));
+    (sum != total) & (sum != other)
 }
 
 // The first such node, or n.
-pub fn first_unbalanced(kind: &[u8], stop: &[u16], weight: &[u8], n: usize, total: u64) -> usize
+pub fn first_unbalanced(
+    kind: &[u8],
+    stop: &[u16],
+    weight: &[u8],
+    n: usize,
+    total: u64,
+    other: u64,
+) -> usize
     requires { ⌜ (n ≤ length (now kind)) × (n ≤ length (now stop)) × (n ≤ length (now weight)) × (n ≤ 1024) × Has (now kind) (now stop) (now weight) 0 n ⌝ }
-    ensures { λ r. ⌜ r ≡ firstOr n (scanFrom (oddAt (now (kind .entry)) (now (stop .entry)) (now (weight .entry)) total) 0 n) ⌝ }
+    ensures { λ r. ⌜ r ≡ firstOr n (scanFrom (oddAt (now (kind .entry)) (now (stop .entry)) (now (weight .entry)) total other) 0 n) ⌝ }
 {
     let mut i = 0;
     while i < n {
-        if is_unbalanced(kind, stop, weight, n, total, i) {
+        if is_unbalanced(kind, stop, weight, n, total, other, i) {
             return i;
         }
         i += 1;
     }
     n
+}
+
+// 1 where node i, whose run stops at e, is a C whose children's weights sum to the total.
+fn use_at(kind: &[u8], stop: &[u16], weight: &[u8], i: usize, e: usize, total: u64) -> u64
+    requires { ⌜ (i < e) × (e ≤ length (now kind)) × (e ≤ length (now stop)) × (e ≤ length (now weight)) × (e ≤ 1024) × (getD (now stop) i 0 ≡ e) × Has (now kind) (now stop) (now weight) (i + 1) e ⌝ }
+    ensures { λ r. ⌜ r ≡ useAt (now (kind .entry)) (now (stop .entry)) (now (weight .entry)) total i ⌝ }
+{
+    if kind[i] != 3 {
+        return 0;
+    }
+    if sum_weights(kind, stop, weight, i + 1, e) != total {
+        return 0;
+    }
+    1
+}
+
+// The greatest number of uses of the total on a path down through the nodes in the entries from c up to e. Under a leaf there are none.
+pub fn most_uses(kind: &[u8], stop: &[u16], weight: &[u8], c: usize, e: usize, total: u64) -> u64
+    requires { ⌜ (e ≤ length (now kind)) × (e ≤ length (now stop)) × (e ≤ length (now weight)) × (e ≤ 1024) × Has (now kind) (now stop) (now weight) c e ⌝ }
+    ensures { λ r. ⌜ UsedMost (now (kind .entry)) (now (stop .entry)) (now (weight .entry)) total c e r ⌝ }
+{
+    let mut most: u64 = 0;
+    let mut i = c;
+    while i < e {
+        let s = index(stop[i]);
+        let here = use_at(kind, stop, weight, i, s, total);
+        let under = most_uses(kind, stop, weight, i + 1, s, total);
+        most = max_of(most, here + under);
+        i = s;
+    }
+    most
 }

@@ -19,6 +19,7 @@ use Rattle.field.proofs.Small.{one-or-none}
 use Rattle.line.specs.declared.Line.{Line}
 use Rattle.line.specs.Line.{nodeLine}
 use Rattle.line.specs.Inside.{Ranged, Sized}
+use Rattle.line.proofs.Fine.{larger-small}
 use Rattle.parsing.specs.declared.Placing
 use Rattle.parsing.specs.declared.Placing.{Placing}
 use Rattle.parsing.specs.Inside.{pathOf, placingShown, Roomy}
@@ -139,7 +140,7 @@ node-line-requires c κs =
     let s = c .before .before .before .before .before in
     let G = s .loop .inv .0 in
     let t = start s .args .text .now in
-    (rw (part-is (s .loop .i) t, length-take, length-drop, length-drop) (omega arith), G .deep, omega arith, s .loop .inv .3 .total, G .bounded)
+    (rw (part-is (s .loop .i) t, length-take, length-drop, length-drop) (omega arith), G .deep, omega arith, larger-small (start s .args .h) (s .loop .inv .3), G .bounded)
 
 enum-known-r : tie.Need-enum-known-r Inv-loop μ-loop
 enum-known-r c = search needs

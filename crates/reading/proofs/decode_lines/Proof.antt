@@ -13,7 +13,7 @@ use Rattle.table.proofs.Grown.{lines-counted}
 use Rattle.gathering.specs.declared.Lines
 use Rattle.gathering.specs.declared.Lines.{Lines}
 use Rattle.gathering.specs.Inside.{Gathered}
-use Rattle.reading.proofs.Complete.{Lined, gathered-lined, gathered-refusal, stops-are, has, decoded-all}
+use Rattle.reading.proofs.Complete.{Lined, gathered-lined, gathered-refusal, stops-are, counts, decoded-all}
 use Rattle.reading.proofs.Top.{decoded-refused}
 use Rattle.reading.proofs.decode_lines.Statement.{statement}
 use Rattle.reading.proofs.decode_lines.Tie as tie
@@ -89,8 +89,9 @@ completed-requires c κs =
       omega (arith, N .node-lines .kept .1 .1 .1 .1 .1 .0, p .0 .weights, p .2),
       p .2,
       p .4 .total,
+      p .4 .second,
       rw (L .most-is) (lines-counted (a .h) (a .n) 0 [] (drop 25 (now (a .text))) (L .lines) (L .verdict) .1),
-      has (a .h) (a .n) (drop 25 (now (a .text))) (L .lines) (L .verdict) (p .1) (now (a .kind)) (now (a .stop)) (now (a .weight)) (now (a .height)) (N .node-lines .last .1 .1 .1 .0) (S .stops .last .1 .1 .0) (N .node-lines .last .1 .1 .1 .1 .1 .0) (N .node-lines .last .1 .1 .1 .1 .1 .1 .0) (L .kinds) (stopped S) (L .weights) (L .heights),
+      counts (a .h) (a .n) (drop 25 (now (a .text))) (L .lines) (L .verdict) (p .1) (now (a .kind)) (now (a .stop)) (now (a .weight)) (now (a .height)) (N .node-lines .last .1 .1 .1 .0) (S .stops .last .1 .1 .0) (N .node-lines .last .1 .1 .1 .1 .1 .0) (N .node-lines .last .1 .1 .1 .1 .1 .1 .0) (L .kinds) (stopped S) (L .weights) (L .heights) (p .2) (M .most .given .0 .0) (M .most .given .0 .1 .0) (L .most-is) (L .leaves-is),
     )
 
 same-length : tie.Need-same-length

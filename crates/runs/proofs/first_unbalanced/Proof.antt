@@ -10,17 +10,17 @@ use Rattle.runs.proofs.first_unbalanced.Statement.{statement}
 use Rattle.runs.proofs.first_unbalanced.Tie as tie
 
 abbrev Inv-loop : tie.InvT-loop
-Inv-loop kind stop weight n total i₀ i =
+Inv-loop kind stop weight n total other i₀ i =
     (i ≤ n)
     × (n ≤ length kind)
     × (n ≤ length stop)
     × (n ≤ length weight)
     × (n ≤ 1024)
     × Has kind stop weight 0 n
-    × (scanFrom (oddAt kind stop weight total) 0 n ≡ scanFrom (oddAt kind stop weight total) i (n - i))
+    × (scanFrom (oddAt kind stop weight total other) 0 n ≡ scanFrom (oddAt kind stop weight total other) i (n - i))
 
 abbrev μ-loop : tie.MeasureT-loop
-μ-loop kind stop weight n total i₀ i = n - i
+μ-loop kind stop weight n total other i₀ i = n - i
 
 loop-holds : tie.Need-loop-holds Inv-loop μ-loop
 loop-holds c =
@@ -36,7 +36,7 @@ returns c =
     let l = c .before .before .before in
     let a = l .before .before .before .before .args in
     let t = c .before .before .loop-test .taken in
-    sym (ap (firstOr (a .n)) (l .loop .inv .6) ∙ scan-here (oddAt (now (a .kind)) (now (a .stop)) (now (a .weight)) (a .total)) (a .n) (l .loop .i) (a .n - l .loop .i) (omega arith) (sym (c .before .is-unbalanced .ensures) ∙ c .if1 .taken))
+    sym (ap (firstOr (a .n)) (l .loop .inv .6) ∙ scan-here (oddAt (now (a .kind)) (now (a .stop)) (now (a .weight)) (a .total) (a .other)) (a .n) (l .loop .i) (a .n - l .loop .i) (omega arith) (sym (c .before .is-unbalanced .ensures) ∙ c .if1 .taken))
 
 add-i : tie.Need-add-i Inv-loop μ-loop
 add-i c = omega arith
@@ -57,14 +57,14 @@ loop-again c =
       v .3,
       v .4,
       v .5,
-      v .6 ∙ scan-on (oddAt (now (a .kind)) (now (a .stop)) (now (a .weight)) (a .total)) (l .loop .i) (a .n - l .loop .i) (omega arith) (sym (c .before .is-unbalanced .ensures) ∙ c .if1 .left) ∙ rw z,
+      v .6 ∙ scan-on (oddAt (now (a .kind)) (now (a .stop)) (now (a .weight)) (a .total) (a .other)) (l .loop .i) (a .n - l .loop .i) (omega arith) (sym (c .before .is-unbalanced .ensures) ∙ c .if1 .left) ∙ rw z,
     )
 
 returns-2 : tie.Need-returns-2 Inv-loop μ-loop
 returns-2 c =
     let l = c .before in
     let a = l .before .before .before .before .args in
-    sym (ap (firstOr (a .n)) (l .loop .inv .6) ∙ scan-none (oddAt (now (a .kind)) (now (a .stop)) (now (a .weight)) (a .total)) (a .n) (l .loop .i) (a .n - l .loop .i) (omega (arith, c .loop-test .left)))
+    sym (ap (firstOr (a .n)) (l .loop .inv .6) ∙ scan-none (oddAt (now (a .kind)) (now (a .stop)) (now (a .weight)) (a .total) (a .other)) (a .n) (l .loop .i) (a .n - l .loop .i) (omega (arith, c .loop-test .left)))
 
 pub first-unbalanced-spec : {M : Type 1} → statement M
 first-unbalanced-spec =
