@@ -14,7 +14,7 @@ use Rattle.line.specs.declared.Head.{Head}
 use Rattle.line.specs.declared.Refusal.{Refusal}
 use Rattle.line.specs.declared.Refusal.the-variants.{NoChild}
 use Rattle.line.specs.Refusal.{Verdict, refused, fine}
-use Rattle.line.specs.Line.{Within}
+use Rattle.line.specs.Line.{larger, Within}
 use Rattle.table.specs.Tree.{Forest, end, leaf, inner, isChance}
 use Rattle.table.specs.Table.{Table, tree, readText, greatest, grain}
 use Rattle.table.specs.Inside.{heightTree}
@@ -170,7 +170,7 @@ module _ (s : List ℕ) (t : Table) (h : readText s ≡ fine t) where
 
   pub worths-heights : childWorths t ≡ map (raised base) (heightWorths t)
   worths-heights =
-      children-shift (grain t) (t .head) (t .head .total) (greatest (t .lines)) 0 0 false (tree t) (accepted-proper s t h) (accepted-filled s t h) (divides s t h)
+      children-shift (grain t) (t .head) (larger (t .head)) (greatest (t .lines)) 0 0 false (tree t) (accepted-proper s t h) (accepted-filled s t h) (divides s t h)
       ∙ ap (λ (F : Forest ℕ). map (raised base) (heightShares (grain t) F)) children-heights
 
   -- there is a worth for each child

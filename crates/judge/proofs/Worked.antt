@@ -7,8 +7,8 @@ use Rattle.field.specs.Field.{strip, digits, whole, signed}
 use Rattle.numbers.specs.Integers.{maxZ, minZ, floorZ}
 use Rattle.line.specs.declared.Refusal.the-variants.{NoChild}
 use Rattle.line.specs.Refusal.{Verdict, refused, fine, unless, unlessAt, next}
-use Rattle.line.specs.Line.{climb}
-use Rattle.table.specs.Tree.{run, after, forest, weigh, nodesWhere}
+use Rattle.line.specs.Line.{climb, among}
+use Rattle.table.specs.Tree.{run, after, forest, weigh, nodesWhere, powers, uses}
 use Rattle.table.specs.Examples.{max-root, b-head, chance, b3, b4, table-b, turned-b, min-root, forced-head, forced1, forced2, forced3, lone-leaf, toss, forced-b}
 use Rattle.table.specs.Root.{nodes}
 use Rattle.table.specs.Table.{Table, nodeLines, complete, readText, greatest}
@@ -57,45 +57,45 @@ three = three1 ++ (chance ++ (three3 ++ (three4 ++ (three5 ++ (three6 ++ three7)
 
 -- table B: the second child played loses 6 and one child is level; there is no child 0, 3 or -1
 judged-b : next (readText table-b) (found (pos 2 ∷ pos 1 ∷ pos 0 ∷ pos 3 ∷ negsuc 0 ∷ [])) ≡ fine (fine (judged (pos 6) 1) ∷ fine (judged (pos 0) 1) ∷ refused NoChild ∷ refused NoChild ∷ refused NoChild ∷ [])
-unfolding found maxZ minZ floorZ largest smallest weighted total value shares levels strip digits whole signed unless unlessAt climb run after forest weigh nodesWhere nodeLines complete readText greatest nodes
+unfolding found maxZ minZ floorZ largest smallest weighted total value shares levels strip digits whole signed unless unlessAt climb run after forest weigh nodesWhere nodeLines complete readText greatest among uses powers nodes
 judged-b = refl
 
 -- B with 4 in place of 5: the second child loses 2 grains of the 4 that a point has, and is not level
 judged-near : next (readText (b-head ++ (max-root ++ (near1 ++ (chance ++ (b3 ++ b4)))))) (found (pos 2 ∷ pos 1 ∷ [])) ≡ fine (fine (judged (pos 2) 1) ∷ fine (judged (pos 0) 1) ∷ [])
-unfolding near1 found maxZ minZ floorZ largest smallest weighted total value shares levels strip digits whole signed unless unlessAt climb run after forest weigh nodesWhere nodeLines complete readText greatest nodes
+unfolding near1 found maxZ minZ floorZ largest smallest weighted total value shares levels strip digits whole signed unless unlessAt climb run after forest weigh nodesWhere nodeLines complete readText greatest among uses powers nodes
 judged-near = refl
 
 -- B turned: the same at an N root
 judged-turned : next (readText turned-b) (found (pos 2 ∷ pos 1 ∷ pos 0 ∷ pos 3 ∷ negsuc 0 ∷ [])) ≡ fine (fine (judged (pos 6) 1) ∷ fine (judged (pos 0) 1) ∷ refused NoChild ∷ refused NoChild ∷ refused NoChild ∷ [])
-unfolding found maxZ minZ floorZ largest smallest weighted total value shares levels strip digits whole signed unless unlessAt climb run after forest weigh nodesWhere nodeLines complete readText greatest nodes
+unfolding found maxZ minZ floorZ largest smallest weighted total value shares levels strip digits whole signed unless unlessAt climb run after forest weigh nodesWhere nodeLines complete readText greatest among uses powers nodes
 judged-turned = refl
 
 -- three plays: two of them are level, and the other is three quarters of a point worse
 judged-level : next (readText (three-head ++ (max-root ++ three))) (found (pos 1 ∷ pos 2 ∷ pos 3 ∷ [])) ≡ fine (fine (judged (pos 0) 2) ∷ fine (judged (pos 3) 2) ∷ fine (judged (pos 0) 2) ∷ [])
-unfolding three-head three1 three3 three4 three5 three6 three7 three found maxZ minZ floorZ largest smallest weighted total value shares levels strip digits whole signed unless unlessAt climb run after forest weigh nodesWhere nodeLines complete readText greatest nodes
+unfolding three-head three1 three3 three4 three5 three6 three7 three found maxZ minZ floorZ largest smallest weighted total value shares levels strip digits whole signed unless unlessAt climb run after forest weigh nodesWhere nodeLines complete readText greatest among uses powers nodes
 judged-level = refl
 
 -- the same plays at an N root, where that one is the best alone
 judged-level-n : next (readText (three-head ++ (min-root ++ three))) (found (pos 1 ∷ pos 2 ∷ pos 3 ∷ [])) ≡ fine (fine (judged (pos 3) 1) ∷ fine (judged (pos 0) 1) ∷ fine (judged (pos 3) 1) ∷ [])
-unfolding three-head three1 three3 three4 three5 three6 three7 three found maxZ minZ floorZ largest smallest weighted total value shares levels strip digits whole signed unless unlessAt climb run after forest weigh nodesWhere nodeLines complete readText greatest nodes
+unfolding three-head three1 three3 three4 three5 three6 three7 three found maxZ minZ floorZ largest smallest weighted total value shares levels strip digits whole signed unless unlessAt climb run after forest weigh nodesWhere nodeLines complete readText greatest among uses powers nodes
 judged-level-n = refl
 
 -- a lone leaf: no decision, whatever the number
 judged-lone : next (readText lone-leaf) (found (pos 1 ∷ pos 7 ∷ pos 0 ∷ negsuc 0 ∷ [])) ≡ fine (fine noDecision ∷ fine noDecision ∷ fine noDecision ∷ fine noDecision ∷ [])
-unfolding found maxZ minZ floorZ largest smallest weighted total value shares levels strip digits whole signed unless unlessAt climb run after forest weigh nodesWhere nodeLines complete readText greatest nodes
+unfolding found maxZ minZ floorZ largest smallest weighted total value shares levels strip digits whole signed unless unlessAt climb run after forest weigh nodesWhere nodeLines complete readText greatest among uses powers nodes
 judged-lone = refl
 
 -- a C root: the same
 judged-toss : next (readText toss) (found (pos 1 ∷ pos 2 ∷ pos 3 ∷ pos 0 ∷ negsuc 0 ∷ [])) ≡ fine (fine noDecision ∷ fine noDecision ∷ fine noDecision ∷ fine noDecision ∷ fine noDecision ∷ [])
-unfolding found maxZ minZ floorZ largest smallest weighted total value shares levels strip digits whole signed unless unlessAt climb run after forest weigh nodesWhere nodeLines complete readText greatest nodes
+unfolding found maxZ minZ floorZ largest smallest weighted total value shares levels strip digits whole signed unless unlessAt climb run after forest weigh nodesWhere nodeLines complete readText greatest among uses powers nodes
 judged-toss = refl
 
 -- B's C alone under an M: forced, and no decision for its own number and for others
 judged-forced : next (readText forced-b) (found (pos 1 ∷ pos 2 ∷ pos 0 ∷ negsuc 0 ∷ [])) ≡ fine (fine noDecision ∷ fine noDecision ∷ fine noDecision ∷ fine noDecision ∷ [])
-unfolding found maxZ minZ floorZ largest smallest weighted total value shares levels strip digits whole signed unless unlessAt climb run after forest weigh nodesWhere nodeLines complete readText greatest nodes
+unfolding found maxZ minZ floorZ largest smallest weighted total value shares levels strip digits whole signed unless unlessAt climb run after forest weigh nodesWhere nodeLines complete readText greatest among uses powers nodes
 judged-forced = refl
 
 -- the same under an N
 judged-forced-n : next (readText (forced-head ++ (min-root ++ (forced1 ++ (forced2 ++ forced3))))) (found (pos 1 ∷ pos 2 ∷ pos 0 ∷ negsuc 0 ∷ [])) ≡ fine (fine noDecision ∷ fine noDecision ∷ fine noDecision ∷ fine noDecision ∷ [])
-unfolding found maxZ minZ floorZ largest smallest weighted total value shares levels strip digits whole signed unless unlessAt climb run after forest weigh nodesWhere nodeLines complete readText greatest nodes
+unfolding found maxZ minZ floorZ largest smallest weighted total value shares levels strip digits whole signed unless unlessAt climb run after forest weigh nodesWhere nodeLines complete readText greatest among uses powers nodes
 judged-forced-n = refl

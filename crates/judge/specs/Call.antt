@@ -19,7 +19,7 @@ abbrev pub judgeAnswer : Verdict Judgement → Opinion
 judgeAnswer (refused r) = Refused r
 judgeAnswer (fine j) = Given (told j)
 
--- the judgement of root child number i, or refusal 1 to 10, then 14
+-- the judgement of root child number i, or refusal 1 to 10 or 18, then 14
 abbrev pub judgeCall : Verdict Table → ℤ → Opinion
 judgeCall v i = judgeAnswer (next v (λ (t : Table). judge t i))
 

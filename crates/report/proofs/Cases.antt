@@ -17,7 +17,7 @@ use Rattle.line.specs.Refusal.{Verdict, refused, fine, Check, unless, next}
 use Rattle.line.specs.Line.{isIll, isBlank, outside, countOf, valueOf, headingOf, illHeading}
 use Rattle.line.proofs.Signs.{true-ne-false}
 use Rattle.line.proofs.Checks.{or-left, or-right}
-use Rattle.line.proofs.Fine.{nor9, unless-fine}
+use Rattle.line.proofs.Fine.{nor9, nor10, unless-fine}
 use Rattle.report.specs.declared.Row.{Row}
 use Rattle.report.specs.Report.{playIn, headIn, nodesIn, sizeOf, tableIn, badStart, headChecks, scored, positionOf}
 use Rattle.report.specs.Files.{headIs}
@@ -52,8 +52,8 @@ module _ {A B : Type 0} where
 module _ (last : ℕ) (g : Heading) (well : illHeading last g ≡ false) where
   pub count-well : (isIll (g .count) ≡ false) × (isBlank (g .count) ≡ false)
   count-well =
-      let i = nor9 (not (eqb last 10)) (isIll (g .count)) (isIll (g .total)) (isIll (g .lowest)) (isIll (g .highest)) (isBlank (g .count)) (isBlank (g .total)) (isBlank (g .lowest)) (isBlank (g .highest)) well in
-      (i .1, i .5)
+      let i = nor10 (not (eqb last 10)) (isIll (g .count)) (isIll (g .second)) (isIll (g .total)) (isIll (g .lowest)) (isIll (g .highest)) (isBlank (g .count)) (isBlank (g .total)) (isBlank (g .lowest)) (isBlank (g .highest)) well in
+      (i .1, i .6)
 
 pub count-range : (f : Field) → isIll f ≡ false → isBlank f ≡ false → outside (pos 1) (pos 1024) f ≡ false → (0 < countOf f) × (countOf f ≤ 1024)
 count-range Blank i b o = absurd (true-ne-false b)

@@ -1,5 +1,5 @@
--- What a match is refused with: 2 to 16, so never 1, a line of at most 1,024, a position of at most 501. Assumes nothing.
-use Prim.Native.Nat.{ℕ, zero, suc, _+_, _*_, _%_, _≤_}
+-- What a match is refused with: 2 to 16 or 18, so never 1, a line of at most 1,024, a position of at most 501. Assumes nothing.
+use Prim.Native.Nat.{ℕ, zero, suc, _+_, _*_, _%_, _≤_, _<_}
 use mathlib.Core.Path.{_≡_, refl, ap, subst, _∙_}
 use mathlib.Core.Bool.{Bool, false, not, _||_}
 use mathlib.Core.List.{List, [], _∷_}
@@ -26,12 +26,12 @@ use Rattle.report.proofs.Rows.{row-small, AllSmall}
 
 -- ---- a position
 
--- a refusal from 2 to 16 at line m or before
+-- a refusal from 2 to 16, or 18, at line m or before
 abbrev pub Named : ℕ → Refusal → Type 0
-Named m r = (2 ≤ numberOf r) × (numberOf r ≤ 16) × (lineOf r ≤ m)
+Named m r = (2 ≤ numberOf r) × (16 < numberOf r → numberOf r ≡ 18) × (lineOf r ≤ m)
 
 of-table : (r : Refusal) → OfTable 1024 r → Named 1024 r
-of-table r n = (n .0, omega (arith, n .1), n .2)
+of-table r n = (n .0, (λ l. n .1 (omega arith)), n .2)
 
 good-length : (n : ℕ) → 1 ≤ n → n ≤ 1024 → badLength (25 + 25 * n) ≡ false
 good-length n p q =
@@ -46,7 +46,7 @@ read-upto s g (refused r) e = of-table r (refused-named s r g e)
 read-upto s g (fine t) e = tt
 
 judge-upto : (t : Table) (i : ℤ) (v : Verdict Judgement) → judge t i ≡ v → Upto (Named 1024) v
-judge-upto t i (refused r) e = subst (Named 1024) (judge-refused t i r e) (omega arith, omega arith, omega arith)
+judge-upto t i (refused r) e = subst (Named 1024) (judge-refused t i r e) (omega arith, (λ l. omega arith), omega arith)
 judge-upto t i (fine j) e = tt
 
 scored-upto : (i : ℤ) (text : List ℕ) → badLength (length text) ≡ false → Upto (Named 1024) (scored i text)
@@ -58,7 +58,7 @@ module _ (s : List ℕ) where
   head-upto : Upto (OfTable 1024) (headIs s)
   head-upto =
       unless-upto (OfTable 1024) (headChecks (headIn s)) (nodesIn s)
-      ((omega arith, omega arith, omega arith), ((omega arith, omega arith, omega arith), ((omega arith, omega arith, omega arith), tt)))
+      ((omega arith, (λ l. omega arith), omega arith), ((omega arith, (λ l. omega arith), omega arith), ((omega arith, (λ l. omega arith), omega arith), tt)))
 
   pub head-named : (r : Refusal) → headIs s ≡ refused r → OfTable 1024 r
   head-named r e = subst (Upto (OfTable 1024)) e head-upto
@@ -72,7 +72,7 @@ module _ (s : List ℕ) where
 
   position-upto : Upto (Named 1024) (positionOf s)
   position-upto =
-      by-cases s (Upto (Named 1024)) (omega arith, omega arith, omega arith) (λ r e. of-table r (head-named r e))
+      by-cases s (Upto (Named 1024)) (omega arith, (λ l. omega arith), omega arith) (λ r e. of-table r (head-named r e))
       (λ n e l. scored-upto (valueOf (playIn s)) (tableIn s) (table-good n e l))
 
   -- "1 is not given here"
@@ -102,14 +102,14 @@ reached-within left k s o h (fine r) e = after-within left k o r (row-small s r 
 
 match-within : (left k : ℕ) (s : List ℕ) → Within left k (matchFrom left k s)
 unfolding matchFrom
-match-within zero k s = begins-within zero k s (stopped TooMany k) (omega arith, omega arith, (omega arith, omega arith, omega arith))
+match-within zero k s = begins-within zero k s (stopped TooMany k) (omega arith, omega arith, (omega arith, (λ l. omega arith), omega arith))
 match-within (suc left) k s =
     let rest : List ℕ = drop (sizeOf s) s in
     begins-within (suc left) k s (reached k (matchFrom left (suc k) rest) (positionOf s))
     (reached-within left k s (matchFrom left (suc k) rest) (match-within left (suc k) rest) (positionOf s) refl)
 
 module _ (file : List ℕ) where
-  -- a refusal of the match has a number from 2 to 16, and a position from 1 to 501
+  -- a refusal of the match has a number from 2 to 16, or 18, and a position from 1 to 501
   pub match-refused : (r : Refusal) (k : ℕ) → matchOf file ≡ stopped r k → (1 ≤ k) × (k ≤ 501) × Named 1024 r
   match-refused r k e = subst (Within 500 1) e (match-within 500 1 file)
 

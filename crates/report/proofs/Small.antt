@@ -4,7 +4,7 @@ use mathlib.Core.Path.{_≡_, refl, subst}
 use mathlib.Core.Bool.{Bool, true, false, cond}
 use mathlib.Core.List.{List}
 use mathlib.Core.Option.{Option, none, some}
-use native.Mathlib.Nat.{one-le-pow, le-trans, mul-le-mul-right, div-le-of-le-mul}
+use native.Mathlib.Nat.{le-trans, mul-le-mul-right, div-le-of-le-mul}
 use native.Mathlib.Omega.{arith}
 use lib.Dec.{eqb}
 use lib.ListN.{length}
@@ -12,11 +12,11 @@ use lib.IntN.{ℤ}
 use Rattle.line.specs.Refusal.{Verdict, refused, fine}
 use Rattle.line.specs.Line.{toNat}
 use Rattle.table.specs.Tree.{Forest, end, leaf, inner}
-use Rattle.table.specs.Table.{Table, readText, greatest, grain}
+use Rattle.table.specs.Table.{Table, readText, grain}
 use Rattle.table.specs.Inside.{heightTree}
 use Rattle.table.specs.Accepted.{span}
 use Rattle.table.specs.Root.{Side, AtM, AtN, Root, nobody, toPlay, rootOf, children, nodes, numbered}
-use Rattle.table.proofs.Accepted.{accepted-ranged, accepted-grain}
+use Rattle.table.proofs.Accepted.{some-grain, accepted-grain}
 use Rattle.table.proofs.Ends.{accepted-span}
 use Rattle.worth.specs.Worth.{Share}
 use Rattle.worth.specs.Inside.Heights.{heightWorth, SmallWorths}
@@ -81,7 +81,7 @@ module _ (s : List ℕ) (t : Table) (p : readText s ≡ fine t) (i : ℤ) where
   small-within noDecision w = tt
   small-within (judged loss level) w =
       record {
-        some = one-le-pow (greatest (t .lines)) (t .head .total) (accepted-ranged s t p .some);
+        some = some-grain s t p;
         most = le-trans w (mul-le-mul-right (grain t) (accepted-span s t p));
         grains = accepted-grain s t p;
       }

@@ -7,10 +7,9 @@ use native.Mathlib.Decide.{decLe}
 use native.Mathlib.Nat.{max-eq-left, max-eq-right, min-eq-left, min-eq-right, mul-le-mul-left, mul-le-mul-right, div-le-of-le-mul}
 use native.Mathlib.Omega.{arith}
 use Rattle.table.specs.Tree.{Kind, MAX, MIN, CHANCE, Forest, end, leaf, inner, isChance, weigh}
-use Rattle.table.specs.Accepted.{one, Balanced, Proper}
+use Rattle.table.specs.Accepted.{one, Proper}
 use Rattle.worth.specs.Worth.{Share, total}
 use Rattle.worth.specs.Inside.Heights.{tallest, shortest, summed, heightValue, heightShares, SmallWorths}
-use Rattle.worth.specs.Inside.{Totals}
 
 -- ---- lists of shares
 
@@ -71,11 +70,3 @@ module _ (G : ℕ) where
   small T K S d c u (inner n w k under rest) p =
       let s : SmallWorths G (S * G) under = small T K S (suc d) (c + one k) (isChance k) under (p .3) in
       (value-le (S * G) k (heightShares G under) (small-each (S * G) under s), s, small T K S d c u rest (p .4))
-
--- ---- own totals
-
--- what holds of T holds of every C's own total
-pub own-totals : (P : ℕ → Type 0) (T : ℕ) → P T → {A : Type 0} (F : Forest A) → Balanced T F → Totals P F
-own-totals P T p end b = tt
-own-totals P T p (leaf n w v rest) b = own-totals P T p rest b
-own-totals P T p (inner n w k under rest) b = (λ i. subst P (sym (b .0 i)) p, own-totals P T p under (b .1), own-totals P T p rest (b .2))

@@ -15,7 +15,7 @@ use Rattle.table.specs.Table.{Table, readText, summary, grain}
 use Rattle.table.specs.Accepted.{Rooted}
 use Rattle.table.specs.Slices.{heightOf, stopsOf, weightsOf, heightsOf, fitted}
 use Rattle.table.specs.Inside.{heightTree}
-use Rattle.table.proofs.Accepted.{accepted-size, accepted-grain, heights-rooted, heights-filled}
+use Rattle.table.proofs.Accepted.{accepted-size, accepted-grain, heights-rooted, heights-filled, heights-totals}
 use Rattle.table.proofs.Complete.{stops-long}
 use Rattle.table.proofs.Laid.{fitted-long}
 use Rattle.table.proofs.Ends.{rooted-some, span-grains}
@@ -26,7 +26,7 @@ use Rattle.worth.specs.declared.Exact.the-variants.{Grains}
 use Rattle.worth.specs.Call.{exactCall}
 use Rattle.worth.specs.Inside.Heights.{tallest, heightValue, heightShares, firstHeight, heightWorth}
 use Rattle.worth.specs.Inside.{Beside, beside, Reach, OkScale, Fits, ReadyRun, Worthy}
-use Rattle.worth.proofs.Worth.{heights-small, heights-totals, shift, height-within}
+use Rattle.worth.proofs.Worth.{heights-small, shift, height-within}
 use Rattle.worth.proofs.Text.{accepted-lays}
 
 -- one node is worth to a MAX what it is worth

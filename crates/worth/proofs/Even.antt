@@ -1,13 +1,13 @@
--- Worths over heights: no division by a C's own total, which is T, leaves a remainder. Assumes nothing.
-use Prim.Native.Nat.{ℕ, suc, _+_, _*_, _/_, _^_, _<_, _∣_}
-use mathlib.Core.Path.{_≡_, refl, sym, _∙_}
-use mathlib.Core.Bool.{Bool, true}
+-- Worths over heights: no division by a C's own sum leaves a remainder, as the grain count is divided by the sums on each path. Assumes nothing.
+use Prim.Native.Nat.{ℕ, _*_, _/_, _<_, _∣_}
+use mathlib.Core.Path.{_≡_, refl, sym}
+use mathlib.Core.Bool.{true}
 use mathlib.Core.List.{List, [], _∷_}
-use native.Mathlib.Nat.{dvd-trans, dvd-zero, dvd-add, dvd-mul-right, dvd-mul-left-of-dvd, dvd-of-mul-dvd-mul-left, mul-div-cancel', add-zero}
-use Rattle.numbers.proofs.Powers.{power-dvd, power-more}
+use native.Mathlib.Nat.{dvd-trans, dvd-zero, dvd-add, dvd-mul-right, dvd-mul-left-of-dvd, dvd-of-mul-dvd-mul-left, mul-div-cancel'}
 use Rattle.line.proofs.Signs.{true-ne-false}
-use Rattle.table.specs.Tree.{Kind, MAX, MIN, CHANCE, Forest, end, leaf, inner, isChance, weigh}
-use Rattle.table.specs.Accepted.{one, Sums, Balanced, Proper}
+use Rattle.table.specs.Tree.{Kind, MAX, MIN, CHANCE, Forest, end, leaf, inner, isChance}
+use Rattle.table.specs.Accepted.{Totals}
+use Rattle.table.proofs.Totals.{grade, Divided}
 use Rattle.worth.specs.Worth.{Share, total}
 use Rattle.worth.specs.Inside.Heights.{summed, heightValue, heightShares, ExactHeights}
 use Rattle.worth.proofs.Bounds.{Each, tallest-one, shortest-one, weights-shares}
@@ -25,40 +25,37 @@ share-whole T g s h = mul-div-cancel' T (dvd-trans T (dvd-mul-right T g) h)
 share-dvd : (T g s : ℕ) → 0 < T → T * g ∣ s → g ∣ s / T
 share-dvd T g s p h = dvd-of-mul-dvd-mul-left g p (rw (share-whole T g s h) h)
 
--- one node, from its children, whose weights sum to T where it is a C: one C more stands above them then
-value-dvd : (T c : ℕ) (k : Kind) (xs : List (Share ℕ)) → 0 < T → Sums k T (total xs) → Each (λ (x : ℕ). T ^ (c + one k) ∣ x) xs → T ^ c ∣ heightValue k xs
+-- one node, from its children: where they are divided by its own sum times g, or g at M and N, g divides its worth
+value-dvd : (g : ℕ) (k : Kind) (xs : List (Share ℕ)) → (isChance k ≡ true → 0 < total xs) → Each (λ (x : ℕ). grade k (total xs) g ∣ x) xs → g ∣ heightValue k xs
 unfolding heightValue
-value-dvd T c MAX xs p w e = tallest-one (λ (x : ℕ). T ^ c ∣ x) (dvd-zero (T ^ c)) xs (rw (add-zero c) at e)
-value-dvd T c MIN xs p w e = shortest-one (λ (x : ℕ). T ^ c ∣ x) (dvd-zero (T ^ c)) xs (rw (add-zero c) at e)
-value-dvd T c CHANCE xs p w e = rw (w refl) (share-dvd T (T ^ c) (summed xs) p (rw (power-more T c) at (summed-dvd (T ^ (c + 1)) xs e)))
+value-dvd g MAX xs p e = tallest-one (λ (x : ℕ). g ∣ x) (dvd-zero g) xs e
+value-dvd g MIN xs p e = shortest-one (λ (x : ℕ). g ∣ x) (dvd-zero g) xs e
+value-dvd g CHANCE xs p e = share-dvd (total xs) g (summed xs) (p refl) (summed-dvd (total xs * g) xs e)
 
-value-whole : (T c : ℕ) (k : Kind) (xs : List (Share ℕ)) → Sums k T (total xs) → Each (λ (x : ℕ). T ^ (c + one k) ∣ x) xs → isChance k ≡ true
+value-whole : (g : ℕ) (k : Kind) (xs : List (Share ℕ)) → Each (λ (x : ℕ). grade k (total xs) g ∣ x) xs → isChance k ≡ true
     → total xs * heightValue k xs ≡ summed xs
 unfolding heightValue
-value-whole T c MAX xs w e i = absurd (true-ne-false (sym i))
-value-whole T c MIN xs w e i = absurd (true-ne-false (sym i))
-value-whole T c CHANCE xs w e i = rw (w refl) (share-whole T (T ^ c) (summed xs) (rw (power-more T c) at (summed-dvd (T ^ (c + 1)) xs e)))
+value-whole g MAX xs e i = absurd (true-ne-false (sym i))
+value-whole g MIN xs e i = absurd (true-ne-false (sym i))
+value-whole g CHANCE xs e i = share-whole (total xs) g (summed xs) (summed-dvd (total xs * g) xs e)
 
--- forests below c C, where no path has more than K
-module _ (T K : ℕ) (some : 0 < T) (ok : ℕ → Type 0) where
-  -- a C's own total is T
-  own : (k : Kind) (F : Forest ℕ) → Sums k T (weigh F) → Sums k T (total (heightShares (T ^ K) F))
-  own k F b i = weights-shares (T ^ K) F ∙ b i
-
-  even : (d c : ℕ) (u : Bool) (F : Forest ℕ) → Proper T K ok d c u F → Balanced T F → Each (λ (x : ℕ). T ^ c ∣ x) (heightShares (T ^ K) F)
+module _ (G : ℕ) where
+  -- a leaf of G grains to the point is divided by what divides G
+  even : (g : ℕ) (F : Forest ℕ) → Divided G g F → Totals (λ (n : ℕ). 0 < n) F → Each (λ (x : ℕ). g ∣ x) (heightShares G F)
   unfolding heightShares
-  even d c u end p b = tt
-  even d c u (leaf n w h rest) p b = (dvd-mul-left-of-dvd (T ^ c) (power-dvd T c K (p .3)) h, even d c u rest (p .4) b)
-  even d c u (inner n w k under rest) p b = (
-    value-dvd T c k (heightShares (T ^ K) under) some (own k under (b .0)) (even (suc d) (c + one k) (isChance k) under (p .3) (b .1)),
-    even d c u rest (p .4) (b .2),
-  )
+  even g end d b = tt
+  even g (leaf n w h rest) d b = (dvd-mul-left-of-dvd g (d .0) h, even g rest (d .1) b)
+  even g (inner n w k under rest) d b =
+      let e = weights-shares G under in (
+        value-dvd g k (heightShares G under) (λ i. rw e (b .0 i)) (rw e (even _ under (d .1) (b .1))),
+        even g rest (d .2) (b .2),
+      )
 
-  pub exact-heights : (d c : ℕ) (u : Bool) (F : Forest ℕ) → Proper T K ok d c u F → Balanced T F → ExactHeights (T ^ K) F
-  exact-heights d c u end p b = tt
-  exact-heights d c u (leaf n w h rest) p b = exact-heights d c u rest (p .4) b
-  exact-heights d c u (inner n w k under rest) p b = (
-    value-whole T c k (heightShares (T ^ K) under) (own k under (b .0)) (even (suc d) (c + one k) (isChance k) under (p .3) (b .1)),
-    exact-heights (suc d) (c + one k) (isChance k) under (p .3) (b .1),
-    exact-heights d c u rest (p .4) (b .2),
+  pub exact-heights : (g : ℕ) (F : Forest ℕ) → Divided G g F → Totals (λ (n : ℕ). 0 < n) F → ExactHeights G F
+  exact-heights g end d b = tt
+  exact-heights g (leaf n w h rest) d b = exact-heights g rest (d .1) b
+  exact-heights g (inner n w k under rest) d b = (
+    value-whole g k (heightShares G under) (rw (weights-shares G under) (even _ under (d .1) (b .1))),
+    exact-heights _ under (d .1) (b .1),
+    exact-heights g rest (d .2) (b .2),
   )

@@ -13,12 +13,11 @@ use Rattle.line.specs.declared.Head.{Head}
 use Rattle.line.specs.Line.{Within}
 use Rattle.line.proofs.Signs.{true-ne-false}
 use Rattle.table.specs.Tree.{Kind, MAX, MIN, CHANCE, Forest, end, leaf, inner, isChance, isEnd, weigh}
-use Rattle.table.specs.Accepted.{one, Filled, Proper}
+use Rattle.table.specs.Accepted.{one, Filled, Totals, Proper}
 use Rattle.table.proofs.Heights.{above, mapForest, map-end, map-weigh}
 use Rattle.table.proofs.Ends.{utility-shift}
 use Rattle.worth.specs.Worth.{Share, total, largest, smallest, weighted, value, shares, firstWorth, Exact}
 use Rattle.worth.specs.Inside.Heights.{tallest, shortest, summed, heightValue, heightShares, firstHeight, raised, ExactHeights}
-use Rattle.worth.specs.Inside.{Totals}
 use Rattle.worth.proofs.Bounds.{weights-shares}
 
 -- a list that is not empty

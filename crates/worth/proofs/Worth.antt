@@ -8,17 +8,18 @@ use lib.IntN.{ℤ, pos, _+ℤ_, _*ℤ_, +ℤ-idr}
 use lib.Signed.{leZ}
 use Rattle.numbers.proofs.Above.{le-above}
 use Rattle.line.specs.Refusal.{fine}
+use Rattle.line.specs.Line.{totals, among, larger}
 use Rattle.table.specs.Tree.{Forest, end, leaf, inner, weigh}
 use Rattle.table.specs.Table.{Table, tree, readText, greatest, grain}
 use Rattle.table.specs.Inside.{heightTree}
-use Rattle.table.specs.Accepted.{span, Balanced}
+use Rattle.table.specs.Accepted.{span, OkTotal, Balanced}
 use Rattle.table.proofs.Heights.{heights-map}
-use Rattle.table.proofs.Accepted.{accepted-ranged, accepted-proper, accepted-filled, accepted-balanced, heights-rooted, heights-proper, heights-balanced}
+use Rattle.table.proofs.Accepted.{accepted-proper, accepted-filled, accepted-balanced, accepted-totals, heights-rooted, heights-proper, heights-totals, heights-divided}
+use Rattle.table.proofs.Totals.{totals-all}
 use Rattle.table.proofs.Ends.{rooted-some, top}
 use Rattle.worth.specs.Worth.{Share, total, shares, worthOf, firstWorth, TotalsAre, Exact}
 use Rattle.worth.specs.Inside.Heights.{heightShares, firstHeight, heightWorth, raised, ExactHeights, SmallWorths}
-use Rattle.worth.specs.Inside.{Totals, OkTotal}
-use Rattle.worth.proofs.Bounds.{Each, small, small-each, own-totals}
+use Rattle.worth.proofs.Bounds.{Each, small, small-each}
 use Rattle.worth.proofs.Even.{exact-heights}
 use Rattle.worth.proofs.Shift.{Divides, first-shift, some-shares, shares-shift, exact-shift}
 
@@ -34,30 +35,25 @@ shares-weigh G end = refl
 shares-weigh G (leaf n w u rest) = ap (λ (x : ℕ). w + x) (shares-weigh G rest)
 shares-weigh G (inner n w k under rest) = ap (λ (x : ℕ). w + x) (shares-weigh G rest)
 
-balanced-are : (T G : ℕ) (F : Forest ℤ) → Balanced T F → TotalsAre T G F
-balanced-are T G end b = tt
-balanced-are T G (leaf n w u rest) b = balanced-are T G rest b
-balanced-are T G (inner n w k under rest) b = (λ i. shares-weigh G under ∙ b .0 i, balanced-are T G under (b .1), balanced-are T G rest (b .2))
+balanced-are : (ts : List ℕ) (G : ℕ) (F : Forest ℤ) → Balanced ts F → TotalsAre ts G F
+balanced-are ts G end b = tt
+balanced-are ts G (leaf n w u rest) b = balanced-are ts G rest b
+balanced-are ts G (inner n w k under rest) b =
+    (λ i. ap (λ (n : ℕ). among n ts) (shares-weigh G under) ∙ b .0 i, balanced-are ts G under (b .1), balanced-are ts G rest (b .2))
 
 module _ (s : List ℕ) (t : Table) (h : readText s ≡ fine t) where
-  pub totals-are : TotalsAre (t .head .total) (grain t) (tree t)
-  totals-are = balanced-are (t .head .total) (grain t) (tree t) (accepted-balanced s t h)
+  pub totals-are : TotalsAre (totals (t .head)) (grain t) (tree t)
+  totals-are = balanced-are (totals (t .head)) (grain t) (tree t) (accepted-balanced s t h)
 
   -- ---- over heights
 
   pub heights-exact : ExactHeights (grain t) (heightTree t)
   heights-exact =
-      exact-heights (t .head .total) (greatest (t .lines)) (accepted-ranged s t h .some) (λ (x : ℕ). x ≤ span (t .head)) 0 0 false (heightTree t)
-      (heights-proper s t h) (heights-balanced s t h)
+      exact-heights (grain t) 1 (heightTree t) (heights-divided s t h) (totals-all OkTotal (λ (n : ℕ). 0 < n) (λ n o. o .0) (heightTree t) (heights-totals s t h))
 
   pub heights-small : SmallWorths (grain t) (span (t .head) * grain t) (heightTree t)
   heights-small =
-      small (grain t) (t .head .total) (greatest (t .lines)) (span (t .head)) 0 0 false (heightTree t) (heights-proper s t h)
-
-  pub heights-totals : Totals OkTotal (heightTree t)
-  heights-totals =
-      let r = accepted-ranged s t h in
-      own-totals OkTotal (t .head .total) (r .some, r .total) (heightTree t) (heights-balanced s t h)
+      small (grain t) (larger (t .head)) (greatest (t .lines)) (span (t .head)) 0 0 false (heightTree t) (heights-proper s t h)
 
   pub height-within : heightWorth t ≤ span (t .head) * grain t
   height-within =
@@ -67,12 +63,12 @@ module _ (s : List ℕ) (t : Table) (h : readText s ≡ fine t) where
   -- ---- over the integers
 
   pub divides : Divides (tree t)
-  divides = own-totals (λ (n : ℕ). 0 < n) (t .head .total) (accepted-ranged s t h .some) (tree t) (accepted-balanced s t h)
+  divides = totals-all OkTotal (λ (n : ℕ). 0 < n) (λ n o. o .0) (tree t) (accepted-totals s t h)
 
   -- the root with its worth; shares-shift of proofs/Shift.antt says it of the nodes under any node
   pub shift-shares : shares (grain t) (tree t) ≡ map (raised (t .head .lowest *ℤ pos (grain t))) (heightShares (grain t) (heightTree t))
   shift-shares =
-      rw (heights-map t) (shares-shift (grain t) (t .head) (t .head .total) (greatest (t .lines)) 0 0 false (tree t) (accepted-proper s t h)
+      rw (heights-map t) (shares-shift (grain t) (t .head) (larger (t .head)) (greatest (t .lines)) 0 0 false (tree t) (accepted-proper s t h)
       (accepted-filled s t h) divides)
 
   pub shift : worthOf t ≡ t .head .lowest *ℤ pos (grain t) +ℤ pos (heightWorth t)
@@ -83,7 +79,7 @@ module _ (s : List ℕ) (t : Table) (h : readText s ≡ fine t) where
 
   pub exact : Exact (grain t) (tree t)
   exact =
-      exact-shift (grain t) (t .head) (t .head .total) (greatest (t .lines)) 0 0 false (tree t) (accepted-proper s t h) (accepted-filled s t h)
+      exact-shift (grain t) (t .head) (larger (t .head)) (greatest (t .lines)) 0 0 false (tree t) (accepted-proper s t h) (accepted-filled s t h)
       divides (rw (heights-map t) at heights-exact)
 
   pub within : (leZ (t .head .lowest *ℤ pos (grain t)) (worthOf t) ≡ true) × (leZ (worthOf t) (t .head .highest *ℤ pos (grain t)) ≡ true)

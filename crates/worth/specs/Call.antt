@@ -6,7 +6,7 @@ use Rattle.worth.specs.declared.Exact.{Exact}
 use Rattle.worth.specs.declared.Exact.the-variants.{Grains, Refused}
 use Rattle.worth.specs.Worth.{worthOf}
 
--- the exact worth in grains and G, or refusal 1 to 10
+-- the exact worth in grains and G, or refusal 1 to 10 or 18
 abbrev pub exactCall : Verdict Table → Exact
 exactCall (refused r) = Refused r
 exactCall (fine t) = Grains (worthOf t) (grain t)

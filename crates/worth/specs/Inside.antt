@@ -7,7 +7,7 @@ use mathlib.Core.List.{List, [], _∷_}
 use lib.ListN.{length, getD, take, drop}
 use Rattle.line.specs.Line.{letterCode}
 use Rattle.table.specs.Tree.{Kind, MAX, MIN, CHANCE, Forest, end, leaf, inner, codeOf, isChance, isEnd, weigh}
-use Rattle.table.specs.Accepted.{Filled}
+use Rattle.table.specs.Accepted.{OkTotal, Filled, Totals}
 use Rattle.table.specs.Inside.{taken}
 use Rattle.scale.specs.declared.Scale.{Scale}
 use Rattle.worth.specs.Worth.{Share}
@@ -56,16 +56,6 @@ weighing CHANCE w = w
 unfoldable pub takeAll : Kind → ℕ → List (Share ℕ) → ℕ
 takeAll k a [] = a
 takeAll k a (x ∷ xs) = takeAll k (taken k a (x .weight) (x .worth)) xs
-
--- P of every C's own total
-abbrev pub Totals : (P : ℕ → Type 0) {A : Type 0} → Forest A → Type 0
-Totals P end = Unit {0}
-Totals P (leaf n w v rest) = Totals P rest
-Totals P (inner n w k under rest) = (isChance k ≡ true → P (weigh under)) × Totals P under × Totals P rest
-
--- "T 1 to 64"
-abbrev pub OkTotal : ℕ → Type 0
-OkTotal n = (0 < n) × (n ≤ 64)
 
 -- the numbers of an accepted table
 pub record OkScale (g : Scale) : Type 0 where

@@ -1,10 +1,11 @@
--- The worth of a table: equation (1) of document 000, in whole grains. Document 01, 'Grains'.
+-- The worth of a table: equation (1) of document 000, in whole grains. Document 01, 'Grains'; document 02, Item 5.
 use Prim.Native.Nat.{ℕ, _+_}
 use mathlib.Core.Bool.{true}
 use mathlib.Core.List.{List, [], _∷_}
 use mathlib.Core.Path.{_≡_}
 use lib.IntN.{ℤ, pos, _+ℤ_, _*ℤ_}
 use Rattle.numbers.specs.Integers.{maxZ, minZ, floorZ}
+use Rattle.line.specs.Line.{among}
 use Rattle.table.specs.Tree.{Kind, MAX, MIN, CHANCE, Forest, end, leaf, inner, isChance}
 use Rattle.table.specs.Table.{Table, tree, grain}
 
@@ -29,7 +30,8 @@ unfoldable pub weighted : List (Share ℤ) → ℤ
 weighted [] = pos 0
 weighted (x ∷ xs) = pos (x .weight) *ℤ x .worth +ℤ weighted xs
 
--- "A C's weights sum to T": the sum of a node's own weights. That it is T at every C of an accepted table is a theorem (proofs/Worth.totals-are).
+-- "A C's weights sum to T", by Item 5 "to either total, and its own sum is its T in every rule": the sum of a node's own weights. That it is one of the
+-- totals at every C of an accepted table is a theorem (proofs/Worth.totals-are).
 unfoldable pub total : {A : Type 0} → List (Share A) → ℕ
 total [] = 0
 total (x ∷ xs) = x .weight + total xs
@@ -55,11 +57,11 @@ firstWorth (x ∷ xs) = x .worth
 abbrev pub worthOf : Table → ℤ
 worthOf t = firstWorth (shares (grain t) (tree t))
 
--- "A C's weights sum to T": at every C of the tree the own total, by which its worth is divided, is T
-abbrev pub TotalsAre : (T G : ℕ) → Forest ℤ → Type 0
-TotalsAre T G end = Unit {0}
-TotalsAre T G (leaf n w u rest) = TotalsAre T G rest
-TotalsAre T G (inner n w k under rest) = (isChance k ≡ true → total (shares G under) ≡ T) × TotalsAre T G under × TotalsAre T G rest
+-- "A chance line's weights sum to either total": at every C of the tree the own sum, by which its worth is divided, is one of these
+abbrev pub TotalsAre : (ts : List ℕ) (G : ℕ) → Forest ℤ → Type 0
+TotalsAre ts G end = Unit {0}
+TotalsAre ts G (leaf n w u rest) = TotalsAre ts G rest
+TotalsAre ts G (inner n w k under rest) = (isChance k ≡ true → among (total (shares G under)) ts ≡ true) × TotalsAre ts G under × TotalsAre ts G rest
 
 -- "that division never leaves a remainder": at every C of the tree, its own total × its worth is the sum of weight × worth over its children
 abbrev pub Exact : (G : ℕ) → Forest ℤ → Type 0
