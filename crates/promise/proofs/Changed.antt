@@ -1,19 +1,16 @@
 -- Two accepted tables that differ in utilities of unread leaves alone: the same answer, and what it says is still true. Assumes nothing.
-use Prim.Native.Nat.{ℕ, _+_, _^_, max}
+use Prim.Native.Nat.{ℕ, _+_}
 use mathlib.Core.Path.{_≡_, refl, sym, ap, ap₂, subst, _∙_}
 use mathlib.Core.Bool.{Bool, true}
-use mathlib.Core.List.{List, [], _∷_, _++_}
+use mathlib.Core.List.{List}
 use mathlib.Core.Option.{some}
-use native.Mathlib.Omega.{arith}
 use lib.IntN.{ℤ, pos, _+ℤ_, _*ℤ_}
 use lib.Signed.{leZ}
 use Rattle.line.specs.declared.Head.{Head}
-use Rattle.line.specs.declared.Line.{Line}
+use Rattle.line.specs.Line.{totals}
 use Rattle.line.specs.Refusal.{fine}
-use Rattle.table.specs.Tree.{Forest, weigh}
-use Rattle.table.specs.Table.{Table, tree, readText, greatest, grain}
-use Rattle.table.specs.Accepted.{one, flat}
-use Rattle.table.proofs.Accepted.{accepted-flat}
+use Rattle.table.specs.Tree.{Forest, weigh, powers, uses, grainOf}
+use Rattle.table.specs.Table.{Table, tree, readText, grain}
 use Rattle.worth.specs.Worth.{worthOf}
 use Rattle.search.specs.Search.{Frame, Seen, unlimited, framed, searchRoot, nodeOf}
 use Rattle.search.specs.Whole.{whole, inGrains, rules, searched, searchedUntil}
@@ -34,36 +31,23 @@ alike-weigh alike-end = refl
 alike-weigh (alike-leaf {w = w} q a) = ap (λ (x : ℕ). w + x) (alike-weigh a)
 alike-weigh (alike-inner {w = w} u a) = ap (λ (x : ℕ). w + x) (alike-weigh a)
 
--- ---- K is that of the lines without their utilities
+-- ---- no utility stands in the uses of a total
 
-max-max : (a b c : ℕ) → max a (max b c) ≡ max (max a b) c
-max-max a b c = omega arith
+alike-uses : {P : ℕ → Type 0} (t : ℕ) {f g : Forest ℤ} → Alike P f g → uses t f ≡ uses t g
+unfolding uses
+alike-uses t alike-end = refl
+alike-uses t (alike-leaf q a) = alike-uses t a
+alike-uses t (alike-inner u a) = rw (alike-weigh u, alike-uses t u, alike-uses t a) refl
 
-pub greatest-both : (xs ys : List Line) → greatest (xs ++ ys) ≡ max (greatest xs) (greatest ys)
-unfolding greatest
-greatest-both [] ys = omega arith
-greatest-both (x ∷ xs) ys = ap (max (x .chances)) (greatest-both xs ys) ∙ max-max (x .chances) (greatest xs) (greatest ys)
-
-alike-greatest : {P : ℕ → Type 0} (p c : ℕ) {f g : Forest ℤ} → Alike P f g → greatest (flat p c f) ≡ greatest (flat p c g)
-unfolding greatest flat
-alike-greatest p c alike-end = refl
-alike-greatest p c (alike-leaf q a) = ap (max c) (alike-greatest p c a)
-alike-greatest p c (alike-inner {n} {w} {k} {under} {under2} {rest} {rest2} u a) =
-    ap (max (c + one k)) (
-    greatest-both (flat n (c + one k) under) (flat p c rest)
-    ∙ ap₂ max (alike-greatest n (c + one k) u) (alike-greatest p c a)
-    ∙ sym (greatest-both (flat n (c + one k) under2) (flat p c rest2)))
+pub alike-grain : {P : ℕ → Type 0} (ts : List ℕ) {f g : Forest ℤ} → Alike P f g → grainOf ts f ≡ grainOf ts g
+alike-grain ts a i = powers ts (λ (t : ℕ). alike-uses t a i)
 
 -- ---- the same header, and trees that differ in unread leaves alone
 
 module _ (a b : List ℕ) (t u : Table) (p : readText a ≡ fine t) (q : readText b ≡ fine u) (ε : ℕ) (full : List ℕ → Bool) (same : u .head ≡ t .head)
     (alike : Alike (ReadBy (searchedUntil t ε full)) (tree t) (tree u)) where
-  same-greatest : greatest (u .lines) ≡ greatest (t .lines)
-  same-greatest =
-      ap greatest (sym (accepted-flat b u q)) ∙ sym (alike-greatest 0 0 alike) ∙ ap greatest (accepted-flat a t p)
-
   pub same-grain : grain u ≡ grain t
-  same-grain = ap₂ (λ (h : Head) (k : ℕ). h .total ^ k) same same-greatest
+  same-grain = ap (λ (h : Head). grainOf (totals h) (tree u)) same ∙ sym (alike-grain (totals (t .head)) alike)
 
   -- the search from the header, G and the tree
   abbrev searchOf : Head → ℕ → Forest ℤ → Seen ℤ

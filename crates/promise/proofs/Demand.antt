@@ -9,17 +9,18 @@ use lib.IntN.{ℤ, pos, _+ℤ_, _*ℤ_, +ℤ-assoc}
 use lib.Signed.{ltZ, leZ}
 use Rattle.numbers.proofs.Above.{le-above}
 use Rattle.line.specs.Refusal.{fine}
+use Rattle.line.specs.Line.{larger}
 use Rattle.table.specs.Tree.{Forest, isEnd}
 use Rattle.table.specs.Table.{Table, tree, readText, greatest, grain}
 use Rattle.table.specs.Inside.{Spans, heightTree, slicesOf}
-use Rattle.table.specs.Accepted.{span, Filled, Balanced, Proper, Rooted}
+use Rattle.table.specs.Accepted.{span, OkTotal, Filled, Totals, Proper, Rooted}
 use Rattle.table.specs.Root.{Side, AtM, AtN, Root, nobody, toPlay, children, rootOf}
 use Rattle.table.proofs.Heights.{above, mapForest, heights-map}
-use Rattle.table.proofs.Accepted.{accepted-ranged, accepted-proper, accepted-filled, accepted-balanced, accepted-spans, heights-rooted, heights-proper, heights-filled, heights-balanced}
+use Rattle.table.proofs.Totals.{Divided}
+use Rattle.table.proofs.Accepted.{accepted-proper, accepted-filled, accepted-spans, heights-rooted, heights-proper, heights-filled, heights-totals, heights-divided}
 use Rattle.worth.specs.Worth.{worthOf}
 use Rattle.worth.specs.Inside.Heights.{heightWorth, SmallWorths}
-use Rattle.worth.proofs.Bounds.{own-totals}
-use Rattle.worth.proofs.Worth.{heights-small, shift as worth-shift}
+use Rattle.worth.proofs.Worth.{heights-small, divides, shift as worth-shift}
 use Rattle.search.specs.Search.{Seen, unlimited, nodeOf}
 use Rattle.search.specs.Inside.{grained, heightSearched}
 use Rattle.search.specs.Whole.{whole, inGrains, rules, searched, searchedUntil}
@@ -49,10 +50,10 @@ module _ (s : List ℕ) (t : Table) (r : readText s ≡ fine t) where
 
   abbrev Tree : Forest ℕ → Type 0
   Tree f =
-      Proper (t .head .total) (greatest (t .lines)) (λ (x : ℕ). x ≤ span (t .head)) 0 0 false f × Filled f × Balanced (t .head .total) f × Rooted f
+      Proper (larger (t .head)) (greatest (t .lines)) (λ (x : ℕ). x ≤ span (t .head)) 0 0 false f × Filled f × Totals OkTotal f × Rooted f × Divided G 1 f
 
   tree-fine : Tree (heightTree t)
-  tree-fine = (heights-proper s t r, heights-filled s t r, heights-balanced s t r, heights-rooted s t r)
+  tree-fine = (heights-proper s t r, heights-filled s t r, heights-totals s t r, heights-rooted s t r, heights-divided s t r)
 
   -- ---- the root and its children
 
@@ -69,8 +70,8 @@ module _ (s : List ℕ) (t : Table) (r : readText s ≡ fine t) where
 
   child-is : (m v : ℕ) → Child (plain top-height) m v (children (grained G (heightTree t))) → playWorth t m ≡ some (base +ℤ pos v)
   child-is m v c =
-      play-worth (t .head .total) G (greatest (t .lines)) top-height (t .head) (tree t) (accepted-proper s t r) (accepted-filled s t r)
-      (own-totals (λ (n : ℕ). 0 < n) (t .head .total) (accepted-ranged s t r .some) (tree t) (accepted-balanced s t r)) lowered-small (slicesOf t) (length (t .lines)) lowered-spans m v
+      play-worth (larger (t .head)) G (greatest (t .lines)) top-height (t .head) (tree t) (accepted-proper s t r) (accepted-filled s t r)
+      (divides s t r) lowered-small (slicesOf t) (length (t .lines)) lowered-spans m v
       (subst (λ (f : Forest ℕ). Child (plain top-height) m v (children (grained G f))) (heights-map t) c)
 
   -- ---- whatever the budget is
@@ -81,7 +82,7 @@ module _ (s : List ℕ) (t : Table) (r : readText s ≡ fine t) where
 
     -- the bounds over heights hold the worth, and lie between the ends
     pub heights-hold : (heights .low ≤ heightWorth t) × (heightWorth t ≤ heights .high) × (heights .high ≤ span (t .head) * grain t)
-    heights-hold = holds (t .head .total) (greatest (t .lines)) (span (t .head)) ε full (accepted-ranged s t r .some) (heightTree t) tree-fine
+    heights-hold = holds (larger (t .head)) (greatest (t .lines)) G (span (t .head)) ε full (heightTree t) tree-fine
 
     low-is : searchedUntil t ε full .low ≡ base +ℤ pos (heights .low)
     low-is = shifted s t r ε full .0
@@ -122,7 +123,7 @@ module _ (s : List ℕ) (t : Table) (r : readText s ≡ fine t) where
     played : (m : ℕ) → nodeOf (searchedUntil t ε full .play) ≡ some m
         → Played top-height (grained G (heightTree t)) (heights .low) (heights .high) (heightWorth t) m
     played m e =
-        plays (t .head .total) (greatest (t .lines)) (span (t .head)) ε full (accepted-ranged s t r .some) (heightTree t) tree-fine m
+        plays (larger (t .head)) (greatest (t .lines)) G (span (t .head)) ε full (heightTree t) tree-fine m
         (sym (shifted s t r ε full .2) ∙ e)
 
     -- "a named play is worth at least low at M and at most high at N"
@@ -145,7 +146,7 @@ module _ (s : List ℕ) (t : Table) (r : readText s ≡ fine t) where
   module _ (ε : ℕ) where
     pub heights-width : heightSearched t ε unlimited .high ≤ heightSearched t ε unlimited .low + ε
     heights-width =
-        narrow (t .head .total) (greatest (t .lines)) (span (t .head)) ε unlimited (accepted-ranged s t r .some) (λ _. refl) (heightTree t) tree-fine
+        narrow (larger (t .head)) (greatest (t .lines)) G (span (t .head)) ε unlimited (λ _. refl) (heightTree t) tree-fine
 
     -- "demand 3's width": the bounds are at most the margin apart
     pub width : leZ (searched t ε .high) (searched t ε .low +ℤ pos ε) ≡ true

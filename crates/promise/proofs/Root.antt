@@ -1,6 +1,6 @@
 -- The search of a root over heights: its bounds hold the worth, with the play's worth between them and it; where the budget is never spent they are
 -- within the margin, and so is the play. Assumes nothing.
-use Prim.Native.Nat.{ℕ, _+_, _*_, _^_, _≤_, _<_}
+use Prim.Native.Nat.{ℕ, _+_, _*_, _≤_}
 use mathlib.Core.Path.{_≡_, subst}
 use mathlib.Core.Bool.{Bool, false}
 use mathlib.Core.List.{List, []}
@@ -8,8 +8,9 @@ use mathlib.Core.Option.{none, some}
 use native.Mathlib.Omega.{arith}
 use Rattle.field.proofs.Small.{choose}
 use Rattle.table.specs.Tree.{Kind, MAX, MIN, CHANCE, Forest, end, leaf, inner}
-use Rattle.table.specs.Accepted.{Filled, Balanced, Proper, Rooted}
+use Rattle.table.specs.Accepted.{OkTotal, Filled, Totals, Proper, Rooted}
 use Rattle.table.specs.Root.{Root, nobody, toPlay, AtM, AtN, rootOf, children}
+use Rattle.table.proofs.Totals.{Divided}
 use Rattle.worth.specs.Inside.Heights.{heightValue, heightShares, firstHeight, SmallWorths}
 use Rattle.worth.proofs.Bounds.{small}
 use Rattle.search.specs.Search.{Frame, Play, noPlay, child, Seen, Rules, framed, begin, point, metSpent, scan, search, searchRoot, nodeOf}
@@ -53,11 +54,8 @@ played S n w MIN f rest low high m (child j l h) e q =
     record { value = q .0; named = subst (λ (x : ℕ). Child (plain S) x (q .0) f) i (q .1); side = (q .2, q .3) }
 played S n w CHANCE f rest low high m (child j l h) e q = absurd q
 
--- T to the power K grains in a point, and the ends S points apart
-module _ (T K S ε : ℕ) (full : List ℕ → Bool) (some-total : 0 < T) where
-  abbrev G : ℕ
-  G = T ^ K
-
+-- G grains in a point, which the sums on each path divide, and the ends S points apart
+module _ (T K G S ε : ℕ) (full : List ℕ → Bool) where
   abbrev top : ℕ
   top = S * G
 
@@ -71,14 +69,14 @@ module _ (T K S ε : ℕ) (full : List ℕ → Bool) (some-total : 0 < T) where
   exact F = firstHeight (heightShares G F)
 
   abbrev Tree : Forest ℕ → Type 0
-  Tree F = Proper T K (λ (x : ℕ). x ≤ S) 0 0 false F × Filled F × Balanced T F × Rooted F
+  Tree F = Proper T K (λ (x : ℕ). x ≤ S) 0 0 false F × Filled F × Totals OkTotal F × Rooted F × Divided G 1 F
 
   module _ (n w : ℕ) (k : Kind) (under rest : Forest ℕ) (t : Tree (inner n w k under rest)) where
     all-within : Within (plain top) (record { bottom = 0; top = top; total = 0 }) (grained G (inner n w k under rest))
-    all-within = within T S G some-total K 0 0 0 false (inner n w k under rest) (t .0) (t .2)
+    all-within = within T S G K 0 0 0 false (inner n w k under rest) (t .0) (t .2)
 
-    all-fit : Fit (plain top) (T ^ 0) (grained G (inner n w k under rest))
-    all-fit = fit T S K 0 0 false (inner n w k under rest) (t .0) (t .2)
+    all-fit : Fit (plain top) 1 (grained G (inner n w k under rest))
+    all-fit = fit S G 1 (inner n w k under rest) (t .4)
 
     all-small : SmallWorths G top under
     all-small = small G T K S 0 0 false (inner n w k under rest) (t .0) .1
@@ -98,7 +96,7 @@ module _ (T K S ε : ℕ) (full : List ℕ → Bool) (some-total : 0 < T) where
         → search natural R (framed 0 top (grained G under)) k (grained G under) .high ≤ search natural R (framed 0 top (grained G under)) k (grained G under) .low + ε
     unfolding grained
     node-width never =
-        width R never (framed 0 top (grained G under)) k (grained G under) (T ^ 0) (all-within .2) (all-within .3) (all-fit .0) (all-fit .1)
+        width R never (framed 0 top (grained G under)) k (grained G under) 1 (all-within .2) (all-within .3) (all-fit .0) (all-fit .1)
 
     node-play : (m : ℕ) → nodeOf (search natural R (framed 0 top (grained G under)) k (grained G under) .play) ≡ some m
         → Played top (inner n w k (grained G under) (grained G rest)) (search natural R (framed 0 top (grained G under)) k (grained G under) .low)
@@ -115,7 +113,7 @@ module _ (T K S ε : ℕ) (full : List ℕ → Bool) (some-total : 0 < T) where
   holds end t = absurd (t .3)
   holds (leaf n w h rest) t =
       let e : Frame ℕ = framed 0 top end in
-      let i = within T S G some-total K 0 0 0 false (leaf n w h rest) (t .0) (t .2) in
+      let i = within T S G K 0 0 0 false (leaf n w h rest) (t .0) (t .2) in
       let c = hold-met R e [] (h * G) (point n (h * G) []) (hold-point e n (h * G) [] (i .0, i .1)) in
       (c .1, c .2, c .3)
   holds (inner n w k under rest) t =

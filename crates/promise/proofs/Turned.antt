@@ -11,8 +11,8 @@ use Rattle.numbers.proofs.Signs.{Is, plus, minus, parts, is-unique, is-eq, is-n
 use Rattle.numbers.proofs.Above.{is-times, lift}
 use Rattle.line.specs.declared.Head.{Head}
 use Rattle.line.specs.Refusal.{fine}
-use Rattle.line.specs.Line.{toNat, Within}
-use Rattle.table.specs.Tree.{Kind, MAX, MIN, CHANCE, Forest, end, leaf, inner, isChance}
+use Rattle.line.specs.Line.{toNat, totals, larger, Within}
+use Rattle.table.specs.Tree.{Kind, MAX, MIN, CHANCE, Forest, end, leaf, inner, isChance, grainOf}
 use Rattle.table.specs.Table.{Table, tree, readText, greatest, grain}
 use Rattle.table.specs.Inside.{heightTree}
 use Rattle.table.specs.Accepted.{span, one, flat, Proper}
@@ -23,6 +23,7 @@ use Rattle.worth.specs.Worth.{worthOf}
 use Rattle.worth.specs.Inside.Heights.{heightWorth}
 use Rattle.worth.proofs.Worth.{shift as worth-shift}
 use Rattle.turn.specs.Turn.{turnKind, turnHead, turnTree}
+use Rattle.turn.proofs.Tree.{tree-grain-turned}
 use Rattle.search.specs.Search.{Play, noPlay, child, Seen, unlimited, framed, searchRoot, nodeOf}
 use Rattle.search.specs.Whole.{searched, searchedUntil}
 use Rattle.search.specs.Inside.{natural, grained, heightRules, heightSearched}
@@ -30,26 +31,7 @@ use Rattle.search.proofs.Grains.{plain}
 use Rattle.search.proofs.Table.{tree-within, heights-order, shifted}
 use Rattle.promise.specs.Turned.{Turns}
 use Rattle.promise.proofs.Turn.{turn, turn-weigh, turnFrame, turnPlay, turnSeen, turned-root}
-use Rattle.promise.proofs.Changed.{greatest-both}
 use Rattle.promise.proofs.Demand.{heights-hold, heights-width}
-
--- ---- G is the same
-
-one-turn : (k : Kind) → one (turnKind k) ≡ one k
-one-turn MAX = refl
-one-turn MIN = refl
-one-turn CHANCE = refl
-
-turned-greatest : (p c : ℕ) (f : Forest ℤ) → greatest (flat p c (turnTree f)) ≡ greatest (flat p c f)
-unfolding greatest flat turnTree
-turned-greatest p c end = refl
-turned-greatest p c (leaf n w v rest) = ap (max c) (turned-greatest p c rest)
-turned-greatest p c (inner n w k under rest) =
-    ap₂ (λ (j g : ℕ). max (c + j) g) (one-turn k) (
-    ap (λ (j : ℕ). greatest (flat n (c + j) (turnTree under) ++ flat p c (turnTree rest))) (one-turn k)
-    ∙ greatest-both (flat n (c + one k) (turnTree under)) (flat p c (turnTree rest))
-    ∙ ap₂ max (turned-greatest n (c + one k) under) (turned-greatest p c rest)
-    ∙ sym (greatest-both (flat n (c + one k) under) (flat p c rest)))
 
 -- ---- heights from the other end
 
@@ -126,18 +108,13 @@ module _ (a b : List ℕ) (t u : Table) (p : readText a ≡ fine t) (q : readTex
   abbrev S : ℕ
   S = span (t .head) * G
 
-  same-greatest : greatest (u .lines) ≡ greatest (t .lines)
-  same-greatest =
-      ap greatest (sym (accepted-flat b u q)) ∙ ap (λ (f : Forest ℤ). greatest (flat 0 0 f)) (turns .nodes) ∙ turned-greatest 0 0 (tree t)
-      ∙ ap greatest (accepted-flat a t p)
-
   pub same-grain : grain u ≡ grain t
-  same-grain = ap₂ (λ (h : Head) (k : ℕ). h .total ^ k) (turns .head) same-greatest
+  same-grain = ap₂ (λ (h : Head) (f : Forest ℤ). grainOf (totals h) f) (turns .head) (turns .nodes) ∙ tree-grain-turned (totals (t .head)) (tree t)
 
   heights-turn : grained (grain u) (heightTree u) ≡ turn S (grained G (heightTree t))
   heights-turn =
       ap₂ grained same-grain (heights-map u ∙ ap₂ (λ (h : Head) (f : Forest ℤ). mapForest (above (h .lowest)) f) (turns .head) (turns .nodes))
-      ∙ turned-heights (t .head) (t .head .total) (greatest (t .lines)) G 0 0 false (tree t) (accepted-proper a t p)
+      ∙ turned-heights (t .head) (larger (t .head)) (greatest (t .lines)) G 0 0 false (tree t) (accepted-proper a t p)
       ∙ ap (λ (f : Forest ℕ). turn S (grained G f)) (sym (heights-map t))
 
   same-top : span (u .head) * grain u ≡ S

@@ -1,7 +1,7 @@
 -- What an accepted table's tree of heights, in grains, has: every height within the ends, and weights of at least 1. Assumes nothing.
 use Prim.Native.Nat.{ℕ, suc, _+_, _*_, _≤_, _<_}
 use mathlib.Core.Path.{_≡_, refl, ap, ap₂, _∙_}
-use mathlib.Core.Bool.{Bool}
+use mathlib.Core.Bool.{Bool, true}
 use native.Mathlib.Nat.{mul-le-mul-right, le-refl}
 use native.Mathlib.Omega.{arith}
 use lib.IntN.{ℤ, pos, _*ℤ_}
@@ -9,7 +9,7 @@ use Rattle.line.specs.declared.Head.{Head}
 use Rattle.line.specs.Inside.{Weighs}
 use Rattle.line.specs.Line.{Within as Between}
 use Rattle.table.specs.Tree.{Kind, MAX, MIN, CHANCE, Forest, end, leaf, inner, isEnd, isChance, weigh, leaves}
-use Rattle.table.specs.Accepted.{one, Sums, Filled, Balanced, Proper, Rooted}
+use Rattle.table.specs.Accepted.{one, OkTotal, Filled, Totals, Proper, Rooted}
 use Rattle.table.proofs.Heights.{above, mapForest}
 use Rattle.table.proofs.Ends.{utility-shift}
 use Rattle.search.specs.Search.{Frame, framed}
@@ -40,11 +40,11 @@ grains-leaves G end = refl
 grains-leaves G (leaf n w u rest) = ap (λ (a : ℕ). 1 + a) (grains-leaves G rest)
 grains-leaves G (inner n w k under rest) = ap₂ (λ (a b : ℕ). a + b) (grains-leaves G under) (grains-leaves G rest)
 
-module _ (T S G : ℕ) (some : 0 < T) where
-  sound : (k : Kind) (f : Forest ℕ) → Sums k T (weigh f) → Sound (framed 0 (S * G) (grained G f)) k (grained G f)
+module _ (T S G : ℕ) where
+  sound : (k : Kind) (f : Forest ℕ) → (isChance k ≡ true → OkTotal (weigh f)) → Sound (framed 0 (S * G) (grained G f)) k (grained G f)
   sound MAX f b = record { ends = omega arith; paid = tt; weighed = tt }
   sound MIN f b = record { ends = omega arith; paid = tt; weighed = tt }
-  sound CHANCE f b = record { ends = omega arith; paid = omega (arith, grained-weigh G f, b refl); weighed = refl }
+  sound CHANCE f b = record { ends = omega arith; paid = omega (arith, grained-weigh G f, b refl .0); weighed = refl }
 
   pays : (k : Kind) (w : ℕ) → Weighs (isChance k) T w → Pays k w
   pays MAX w h = tt
@@ -56,7 +56,7 @@ module _ (T S G : ℕ) (some : 0 < T) where
     Ok x = x ≤ S
 
     -- whatever the parent's total N
-    pub within : (N d c : ℕ) (u : Bool) (f : Forest ℕ) → Proper T K Ok d c u f → Balanced T f
+    pub within : (N d c : ℕ) (u : Bool) (f : Forest ℕ) → Proper T K Ok d c u f → Totals OkTotal f
         → Within (plain (S * G)) (record { bottom = 0; top = S * G; total = N }) (grained G f)
     unfolding grained
     within N d c u end p b = tt

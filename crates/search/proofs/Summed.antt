@@ -130,7 +130,7 @@ module _ (s : List ℕ) (t : Table) (r : readText s ≡ fine t) (ε : ℕ) (full
   heights-paid = paid-within (R .frame) (record { bottom = 0; top = span (t .head) * grain t; total = 0 }) heights (tree-within s t r)
 
   heights-taken : EachTakenRoot natural R WholeHeights heights
-  heights-taken = heights-root R (record { bottom = 0; top = span (t .head) * grain t; total = 0 }) (t .head .total ^ 0) heights (tree-within s t r) (tree-fit s t r)
+  heights-taken = heights-root R (record { bottom = 0; top = span (t .head) * grain t; total = 0 }) 1 heights (tree-within s t r) (tree-fit s t r)
 
   -- what the code computes is what Algorithm 1 gives over heights
   pub heights-summed : heightSummed t ε full ≡ heightSearched t ε full

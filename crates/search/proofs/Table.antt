@@ -1,6 +1,6 @@
 -- The search of an accepted table is the search over heights, from the lowest end up; no more leaves are read than there are, its play is a node of the
 -- table, and its divisions by T leave no remainder. Document 01, 'The search' and 'Grains'. Assumes nothing.
-use Prim.Native.Nat.{ℕ, _+_, _-_, _*_, _^_, _≤_, _<_}
+use Prim.Native.Nat.{ℕ, _+_, _-_, _*_, _≤_, _<_}
 use mathlib.Core.Path.{_≡_, refl, sym, ap, _∙_}
 use mathlib.Core.Bool.{Bool, false}
 use mathlib.Core.List.{List, []}
@@ -12,13 +12,14 @@ use lib.IntN.{ℤ, pos, _+ℤ_, _-ℤ_, _*ℤ_}
 use Rattle.numbers.proofs.Signs.{plus, minus, parts, is-unique, is-eq, is-minus}
 use Rattle.numbers.proofs.Above.{lift, lifted}
 use Rattle.line.specs.Refusal.{fine}
+use Rattle.line.specs.Line.{larger}
 use Rattle.table.specs.Tree.{MAX, Forest, end, leaf, inner, leaves}
 use Rattle.table.specs.Table.{Table, tree, readText, greatest, grain}
 use Rattle.table.specs.Root.{children}
 use Rattle.table.specs.Inside.{heightTree, slicesOf}
 use Rattle.table.specs.Accepted.{span}
 use Rattle.table.proofs.Heights.{heights-map}
-use Rattle.table.proofs.Accepted.{accepted-ranged, accepted-proper, accepted-spans, heights-proper, heights-balanced}
+use Rattle.table.proofs.Accepted.{accepted-proper, accepted-spans, heights-proper, heights-totals, heights-divided}
 use Rattle.table.proofs.Ends.{top}
 use Rattle.search.specs.Search.{Frame, Play, noPlay, child, Seen, framed, begin, point, scan, search, searchRoot, nodeOf}
 use Rattle.search.specs.Whole.{whole, inGrains, rules, searchedUntil}
@@ -77,20 +78,20 @@ module _ (s : List ℕ) (t : Table) (r : readText s ≡ fine t) where
   }
 
   pub tree-shift : inGrains G (tree t) ≡ shift base (grained G (heightTree t))
-  tree-shift = rw (heights-map t) (grains-shift (t .head .total) G (greatest (t .lines)) (t .head) 0 0 false (tree t) (accepted-proper s t r))
+  tree-shift = rw (heights-map t) (grains-shift (larger (t .head)) G (greatest (t .lines)) (t .head) 0 0 false (tree t) (accepted-proper s t r))
 
   -- the root has no parent
   pub tree-within : Within (plain far) (record { bottom = 0; top = far; total = 0 }) (grained G (heightTree t))
   tree-within =
-      within (t .head .total) (span (t .head)) G (accepted-ranged s t r .some) (greatest (t .lines)) 0 0 0 false (heightTree t) (heights-proper s t r)
-      (heights-balanced s t r)
+      within (larger (t .head)) (span (t .head)) G (greatest (t .lines)) 0 0 0 false (heightTree t) (heights-proper s t r)
+      (heights-totals s t r)
 
   pub tree-positive : Positive MAX (grained G (heightTree t))
   tree-positive =
-      positive (t .head .total) (span (t .head)) G (accepted-ranged s t r .some) (greatest (t .lines)) 0 0 MAX (heightTree t) (heights-proper s t r)
+      positive (larger (t .head)) (span (t .head)) G (greatest (t .lines)) 0 0 MAX (heightTree t) (heights-proper s t r)
 
-  pub tree-fit : Fit (plain far) (t .head .total ^ 0) (grained G (heightTree t))
-  tree-fit = fit (t .head .total) (span (t .head)) (greatest (t .lines)) 0 0 false (heightTree t) (heights-proper s t r) (heights-balanced s t r)
+  pub tree-fit : Fit (plain far) 1 (grained G (heightTree t))
+  tree-fit = fit (span (t .head)) G 1 (heightTree t) (heights-divided s t r)
 
   -- at the margin ε, until the budget is spent
   module _ (ε : ℕ) (full : List ℕ → Bool) where
@@ -143,5 +144,5 @@ module _ (s : List ℕ) (t : Table) (r : readText s ≡ fine t) where
     no-remainder =
         rw tree-shift
         (whole-root (plus base) (minus base) base (parts base) far (heightRules 0 far ε full) (rules t ε full .frame) (λ n f. frames f)
-        (λ n f. (refl, refl)) (record { bottom = 0; top = far; total = 0 }) (t .head .total ^ 0) (grained G (heightTree t)) (le-refl far)
+        (λ n f. (refl, refl)) (record { bottom = 0; top = far; total = 0 }) 1 (grained G (heightTree t)) (le-refl far)
         tree-within tree-positive tree-fit)

@@ -67,8 +67,8 @@ abbrev pub limited : (budget : ℕ) (read : List ℕ) → Bool
 limited budget read = leb budget (length read)
 
 module _ {A : Type 0} where
-  -- The frame of a node with these children, between two ends. T is the node's own total; that in an accepted table every C's weights sum to the
-  -- header's T is the theorem table/proofs/Accepted.accepted-balanced.
+  -- The frame of a node with these children, between two ends. T is the node's own sum, by document 02, Item 5 "its T in every rule, Item 4's too"; that
+  -- in an accepted table every C's weights sum to one of the header's totals is the theorem table/proofs/Accepted.accepted-balanced.
   abbrev pub framed : (bottom top : A) (under : Forest A) → Frame A
   framed bottom top under = record { bottom = bottom; top = top; total = weigh under }
 

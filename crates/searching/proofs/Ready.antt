@@ -8,11 +8,12 @@ use native.Mathlib.Omega.{arith}
 use lib.ListN.{length}
 use Rattle.line.specs.Inside.{Weighs}
 use Rattle.line.specs.Refusal.{fine}
+use Rattle.line.specs.Line.{larger}
 use Rattle.table.specs.Tree.{Kind, MAX, Forest, end, leaf, inner, isChance}
 use Rattle.table.specs.Table.{Table, readText, greatest, grain}
 use Rattle.table.specs.Inside.{lent, heightTree}
-use Rattle.table.specs.Accepted.{span, Filled, Balanced, Proper}
-use Rattle.table.proofs.Accepted.{accepted-ranged, accepted-grain, accepted-lent, accepted-holds, heights-rooted, heights-proper, heights-filled, heights-balanced}
+use Rattle.table.specs.Accepted.{span, OkTotal, Filled, Totals, Proper}
+use Rattle.table.proofs.Accepted.{accepted-grain, accepted-lent, accepted-holds, heights-rooted, heights-proper, heights-filled, heights-totals}
 use Rattle.table.proofs.Ends.{span-grains}
 use Rattle.search.specs.Search.{Seen, limited}
 use Rattle.search.specs.Inside.{heightSearched}
@@ -32,14 +33,14 @@ endsOf t = record { bottom = 0; top = span (t .head) * grain t }
 pays : (k : Kind) (T w : ℕ) → Weighs (isChance k) T w → Pays k w
 pays k T w h e = subst (λ (u : Bool). Weighs u T w) e h .0
 
-module _ (g : Rule) (T K S : ℕ) (few : T ≤ 64) where
-  fits : (k : Kind) (d c : ℕ) (F : Forest ℕ) → Filled F → Balanced T F → Proper T K (λ (x : ℕ). x ≤ S) d c (isChance k) F
+module _ (g : Rule) (T K S : ℕ) where
+  fits : (k : Kind) (d c : ℕ) (F : Forest ℕ) → Filled F → Totals OkTotal F → Proper T K (λ (x : ℕ). x ≤ S) d c (isChance k) F
       → Fit g (record { bottom = 0; top = S * g .grain }) k F
   unfolding Fit
   fits k d c end f b p = tt
   fits k d c (leaf n w h rest) f b p = (pays k T w (p .0), omega arith, mul-le-mul-right (g .grain) (p .1), fits k d c rest f b (p .4))
   fits k d c (inner n w j under rest) f b p =
-      (pays k T w (p .0), f .0, (λ e. omega (arith, b .0 e)), fits j (suc d) _ under (f .1) (b .1) (p .3), fits k d c rest (f .2) (b .2) (p .4))
+      (pays k T w (p .0), f .0, (λ e. b .0 e .1), fits j (suc d) _ under (f .1) (b .1) (p .3), fits k d c rest (f .2) (b .2) (p .4))
 
 module _ (s : List ℕ) (t : Table) (h : readText s ≡ fine t) (ε : ℕ) (small : ε ≤ 40000000000000) (K S W H : List ℕ)
     (roomK : length (t .lines) ≤ length K) (roomS : length (t .lines) ≤ length S) (roomW : length (t .lines) ≤ length W) (roomH : length (t .lines) ≤ length H) where
@@ -49,7 +50,7 @@ module _ (s : List ℕ) (t : Table) (h : readText s ≡ fine t) (ε : ℕ) (smal
         nodes = heightTree t;
         spans = accepted-lent s t h K S W H roomK roomS roomW roomH;
         rooted = heights-rooted s t h;
-        fit = fits (ruleOf t ε) (t .head .total) (greatest (t .lines)) (span (t .head)) (accepted-ranged s t h .total) MAX 0 0 (heightTree t) (heights-filled s t h) (heights-balanced s t h) (heights-proper s t h);
+        fit = fits (ruleOf t ε) (larger (t .head)) (greatest (t .lines)) (span (t .head)) MAX 0 0 (heightTree t) (heights-filled s t h) (heights-totals s t h) (heights-proper s t h);
         ends = record { order = omega arith; top = omega (arith, span-grains s t h) };
         rule = record { margin = small; grain = accepted-grain s t h };
         holds = accepted-holds s t h K S W H roomK roomS roomW roomH;
