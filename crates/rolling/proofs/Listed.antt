@@ -7,6 +7,7 @@ use native.Mathlib.Omega.{arith}
 use lib.Dec.{ltb}
 use lib.ListN.{length, take, length-append}
 use Rattle.line.specs.Refusal.{fine}
+use Rattle.line.specs.Line.{larger}
 use Rattle.table.specs.Tree.{Kind, Forest, inner, isEnd, leaves}
 use Rattle.table.specs.Table.{Table, tree, readText, greatest, grain}
 use Rattle.table.specs.Inside.{heightTree}
@@ -157,7 +158,7 @@ module _ (s : List ℕ) (t : Table) (h : readText s ≡ fine t) where
   rolls-small : (l : List ℕ) (st : Store) → Rolls (start s t h) l (keep G F st) → (i : ℕ) → i < nodes → (lowAt st i ≤ far) × (highAt st i ≤ far)
   rolls-small l st r i o =
       capped-at far G F 0 st (height-numbered s t h .1)
-      (rolls-capped far r (fresh-capped (t .head .total) (greatest (t .lines)) (span (t .head)) G 0 0 false F (heights-proper s t h))) i (omega arith)
+      (rolls-capped far r (fresh-capped (larger (t .head)) (greatest (t .lines)) (span (t .head)) G 0 0 false F (heights-proper s t h))) i (omega arith)
       (omega (arith, height-numbered s t h .0))
 
   pub listed-small : (p : List ℕ) (st : Store) → AtEnds nodes far st

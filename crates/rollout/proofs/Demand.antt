@@ -10,7 +10,7 @@ use lib.IntN.{ℤ}
 use lib.Dec.{ltb}
 use lib.Signed.{ltZ}
 use Rattle.line.specs.Refusal.{fine}
-use Rattle.line.specs.Line.{Within}
+use Rattle.line.specs.Line.{larger, Within}
 use Rattle.table.specs.Tree.{leaves}
 use Rattle.table.specs.Table.{Table, tree, readText, grain}
 use Rattle.table.specs.Inside.{heightTree}
@@ -67,8 +67,8 @@ module _ (s : List ℕ) (t : Table) (h : readText s ≡ fine t) where
     -- without C the worth of every node is that over heights
     every-worth : treeWorths (grain t) (tree t) ≡ map (above t) (everyExact (start s t h))
     every-worth =
-        rw (heights-map t) (worths-above (t .head .total) (grain t) (t .head) 0 far 0 0 false (tree t)
-        (subst (λ (K : ℕ). Proper (t .head .total) K (Within (t .head)) 0 0 false (tree t)) (no-chance s t h none) (accepted-proper s t h))
+        rw (heights-map t) (worths-above (larger (t .head)) (grain t) (t .head) 0 far 0 0 false (tree t)
+        (subst (λ (K : ℕ). Proper (larger (t .head)) K (Within (t .head)) 0 0 false (tree t)) (no-chance s t h none) (accepted-proper s t h))
         (accepted-filled s t h) (divides s t h))
 
     -- ---- the answer

@@ -12,7 +12,7 @@ use lib.Signed.{ltZ, leZ}
 use Rattle.numbers.proofs.Signs.{plus, minus, parts, is-le}
 use Rattle.numbers.proofs.Above.{lift, leaf-shift, max-shift, min-shift}
 use Rattle.line.specs.declared.Head.{Head}
-use Rattle.line.specs.Line.{Within}
+use Rattle.line.specs.Line.{larger, Within}
 use Rattle.line.specs.Refusal.{fine}
 use Rattle.table.specs.Tree.{Forest, end, leaf, inner}
 use Rattle.table.specs.Table.{Table, tree, readText, greatest, grain}
@@ -65,7 +65,7 @@ module _ (T G K : ℕ) (h : Head) where
 
 module _ (s : List ℕ) (t : Table) (h : readText s ≡ fine t) where
   pub grains-above : inGrains (grain t) (tree t) ≡ mapForest (above t) (grained (grain t) (heightTree t))
-  grains-above = rw (heights-map t) (tree-above (t .head .total) (grain t) (greatest (t .lines)) (t .head) 0 0 false (tree t) (accepted-proper s t h))
+  grains-above = rw (heights-map t) (tree-above (larger (t .head)) (grain t) (greatest (t .lines)) (t .head) 0 0 false (tree t) (accepted-proper s t h))
 
   pub bottom-above : bottom t ≡ above t 0
   bottom-above = sym (+ℤ-idr (bottom t))

@@ -1,20 +1,20 @@
 -- Rollouts of an accepted table, over heights: where they begin, that they end on the worth, and which leaves they read. Assumes nothing.
-use Prim.Native.Nat.{ℕ, zero, suc, _*_, _^_, _≤_}
+use Prim.Native.Nat.{ℕ, zero, suc, _*_, _≤_}
 use mathlib.Core.Path.{_≡_, refl, sym, ap, _∙_, subst}
 use mathlib.Core.Bool.{false}
 use mathlib.Core.List.{List, [], _∷_, map}
-use native.Mathlib.Nat.{pow-zero}
 use native.Mathlib.Omega.{arith}
 use borrow.Author.Tests.{eqb-true, not-false}
 use lib.Dec.{eqb}
 use lib.ListN.{length}
 use Rattle.line.specs.Refusal.{fine}
+use Rattle.line.specs.Line.{larger}
 use Rattle.table.specs.Tree.{Forest, leaves}
 use Rattle.table.specs.Table.{Table, tree, readText, greatest, grain}
 use Rattle.table.specs.Inside.{heightTree, slicesOf}
 use Rattle.table.specs.Accepted.{span, Proper}
 use Rattle.table.proofs.Heights.{above as height, heights-map}
-use Rattle.table.proofs.Accepted.{heights-rooted, heights-proper, heights-filled, accepted-spans}
+use Rattle.table.proofs.Accepted.{heights-rooted, heights-proper, heights-filled, accepted-spans, no-chance-grain}
 use Rattle.table.proofs.Runs.{size, Numbered}
 use Rattle.table.proofs.Ends.{rooted-some}
 use Rattle.worth.specs.Worth.{Share}
@@ -48,7 +48,7 @@ module _ (s : List ℕ) (t : Table) (h : readText s ≡ fine t) where
 
   pub start-sound : Sound start
   start-sound =
-      fresh-sound (t .head .total) (greatest (t .lines)) (span (t .head)) (grain t) 0 0 false (heightTree t) (heights-proper s t h) (heights-filled s t h)
+      fresh-sound (larger (t .head)) (greatest (t .lines)) (span (t .head)) (grain t) 0 0 false (heightTree t) (heights-proper s t h) (heights-filled s t h)
 
   pub start-some : SomeNode start
   start-some = fresh-some 0 (span (t .head) * grain t) (grain t) (heightTree t) (rooted-some (heightTree t) (heights-rooted s t h))
@@ -92,14 +92,14 @@ module _ (s : List ℕ) (t : Table) (h : readText s ≡ fine t) where
 
     -- "1 where there is no C"
     pub one-grain : grain t ≡ 1
-    one-grain = ap (λ (K : ℕ). t .head .total ^ K) no-chance ∙ pow-zero (t .head .total)
+    one-grain = no-chance-grain s t h no-chance
 
-    pub plain : Proper (t .head .total) 0 (λ (x : ℕ). x ≤ span (t .head)) 0 0 false (heightTree t)
-    plain = subst (λ (K : ℕ). Proper (t .head .total) K (λ (x : ℕ). x ≤ span (t .head)) 0 0 false (heightTree t)) no-chance (heights-proper s t h)
+    pub plain : Proper (larger (t .head)) 0 (λ (x : ℕ). x ≤ span (t .head)) 0 0 false (heightTree t)
+    plain = subst (λ (K : ℕ). Proper (larger (t .head)) K (λ (x : ℕ). x ≤ span (t .head)) 0 0 false (heightTree t)) no-chance (heights-proper s t h)
 
     start-exact : firstOr 0 (exacts start) ≡ heightWorth t
     start-exact =
-        ap (firstOr 0) (fresh-exacts (t .head .total) (λ (x : ℕ). x ≤ span (t .head)) (grain t) 0 (span (t .head) * grain t) 0 0 false (heightTree t) plain)
+        ap (firstOr 0) (fresh-exacts (larger (t .head)) (λ (x : ℕ). x ≤ span (t .head)) (grain t) 0 (span (t .head) * grain t) 0 0 false (heightTree t) plain)
         ∙ first-worth (heightShares (grain t) (heightTree t))
 
     pub height-ends : (p : List ℕ)
