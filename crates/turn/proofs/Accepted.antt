@@ -7,11 +7,12 @@ use Rattle.field.proofs.Bits.{abs-neg}
 use Rattle.line.specs.declared.Head.{Head}
 use Rattle.line.specs.declared.Line.{Line}
 use Rattle.line.specs.Refusal.{fine}
+use Rattle.line.specs.Line.{totals}
 use Rattle.table.specs.Tree.{childless, unbalanced}
 use Rattle.table.specs.Table.{Table, tree, readText}
 use Rattle.table.proofs.Accepted.{accepted-ranged}
 use Rattle.turn.specs.Turn.{turnLine, turnHead, turnTable, turnedText}
-use Rattle.turn.proofs.Tree.{tree-turned, childless-turned, unbalanced-turned}
+use Rattle.turn.proofs.Tree.{tree-turned, grain-turned, childless-turned, unbalanced-turned}
 use Rattle.turn.proofs.Checks.{ranged-turned, turnStep, place-turned}
 use Rattle.turn.proofs.Kept.{Stands, Standing, standing-none, standing-more, Kept, kept-length, kept-accepted}
 
@@ -35,7 +36,8 @@ module _ (s : List ℕ) (t : Table) (h : readText s ≡ fine t) where
         ranged = ranged-turned (t .head) (accepted-ranged s t h);
         lines = lines-stand (t .head) (t .lines);
         no-childless = ap childless (tree-turned t) ∙ childless-turned (tree t);
-        no-unbalanced = ap (unbalanced (t .head .total)) (tree-turned t) ∙ unbalanced-turned (t .head .total) (tree t);
+        no-unbalanced = ap (unbalanced (totals (t .head))) (tree-turned t) ∙ unbalanced-turned (totals (t .head)) (tree t);
+        same-grain = grain-turned t;
       }
 
   pub turned-length : length (turnedText t) ≡ length s

@@ -13,7 +13,7 @@ use Rattle.field.proofs.Width.{few-plain, few-columns}
 use Rattle.field.proofs.Bits.{abs-neg}
 use Rattle.line.specs.declared.Head.{Head}
 use Rattle.line.specs.declared.Line.{Line}
-use Rattle.turn.specs.Text.{columns, blank, newline, headerText, letterOf, parentText, weightText, utilityText, lineText}
+use Rattle.turn.specs.Text.{columns, blank, newline, totalsText, headerText, letterOf, parentText, weightText, utilityText, lineText}
 use Rattle.turn.specs.Turn.{turnCode, turnLine, turnHead}
 use Rattle.turn.specs.Inside.{turnedAt, Fits}
 use Rattle.turn.proofs.Tree.{code-small}
@@ -127,22 +127,28 @@ line-turned l fits F R at u f e =
 header-parts : (A B L H : List ℕ) → length A ≡ 4 → length B ≡ 4 → length L ≡ 8 → length H ≡ 8 → length (A ++ (B ++ (L ++ (H ++ newline)))) ≡ 25
 header-parts A B L H a b l h = simp length-append (omega arith)
 
-module _ (h : Head) (n : ℕ) (few : n < 10000) (total : h .total < 10000) (low : natAbs (h .lowest) ≤ 1000000) (high : natAbs (h .highest) ≤ 1000000) where
+module _ (h : Head) (n : ℕ) (few : n < 10000) (total : h .total < 100) (second : h .second < 100) (low : natAbs (h .lowest) ≤ 1000000) (high : natAbs (h .highest) ≤ 1000000) where
   abbrev fore : List ℕ
-  fore = columns 4 (pos n) ++ columns 4 (pos (h .total))
+  fore = columns 4 (pos n) ++ totalsText h
 
   nodes-long : length (columns 4 (pos n)) ≡ 4
   nodes-long = count-long n 4 (omega arith) (omega arith)
 
-  total-long : length (columns 4 (pos (h .total))) ≡ 4
-  total-long = count-long (h .total) 4 (omega arith) (omega arith)
+  second-long : (b : Bool) → length (cond b (blank 2) (columns 2 (pos (h .second)))) ≡ 2
+  second-long true = length-replicate {A = ℕ} 2 32
+  second-long false = count-long (h .second) 2 (omega arith) (omega arith)
+
+  total-long : length (totalsText h) ≡ 4
+  total-long =
+      length-append (cond (eqb (h .second) 0) (blank 2) (columns 2 (pos (h .second)))) (columns 2 (pos (h .total)))
+      ∙ ap₂ _+_ (second-long (eqb (h .second) 0)) (count-long (h .total) 2 (omega arith) (omega arith))
 
   fore-long : length fore ≡ 8
-  fore-long = length-append (columns 4 (pos n)) (columns 4 (pos (h .total))) ∙ ap₂ _+_ nodes-long total-long
+  fore-long = length-append (columns 4 (pos n)) (totalsText h) ∙ ap₂ _+_ nodes-long total-long
 
   pub header-long : length (headerText h n) ≡ 25
   header-long =
-      header-parts (columns 4 (pos n)) (columns 4 (pos (h .total))) (columns 8 (h .lowest)) (columns 8 (h .highest)) nodes-long total-long (points-long (h .lowest) low) (points-long (h .highest) high)
+      header-parts (columns 4 (pos n)) (totalsText h) (columns 8 (h .lowest)) (columns 8 (h .highest)) nodes-long total-long (points-long (h .lowest) low) (points-long (h .highest) high)
 
   pub ends-written : (R : List ℕ)
       → written (written (headerText h n ++ R) 8 8 (negℤ (h .highest))) 16 8 (negℤ (h .lowest)) ≡ headerText (turnHead h) n ++ R

@@ -17,7 +17,7 @@ use Rattle.table.proofs.Known.{read-length}
 use Rattle.table.proofs.Accepted.{checked, accepted-ranged, accepted-size}
 use Rattle.turn.specs.Text.{headerText, lineText, linesText, tableText}
 use Rattle.turn.proofs.Lines.{entryText, entry-text, headingText, heading-text}
-use Rattle.turn.proofs.Said.{isNone, line-text, Said, line-said, HeadSaid, header-said}
+use Rattle.turn.proofs.Said.{isNone, head-text, line-text, Said, line-said, HeadSaid, header-said}
 
 none-left : (s : List ℕ) → length s ≡ 0 → [] ≡ s
 none-left [] h = refl
@@ -82,6 +82,6 @@ module _ (s : List ℕ) (t : Table) (h : readText s ≡ fine t) where
   canonical =
       ap (λ (n : ℕ). headerText (t .head) n ++ linesText (t .lines)) counted
       ∙ ap₂ _++_
-      (ap headingText (sym (heading .heading)) ∙ heading-text (take 25 s) (heading .written))
+      (head-text (t .head) (count s) ∙ ap headingText (sym (heading .heading)) ∙ heading-text (take 25 s) (heading .written))
       (lines-canonical (t .head) (accepted-ranged s t h) (count s) 0 [] (drop 25 s) (t .lines) (omega (arith, long, length-drop 25 s)) refl (checked s t h .lines))
       ∙ take-append-drop 25 s

@@ -4,8 +4,8 @@ use mathlib.Core.Path.{_≡_, refl, sym, ap, ap₂, _∙_}
 use mathlib.Core.Bool.{Bool, true, false, not, _||_, cond, or-comm}
 use mathlib.Core.List.{List, [], _∷_, _++_, map}
 use native.Mathlib.Omega.{arith}
-use borrow.Author.Tests.{eq-eqb, le-ltb}
-use lib.Dec.{eqb, leb·zero, leb·suc-zero, leb·suc-suc}
+use borrow.Author.Tests.{eq-eqb, ne-eqb, le-ltb}
+use lib.Dec.{eqb, eqb·suc-zero, leb·zero, leb·suc-zero, leb·suc-suc}
 use lib.ListN.{length-map}
 use lib.IntN.{ℤ, pos, negsuc, negℤ, natAbs}
 use lib.Signed.{ltZ}
@@ -16,7 +16,7 @@ use Rattle.line.specs.declared.Head.{Head}
 use Rattle.line.specs.declared.Line.{Line}
 use Rattle.line.specs.declared.Entry.{Entry}
 use Rattle.line.specs.Refusal.{Verdict, fine, Check, unless}
-use Rattle.line.specs.Line.{isIll, isBlank, outside, valueOf, countOf, headerFor, headerChecks, letterCode, Step, Above, wrong, path, climb, ancestors, isWrong, stepsOf, chancesOf, atChance, illEntry, deep, misfilled, wideEntry, wideHeading, stepped, Placed, placed, earlyChecks, lateChecks, placeOf}
+use Rattle.line.specs.Line.{isIll, isBlank, hasNumber, larger, outside, valueOf, countOf, headOf, headerFor, headerChecks, letterCode, Step, Above, wrong, path, climb, ancestors, isWrong, stepsOf, chancesOf, atChance, illEntry, deep, misfilled, wideEntry, wideHeading, stepped, Placed, placed, earlyChecks, lateChecks, placeOf}
 use Rattle.line.specs.Inside.{Ranged}
 use Rattle.line.proofs.Fine.{Passed, unless-fine}
 use Rattle.turn.specs.Text.{letterOf}
@@ -54,6 +54,8 @@ ranged-turned h r =
     record {
       some = r .some;
       total = r .total;
+      second = r .second;
+      apart = r .apart;
       lowest = rw (abs-neg (h .highest)) (r .highest);
       highest = rw (abs-neg (h .lowest)) (r .lowest);
       order = neg-less (h .lowest) (h .highest) ∙ r .order;
@@ -66,11 +68,27 @@ end-inside (negsuc n) h = rw (le-ltb 999999 n (omega arith))
 total-inside : (n : ℕ) → 0 < n → n ≤ 64 → outside (pos 1) (pos 64) (Number (pos n)) ≡ false
 total-inside n p h = rw (le-ltb n 1 p, le-ltb 64 n h)
 
+-- a second total, or none
+second-well : (b : Bool) (n : ℕ) → isIll (cond b Blank (Number (pos n))) ≡ false
+second-well true n = refl
+second-well false n = refl
+
+second-back : (n : ℕ) → countOf (cond (eqb n 0) Blank (Number (pos n))) ≡ n
+second-back zero = refl
+second-back (suc n) = rw (eqb·suc-zero n) refl
+
+second-passes : (n T : ℕ) → n ≤ 64 → (n ≡ T → ⊥)
+    → (outside (pos 1) (pos 64) (cond (eqb n 0) Blank (Number (pos n))) || hasNumber T (cond (eqb n 0) Blank (Number (pos n)))) ≡ false
+second-passes zero T h d = refl
+second-passes (suc n) T h d = rw (eqb·suc-zero n, total-inside (suc n) (omega arith) h) (ne-eqb (suc n) T d)
+
 pub header-passes : (n : ℕ) (h : Head) → Ranged h → headerFor n 10 (headingFor h n) ≡ fine h
 header-passes n h r =
     let wide : wideHeading (headingFor h n) ≡ false =
-    rw (total-inside (h .total) (r .some) (r .total), end-inside (h .lowest) (r .lowest), end-inside (h .highest) (r .highest)) (r .order) in
-    unless-passed (headerChecks n 10 (headingFor h n)) h (refl, (wide, (ap not (eq-eqb n n refl), tt)))
+    rw (second-passes (h .second) (h .total) (r .second) (r .apart), total-inside (h .total) (r .some) (r .total), end-inside (h .lowest) (r .lowest), end-inside (h .highest) (r .highest)) (r .order) in
+    unless-passed (headerChecks n 10 (headingFor h n)) (headOf (headingFor h n))
+    (rw (second-well (eqb (h .second) 0) (h .second)) refl, (wide, (ap not (eq-eqb n n refl), tt)))
+    ∙ (λ j. fine (record { total = h .total; second = second-back (h .second) j; lowest = h .lowest; highest = h .highest }))
 
 -- ---- the path
 
@@ -203,7 +221,7 @@ module _ (h : Head) (i : ℕ) (l : Line) (a : Above) where
 
   wide-turned : wideEntry (turnHead h) (entryFor (turnLine l)) ≡ wideEntry h (entryFor l)
   wide-turned =
-      let w : Bool = outside (pos 1) (pos (h .total)) (entryFor l .weight) in
+      let w : Bool = outside (pos 1) (pos (larger h)) (entryFor l .weight) in
       ap (λ (b : Bool). w || outside (negℤ (h .highest)) (negℤ (h .lowest)) (cond b (Number (negℤ (l .utility))) Blank)) (code-leaf k)
       ∙ ap (λ (b : Bool). w || b) (outside-neg (h .lowest) (h .highest) (l .utility) (eqb k 0))
 

@@ -4,7 +4,7 @@ use mathlib.Core.Path.{_≡_, refl, sym, ap, ap₂, subst, _∙_}
 use mathlib.Core.Bool.{Bool, true, false, cond}
 use mathlib.Core.List.{List, [], _∷_, _++_}
 use native.Mathlib.Omega.{arith}
-use lib.Dec.{eqb, lit<, lit≤}
+use lib.Dec.{eqb, ltb, lit<, lit≤}
 use lib.ListN.{length, getD, take, drop, length-append, length-drop}
 use lib.Seq.{take-at, drop-at}
 use lib.IntN.{ℤ, pos, natAbs}
@@ -15,16 +15,16 @@ use Rattle.field.proofs.Width.{few-plain, few-columns}
 use Rattle.line.specs.declared.Head.{Head}
 use Rattle.line.specs.declared.Line.{Line}
 use Rattle.line.specs.declared.Entry.{Entry}
-use Rattle.line.specs.Refusal.{fine, unlessAt}
-use Rattle.line.specs.Line.{header, headerFor, headingOf, Step, entryOf, Placed, placeOf, nodeLine}
+use Rattle.line.specs.Refusal.{fine, unless, unlessAt}
+use Rattle.line.specs.Line.{header, headerFor, headingOf, totals, Step, entryOf, Placed, placeOf, nodeLine}
 use Rattle.line.specs.Inside.{Ranged}
 use Rattle.table.specs.Tree.{childless, unbalanced}
-use Rattle.table.specs.Table.{Table, badLength, nodeLines, tree, complete, count, readText}
+use Rattle.table.specs.Table.{Table, badLength, nodeLines, tree, grain, complete, count, readText}
 use Rattle.table.proofs.Accepted.{Checked, checked, accepted-ranged, accepted-size}
 use Rattle.table.proofs.Known.{read-length}
 use Rattle.turn.specs.Text.{headerText, lineText, linesText, tableText}
 use Rattle.turn.proofs.Lines.{Fits, Roomy, text-entry, HeadRoomy, text-heading}
-use Rattle.turn.proofs.Said.{entryFor, headingFor, line-text, isNone, Short, Said}
+use Rattle.turn.proofs.Said.{entryFor, headingFor, head-text, line-text, isNone, Short, Said}
 use Rattle.turn.proofs.Canonical.{first}
 use Rattle.turn.proofs.Checks.{header-passes}
 
@@ -53,7 +53,8 @@ head-roomy : (h : Head) (n : ℕ) → Ranged h → n < 10 ^ 4 → HeadRoomy (hea
 head-roomy h n r c =
     record {
       count = fits-natural n 4 (lit< tt) (lit≤ tt) c;
-      total = fits-natural (h .total) 4 (lit< tt) (lit≤ tt) (omega (arith, r .total));
+      second = fits-either 2 (eqb (h .second) 0) Blank (Number (pos (h .second))) tt (fits-natural (h .second) 2 (lit< tt) (lit≤ tt) (omega (arith, r .second)));
+      total = fits-natural (h .total) 2 (lit< tt) (lit≤ tt) (omega (arith, r .total));
       lowest = fits-signed (h .lowest) (omega (arith, r .lowest));
       highest = fits-signed (h .highest) (omega (arith, r .highest));
     }
@@ -121,8 +122,8 @@ module _ (h g : Head) (on : List Step → List Step) where
 -- ---- the table
 
 read-of : (s : List ℕ) (t : Table) → Checked s t → readText s ≡ fine t
-unfolding readText complete unlessAt
-read-of s t C = rw (C .long, C .head, C .lines, C .no-childless, C .no-unbalanced)
+unfolding readText complete unless unlessAt
+read-of s t C = rw (C .long, C .head, C .lines, C .no-childless, C .no-unbalanced, C .few-grains)
 
 pub record Kept (t u : Table) : Type 0 where
   pub on : List Step → List Step
@@ -130,7 +131,8 @@ pub record Kept (t u : Table) : Type 0 where
   pub ranged : Ranged (u .head)
   pub lines : Standing (t .head) (u .head) on (t .lines) (u .lines)
   pub no-childless : childless (tree u) ≡ childless (tree t)
-  pub no-unbalanced : unbalanced (u .head .total) (tree u) ≡ unbalanced (t .head .total) (tree t)
+  pub no-unbalanced : unbalanced (totals (u .head)) (tree u) ≡ unbalanced (totals (t .head)) (tree t)
+  pub same-grain : grain u ≡ grain t
 
 standing-long : (h g : Head) (on : List Step → List Step) {ls ms : List Line} → Standing h g on ls ms → length ms ≡ length ls
 standing-long h g on standing-none = refl
@@ -148,7 +150,7 @@ module _ (s : List ℕ) (t u : Table) (h : readText s ≡ fine t) (K : Kept t u)
   top = headerText (u .head) n
 
   top-again : (headingOf top ≡ headingFor (u .head) n) × (getD top 24 0 ≡ 10) × (length top ≡ 25)
-  top-again = text-heading (headingFor (u .head) n) (head-roomy (u .head) n (K .ranged) (omega (arith, accepted-size s t h .1)))
+  top-again = rw (head-text (u .head) n) (text-heading (headingFor (u .head) n) (head-roomy (u .head) n (K .ranged) (omega (arith, accepted-size s t h .1))))
 
   top-read : header n top ≡ fine (u .head)
   top-read = (λ j. headerFor n (top-again .1 j) (top-again .0 j)) ∙ header-passes n (u .head) (K .ranged)
@@ -190,4 +192,5 @@ module _ (s : List ℕ) (t u : Table) (h : readText s ≡ fine t) (K : Kept t u)
         lines = ap₂ (λ (m : ℕ) (r : List ℕ). nodeLines (u .head) m 0 [] r) kept-counted kept-rest ∙ kept-lines;
         no-childless = K .no-childless ∙ C .no-childless;
         no-unbalanced = K .no-unbalanced ∙ C .no-unbalanced;
+        few-grains = ap (ltb 16777216) (K .same-grain) ∙ C .few-grains;
       })

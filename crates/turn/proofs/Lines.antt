@@ -1,7 +1,7 @@
 -- The text of a line and the fields that are read of it: each gives the other. Assumes nothing.
 use Prim.Native.Nat.{ℕ, _+_, _^_, _≤_, _<_}
-use mathlib.Core.Path.{_≡_, refl, sym, ap, _∙_}
-use mathlib.Core.Bool.{false}
+use mathlib.Core.Path.{_≡_, refl, sym, ap, ap₂, _∙_}
+use mathlib.Core.Bool.{false, cond}
 use mathlib.Core.List.{List, [], _∷_, _++_}
 use native.Mathlib.Numerals.{add-one}
 use native.Mathlib.Omega.{arith}
@@ -15,7 +15,7 @@ use Rattle.field.proofs.Inverse.{number-text, blank-text}
 use Rattle.field.proofs.RoundTrip.{columns-read, blanks-read}
 use Rattle.line.specs.declared.Heading.{Heading}
 use Rattle.line.specs.declared.Entry.{Entry}
-use Rattle.line.specs.Line.{isIll, headingOf, entryOf}
+use Rattle.line.specs.Line.{isIll, isBlank, headingOf, entryOf}
 use Rattle.line.proofs.Signs.{true-ne-false}
 use Rattle.turn.specs.Text.{columns, blank, newline}
 
@@ -141,12 +141,30 @@ text-entry e R =
 
 -- ---- a header
 
+-- where columns 5-6 are blank, columns 5-8 say what columns 7-8 say
+blank-total : (s : List ℕ) → 8 ≤ length s → fieldOf s 4 2 ≡ Blank → fieldOf s 4 4 ≡ fieldOf s 6 2
+unfolding strip
+blank-total s room e =
+    let two : take 2 (drop 4 s) ≡ 32 ∷ 32 ∷ [] = blank-text s 4 2 (omega arith) e in
+    let all : drop 4 s ≡ 32 ∷ 32 ∷ drop 6 s = sym (take-append-drop 2 (drop 4 s)) ∙ ap₂ _++_ two (drop-drop 2 4 s) in
+    ap (λ (x : List ℕ). signed (strip (take 4 x))) all
+
+-- so the first total has columns 7-8 in both cases
+total-columns : (s : List ℕ) → 8 ≤ length s → headingOf s .total ≡ fieldOf s 6 2
+total-columns s room = go (fieldOf s 4 2) refl
+  where
+    go : (f : Field) → fieldOf s 4 2 ≡ f → cond (isBlank f) (fieldOf s 4 4) (fieldOf s 6 2) ≡ fieldOf s 6 2
+    go Blank e = blank-total s room e
+    go Ill e = refl
+    go (Number z) e = refl
+
 abbrev pub headingText : Heading → List ℕ
-headingText g = shown 4 (g .count) ++ (shown 4 (g .total) ++ (shown 8 (g .lowest) ++ (shown 8 (g .highest) ++ newline)))
+headingText g = shown 4 (g .count) ++ (shown 2 (g .second) ++ (shown 2 (g .total) ++ (shown 8 (g .lowest) ++ (shown 8 (g .highest) ++ newline))))
 
 pub record HeadWritten (s : List ℕ) : Type 0 where
   pub long : length s ≡ 25
   pub count : isIll (headingOf s .count) ≡ false
+  pub second : isIll (headingOf s .second) ≡ false
   pub total : isIll (headingOf s .total) ≡ false
   pub lowest : isIll (headingOf s .lowest) ≡ false
   pub highest : isIll (headingOf s .highest) ≡ false
@@ -158,12 +176,16 @@ heading-text s W =
     let e24 = byte-joined s 24 10 [] (omega arith) (W .last) (end-joined s long) in
     let e16 = field-joined s 16 8 newline (omega arith) (omega arith) (W .highest) e24 in
     let e8 = field-joined s 8 8 _ (omega arith) (omega arith) (W .lowest) e16 in
-    let e4 = field-joined s 4 4 _ (omega arith) (omega arith) (W .total) e8 in
-    field-joined s 0 4 _ (omega arith) (omega arith) (W .count) e4
+    let t = total-columns s (omega arith) in
+    let e6 = field-joined s 6 2 _ (omega arith) (omega arith) (ap isIll (sym t) ∙ W .total) e8 in
+    let e4 = field-joined s 4 2 _ (omega arith) (omega arith) (W .second) e6 in
+    ap (λ (f : Field). shown 4 (fieldOf s 0 4) ++ (shown 2 (fieldOf s 4 2) ++ (shown 2 f ++ (shown 8 (fieldOf s 8 8) ++ (shown 8 (fieldOf s 16 8) ++ newline))))) t
+    ∙ field-joined s 0 4 _ (omega arith) (omega arith) (W .count) e4
 
 pub record HeadRoomy (g : Heading) : Type 0 where
   pub count : Fits 4 (g .count)
-  pub total : Fits 4 (g .total)
+  pub second : Fits 2 (g .second)
+  pub total : Fits 2 (g .total)
   pub lowest : Fits 8 (g .lowest)
   pub highest : Fits 8 (g .highest)
 
@@ -171,18 +193,22 @@ pub text-heading : (g : Heading) → HeadRoomy g → (headingOf (headingText g) 
 text-heading g R =
     let s : List ℕ = headingText g in
     let c = shown 4 (g .count) in
-    let t = shown 4 (g .total) in
+    let x = shown 2 (g .second) in
+    let t = shown 2 (g .total) in
     let l = shown 8 (g .lowest) in
     let h = shown 8 (g .highest) in
-    let e4 : drop 4 s ≡ t ++ (l ++ (h ++ newline)) = after-part s 0 4 c _ refl (shown-long 4 (g .count) (R .count)) in
-    let e8 : drop 8 s ≡ l ++ (h ++ newline) = after-part s 4 4 t _ e4 (shown-long 4 (g .total) (R .total)) in
+    let e4 : drop 4 s ≡ x ++ (t ++ (l ++ (h ++ newline))) = after-part s 0 4 c _ refl (shown-long 4 (g .count) (R .count)) in
+    let e6 : drop 6 s ≡ t ++ (l ++ (h ++ newline)) = after-part s 4 2 x _ e4 (shown-long 2 (g .second) (R .second)) in
+    let e8 : drop 8 s ≡ l ++ (h ++ newline) = after-part s 6 2 t _ e6 (shown-long 2 (g .total) (R .total)) in
     let e16 : drop 16 s ≡ h ++ newline = after-part s 8 8 l _ e8 (shown-long 8 (g .lowest) (R .lowest)) in
     let e24 : drop 24 s ≡ newline = after-part s 16 8 h _ e16 (shown-long 8 (g .highest) (R .highest)) in
     let count : fieldOf s 0 4 ≡ g .count = field-at s 0 4 (g .count) _ (R .count) refl in
-    let total : fieldOf s 4 4 ≡ g .total = field-at s 4 4 (g .total) _ (R .total) e4 in
+    let long : length s ≡ 25 = simp length-append (omega (arith, shown-long 4 (g .count) (R .count), shown-long 2 (g .second) (R .second), shown-long 2 (g .total) (R .total), shown-long 8 (g .lowest) (R .lowest), shown-long 8 (g .highest) (R .highest))) in
+    let second : fieldOf s 4 2 ≡ g .second = field-at s 4 2 (g .second) _ (R .second) e4 in
+    let total : headingOf s .total ≡ g .total = total-columns s (omega arith) ∙ field-at s 6 2 (g .total) _ (R .total) e6 in
     let lowest : fieldOf s 8 8 ≡ g .lowest = field-at s 8 8 (g .lowest) _ (R .lowest) e8 in
     let highest : fieldOf s 16 8 ≡ g .highest = field-at s 16 8 (g .highest) _ (R .highest) e16 in (
-      λ j. record { count = count j; total = total j; lowest = lowest j; highest = highest j },
+      λ j. record { count = count j; second = second j; total = total j; lowest = lowest j; highest = highest j },
       byte-at s 24 10 _ e24,
-      simp length-append (omega (arith, shown-long 4 (g .count) (R .count), shown-long 4 (g .total) (R .total), shown-long 8 (g .lowest) (R .lowest), shown-long 8 (g .highest) (R .highest))),
+      long,
     )

@@ -14,7 +14,8 @@ use lib.Signed.{ltZ}
 use Rattle.line.specs.declared.Head.{Head}
 use Rattle.line.specs.declared.Line.{Line}
 use Rattle.line.specs.Inside.{Ranged, Weighs}
-use Rattle.line.specs.Line.{Within}
+use Rattle.line.specs.Line.{larger, Within}
+use Rattle.line.proofs.Fine.{larger-small}
 use Rattle.line.specs.Refusal.{fine}
 use Rattle.line.proofs.Signs.{true-ne-false}
 use Rattle.table.specs.Tree.{Kind, MAX, MIN, CHANCE, Forest, end, leaf, inner, codeOf}
@@ -57,7 +58,7 @@ module _ (h : Head) (R : Ranged h) where
   sound-append (k ∷ ks) ls p q = (p .0, p .1, sound-append ks ls (p .2) q)
 
   -- the nodes from i on, below the node p
-  sound : (K p c d e i : ℕ) (u : Bool) (T : Forest ℤ) → Numbered i T → Proper (h .total) K (Within h) d e u T → p < 1024 → i + size T ≤ 1024 → Sound (flat p c T)
+  sound : (K p c d e i : ℕ) (u : Bool) (T : Forest ℤ) → Numbered i T → Proper (larger h) K (Within h) d e u T → p < 1024 → i + size T ≤ 1024 → Sound (flat p c T)
   unfolding flat
   sound K p c d e i u end N P l m = tt
   sound K p c d e i u (leaf n w v rest) N P l m = (
@@ -65,7 +66,7 @@ module _ (h : Head) (R : Ranged h) where
       node = omega (arith, N .0);
       kind = omega arith;
       parent = omega arith;
-      weight = weighs-small u (h .total) w (R .total) (P .0);
+      weight = weighs-small u (larger h) w (larger-small h R) (P .0);
       utility = within-abs (h .lowest) (h .highest) v 1000000 (R .lowest) (R .highest) (P .1 .0) (P .1 .1);
     },
     λ z. P .1,
@@ -76,7 +77,7 @@ module _ (h : Head) (R : Ranged h) where
       node = omega (arith, N .0);
       kind = code-small k .1;
       parent = omega arith;
-      weight = weighs-small u (h .total) w (R .total) (P .0);
+      weight = weighs-small u (larger h) w (larger-small h R) (P .0);
       utility = omega arith;
     },
     λ z. absurd (omega (arith, code-small k .0)),
@@ -125,6 +126,7 @@ module _ (s : List ℕ) (t : Table) (e : readText s ≡ fine t) where
           count = refl;
           few = accepted-size s t e .1;
           total = omega (arith, R .total);
+          second = omega (arith, R .second);
           is-lowest = refl;
           is-highest = refl;
           low = R .lowest;

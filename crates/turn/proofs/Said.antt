@@ -2,7 +2,7 @@
 use Prim.Native.Nat.{ℕ, zero, suc, _^_, _≤_, _<_}
 use mathlib.Core.Path.{_≡_, refl, sym, ap, subst, _∙_}
 use mathlib.Core.Bool.{Bool, true, false, not, cond}
-use mathlib.Core.List.{List, [], _∷_}
+use mathlib.Core.List.{List, [], _∷_, append-assoc}
 use native.Mathlib.Omega.{arith}
 use borrow.Author.Tests.{eqb-true, not-false}
 use lib.Dec.{eqb, eqb·suc-zero, lit<}
@@ -19,13 +19,13 @@ use Rattle.line.specs.declared.Line.{Line}
 use Rattle.line.specs.declared.Heading.{Heading}
 use Rattle.line.specs.declared.Entry.{Entry}
 use Rattle.line.specs.Refusal.{fine}
-use Rattle.line.specs.Line.{isIll, isBlank, hasNumber, outside, valueOf, toNat, countOf, headingOf, headOf, headerChecks, header, entryOf, letterCode, Step, Above, ancestors, isWrong, stepsOf, atChance, stepped, lineChecks, placed, Placed, nodeLine}
+use Rattle.line.specs.Line.{isIll, isBlank, hasNumber, outside, valueOf, toNat, countOf, badSecond, larger, headingOf, headOf, headerChecks, header, entryOf, letterCode, Step, Above, ancestors, isWrong, stepsOf, atChance, stepped, lineChecks, placed, Placed, nodeLine}
 use Rattle.line.specs.Inside.{Ranged}
 use Rattle.line.proofs.Signs.{true-ne-false}
 use Rattle.line.proofs.Checks.{or-left, or-right}
-use Rattle.line.proofs.Fine.{unless-fine, nor9, Valued, line-read, valued-small}
-use Rattle.turn.specs.Text.{letterOf, lineText}
-use Rattle.turn.proofs.Lines.{shown, entryText, Written, HeadWritten}
+use Rattle.line.proofs.Fine.{unless-fine, nor9, nor10, Valued, line-read, valued-small}
+use Rattle.turn.specs.Text.{headerText, letterOf, lineText}
+use Rattle.turn.proofs.Lines.{shown, entryText, headingText, Written, HeadWritten}
 
 -- ---- the fields that a line and a header are written in
 
@@ -40,11 +40,21 @@ entryFor l =
     }
 
 abbrev pub headingFor : Head → ℕ → Heading
-headingFor h n = record { count = Number (pos n); total = Number (pos (h .total)); lowest = Number (h .lowest); highest = Number (h .highest) }
+headingFor h n =
+    record {
+      count = Number (pos n);
+      second = cond (eqb (h .second) 0) Blank (Number (pos (h .second)));
+      total = Number (pos (h .total));
+      lowest = Number (h .lowest);
+      highest = Number (h .highest);
+    }
 
 shown-either : (width : ℕ) (b : Bool) (f g : Field) → shown width (cond b f g) ≡ cond b (shown width f) (shown width g)
 shown-either width true f g = refl
 shown-either width false f g = refl
+
+pub head-text : (h : Head) (n : ℕ) → headerText h n ≡ headingText (headingFor h n)
+head-text h n = simp (shown-either 2 (eqb (h .second) 0) Blank (Number (pos (h .second))), append-assoc)
 
 pub line-text : (l : Line) → lineText l ≡ entryText (entryFor l)
 line-text l =
@@ -157,11 +167,11 @@ line-said h i P s p ranged long root eq =
     let c = r .0 in
     let w = nor9 false (not (eqb (getD s 24 0) 10)) (isIll (e .number)) (isIll (e .parent)) (isIll (e .weight)) (isIll (e .utility)) (not (eqb (getD s 4 0) 32)) (isBlank (e .number)) (eqb (e .letter) 32) (c .0) in
     let m = or-right (cond (atChance (stepsOf a)) (isBlank (e .weight)) (not (isBlank (e .weight)))) (cond (eqb k 0) (isBlank (e .utility)) (not (isBlank (e .utility)))) (c .1 .1 .1 .1 .1 .0) in
-    let o = or-left (outside (pos 1) (pos (h .total)) (e .weight)) (outside (h .lowest) (h .highest) (e .utility)) (c .1 .1 .1 .1 .1 .1 .0) in
+    let o = or-left (outside (pos 1) (pos (larger h)) (e .weight)) (outside (h .lowest) (h .highest) (e .utility)) (c .1 .1 .1 .1 .1 .1 .0) in
     let number : e .number ≡ Number (pos i) = number-field i (e .number) (not-false (hasNumber i (e .number)) (c .1 .0)) in
     let letter : e .letter ≡ letterOf k = letter-back (e .letter) (c .1 .1 .0) in
     let parent : e .parent ≡ cond (eqb i 0) Blank (Number (pos (countOf (e .parent)))) = parent-field i P (e .parent) root (c .1 .1 .1 .0) in
-    let weight : e .weight ≡ cond (eqb (countOf (e .weight)) 0) Blank (Number (pos (countOf (e .weight)))) = weight-field (h .total) (e .weight) (w .4) o in
+    let weight : e .weight ≡ cond (eqb (countOf (e .weight)) 0) Blank (Number (pos (countOf (e .weight)))) = weight-field (larger h) (e .weight) (w .4) o in
     let utility : e .utility ≡ cond (eqb k 0) (Number (valueOf (e .utility))) Blank = utility-field (eqb k 0) (e .utility) (w .5) m in
     let said : e ≡ entryFor (placed i k e (stepped i k (stepsOf a)) .line) =
     λ j. record { number = number j; letter = letter j; parent = parent j; weight = weight j; utility = utility j } in
@@ -195,21 +205,24 @@ pub header-said : (n : ℕ) (s : List ℕ) (h : Head) → length s ≡ 25 → he
 header-said n s h long eq =
     let g : Heading = headingOf s in
     let r = unless-fine (headerChecks n (getD s 24 0) g) (headOf g) h eq in
-    let i = nor9 (not (eqb (getD s 24 0) 10)) (isIll (g .count)) (isIll (g .total)) (isIll (g .lowest)) (isIll (g .highest)) (isBlank (g .count)) (isBlank (g .total)) (isBlank (g .lowest)) (isBlank (g .highest)) (r .0 .0) in
-    let w = nor9 false false false false false (outside (pos 1) (pos 64) (g .total)) (outside (negsuc 999999) (pos 1000000) (g .lowest)) (outside (negsuc 999999) (pos 1000000) (g .highest)) (ltZ (valueOf (g .highest)) (valueOf (g .lowest))) (r .0 .1 .0) in
+    let i = nor10 (not (eqb (getD s 24 0) 10)) (isIll (g .count)) (isIll (g .second)) (isIll (g .total)) (isIll (g .lowest)) (isIll (g .highest)) (isBlank (g .count)) (isBlank (g .total)) (isBlank (g .lowest)) (isBlank (g .highest)) (r .0 .0) in
+    let w = nor9 false false false false (badSecond g) (outside (pos 1) (pos 64) (g .total)) (outside (negsuc 999999) (pos 1000000) (g .lowest)) (outside (negsuc 999999) (pos 1000000) (g .highest)) (ltZ (valueOf (g .highest)) (valueOf (g .lowest))) (r .0 .1 .0) in
     let count : g .count ≡ Number (pos n) = number-field n (g .count) (not-false (hasNumber n (g .count)) (r .0 .1 .1 .0)) in
-    let total : g .total ≡ Number (pos (countOf (g .total))) = natural-field 64 (g .total) (i .2) (i .6) (w .5) in
-    let lowest : g .lowest ≡ Number (valueOf (g .lowest)) = filled-field (g .lowest) (i .3) (i .7) in
-    let highest : g .highest ≡ Number (valueOf (g .highest)) = filled-field (g .highest) (i .4) (i .8) in
-    let said : g ≡ headingFor (headOf g) n = λ j. record { count = count j; total = total j; lowest = lowest j; highest = highest j } in
+    let o = or-left (outside (pos 1) (pos 64) (g .second)) (hasNumber (countOf (g .total)) (g .second)) (w .4) in
+    let second : g .second ≡ cond (eqb (countOf (g .second)) 0) Blank (Number (pos (countOf (g .second)))) = weight-field 64 (g .second) (i .2) o in
+    let total : g .total ≡ Number (pos (countOf (g .total))) = natural-field 64 (g .total) (i .3) (i .7) (w .5) in
+    let lowest : g .lowest ≡ Number (valueOf (g .lowest)) = filled-field (g .lowest) (i .4) (i .8) in
+    let highest : g .highest ≡ Number (valueOf (g .highest)) = filled-field (g .highest) (i .5) (i .9) in
+    let said : g ≡ headingFor (headOf g) n = λ j. record { count = count j; second = second j; total = total j; lowest = lowest j; highest = highest j } in
     record {
       heading = said ∙ ap (λ (x : Head). headingFor x n) (r .1);
       written = record {
         long = long;
         count = i .1;
-        total = i .2;
-        lowest = i .3;
-        highest = i .4;
+        second = i .2;
+        total = i .3;
+        lowest = i .4;
+        highest = i .5;
         last = eqb-true (getD s 24 0) 10 (not-false (eqb (getD s 24 0) 10) (i .0));
       };
     }

@@ -10,8 +10,9 @@ use lib.ListN.{length, length-map}
 use lib.IntN.{ℤ, negℤ, negℤ-negℤ}
 use Rattle.line.specs.declared.Line.{Line}
 use Rattle.line.specs.Refusal.{fine}
-use Rattle.table.specs.Tree.{Kind, MAX, MIN, CHANCE, Forest, end, leaf, inner, kindOf, isChance, run, after, grow, forest, isEnd, weigh, nodesWhere, childless, unbalanced, leaves}
-use Rattle.table.specs.Table.{Table, tree, readText, greatest, grain}
+use Rattle.line.specs.Line.{totals, among}
+use Rattle.table.specs.Tree.{Kind, MAX, MIN, CHANCE, Forest, end, leaf, inner, kindOf, isChance, run, after, grow, forest, isEnd, weigh, nodesWhere, childless, unbalanced, powers, uses, grainOf, leaves}
+use Rattle.table.specs.Table.{Table, tree, readText, grain}
 use Rattle.turn.specs.Text.{tableText}
 use Rattle.turn.specs.Turn.{turnCode, turnLine, turnTable, turnKind, turnTree}
 use Rattle.turn.proofs.Canonical.{canonical}
@@ -87,7 +88,7 @@ table-twice t =
     let lowest = negℤ-negℤ (t .head .lowest) in
     let highest = negℤ-negℤ (t .head .highest) in
     let lines = lines-twice (t .lines) in
-    λ j. record { head = record { total = t .head .total; lowest = lowest j; highest = highest j }; lines = lines j }
+    λ j. record { head = record { total = t .head .total; second = t .head .second; lowest = lowest j; highest = highest j }; lines = lines j }
 
 -- "Turning twice restores the text."
 pub turn-twice : (s : List ℕ) (t : Table) → readText s ≡ fine t → tableText (turnTable (turnTable t)) ≡ s
@@ -140,15 +141,7 @@ forest-turned (suc k) (l ∷ ls) =
 pub tree-turned : (t : Table) → tree (turnTable t) ≡ turnTree (tree t)
 tree-turned t = ap (λ (n : ℕ). forest value n (map turnLine (t .lines))) (length-map (t .lines) turnLine) ∙ forest-turned (length (t .lines)) (t .lines)
 
--- ---- grains and leaves
-
-greatest-turned : (ls : List Line) → greatest (map turnLine ls) ≡ greatest ls
-unfolding greatest
-greatest-turned [] = refl
-greatest-turned (l ∷ ls) = rw (greatest-turned ls)
-
-pub grain-turned : (t : Table) → grain (turnTable t) ≡ grain t
-grain-turned t = rw (greatest-turned (t .lines))
+-- ---- leaves
 
 tree-leaves : (f : Forest ℤ) → leaves (turnTree f) ≡ leaves f
 unfolding leaves turnTree
@@ -159,13 +152,25 @@ tree-leaves (inner n w k under rest) = ap₂ _+_ (tree-leaves under) (tree-leave
 pub tree-leaves-turned : (t : Table) → leaves (tree (turnTable t)) ≡ leaves (tree t)
 tree-leaves-turned t = ap leaves (tree-turned t) ∙ tree-leaves (tree t)
 
--- ---- nodes without a child, and sums
+-- ---- sums and grains, and nodes without a child
 
 weigh-turned : (f : Forest ℤ) → weigh (turnTree f) ≡ weigh f
 unfolding weigh turnTree
 weigh-turned end = refl
 weigh-turned (leaf n w u rest) = ap (λ (x : ℕ). w + x) (weigh-turned rest)
 weigh-turned (inner n w k under rest) = ap (λ (x : ℕ). w + x) (weigh-turned rest)
+
+uses-turned : (t : ℕ) (f : Forest ℤ) → uses t (turnTree f) ≡ uses t f
+unfolding uses turnTree
+uses-turned t end = refl
+uses-turned t (leaf n w u rest) = uses-turned t rest
+uses-turned t (inner n w k under rest) = rw (kind-chance k, weigh-turned under, uses-turned t under, uses-turned t rest)
+
+pub tree-grain-turned : (ts : List ℕ) (f : Forest ℤ) → grainOf ts (turnTree f) ≡ grainOf ts f
+tree-grain-turned ts f i = powers ts (λ (t : ℕ). uses-turned t f i)
+
+pub grain-turned : (t : Table) → grain (turnTable t) ≡ grain t
+grain-turned t = ap (grainOf (totals (t .head))) (tree-turned t) ∙ tree-grain-turned (totals (t .head)) (tree t)
 
 end-turned : (f : Forest ℤ) → isEnd (turnTree f) ≡ isEnd f
 unfolding turnTree
@@ -185,6 +190,6 @@ nodes-turned bad kept (inner n w k under rest) =
 pub childless-turned : (f : Forest ℤ) → childless (turnTree f) ≡ childless f
 childless-turned f = nodes-turned (λ (k : Kind) (under : Forest ℤ). isEnd under) (λ k under. end-turned under) f
 
-pub unbalanced-turned : (T : ℕ) (f : Forest ℤ) → unbalanced T (turnTree f) ≡ unbalanced T f
-unbalanced-turned T f =
-    nodes-turned (λ (k : Kind) (under : Forest ℤ). isChance k && not (eqb (weigh under) T)) (λ k under. rw (kind-chance k, weigh-turned under)) f
+pub unbalanced-turned : (ts : List ℕ) (f : Forest ℤ) → unbalanced ts (turnTree f) ≡ unbalanced ts f
+unbalanced-turned ts f =
+    nodes-turned (λ (k : Kind) (under : Forest ℤ). isChance k && not (among (weigh under) ts)) (λ k under. rw (kind-chance k, weigh-turned under)) f

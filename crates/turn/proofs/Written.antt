@@ -47,12 +47,12 @@ module _ (text kind height : List ℕ) (n : ℕ) (lowest highest : ℤ) (d : Lis
   high = rw (R .is-highest) at (R .high)
 
   front-long : length (headerText (turnHead h) (length ls)) ≡ 25
-  front-long = header-long (turnHead h) (length ls) few (R .total) (rw (abs-neg (h .highest)) high) (rw (abs-neg (h .lowest)) low)
+  front-long = header-long (turnHead h) (length ls) few (R .total) (R .second) (rw (abs-neg (h .highest)) high) (rw (abs-neg (h .lowest)) low)
 
   text-long : length text ≡ 25 + 25 * length ls
   text-long =
       ap length (R .is-text) ∙ length-append (headerText h (length ls)) (linesText ls)
-      ∙ omega (arith, header-long h (length ls) few (R .total) low high, lines-long kind height lowest 0 ls (R .lined) .0)
+      ∙ omega (arith, header-long h (length ls) few (R .total) (R .second) low high, lines-long kind height lowest 0 ls (R .lined) .0)
 
   pub ready-room : 25 ≤ length d
   ready-room = omega (arith, text-long, R .room)
@@ -62,7 +62,7 @@ module _ (text kind height : List ℕ) (n : ℕ) (lowest highest : ℤ) (d : Lis
       let X : List ℕ = drop (length text) d in
       ap (λ (y : List ℕ). written (written (y ++ X) 8 8 (negℤ highest)) 16 8 (negℤ lowest)) (R .is-text)
       ∙ ap₂ (λ (y z : ℤ). written (written (tableText (R .table) ++ X) 8 8 (negℤ y)) 16 8 (negℤ z)) (R .is-highest) (R .is-lowest)
-      ∙ rw (append-assoc (headerText h (length ls)) (linesText ls) X) (ends-written h (length ls) few (R .total) low high (linesText ls ++ X))
+      ∙ rw (append-assoc (headerText h (length ls)) (linesText ls) X) (ends-written h (length ls) few (R .total) (R .second) low high (linesText ls ++ X))
 
   pub ready-rows : Rows kind height lowest n 0 (ended text lowest highest d)
   ready-rows =

@@ -61,7 +61,8 @@ pub record ReadyText (text kind height : List ℕ) (n : ℕ) (lowest highest : �
   pub is-text : text ≡ tableText table
   pub count : n ≡ length (table .lines)
   pub few : n ≤ 1024
-  pub total : table .head .total < 10000
+  pub total : table .head .total < 100
+  pub second : table .head .second < 100
   pub is-lowest : lowest ≡ table .head .lowest
   pub is-highest : highest ≡ table .head .highest
   pub low : natAbs lowest ≤ 1000000

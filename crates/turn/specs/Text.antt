@@ -1,4 +1,4 @@
--- The text of a table. Document 01, 'The table on paper'.
+-- The text of a table. Document 01, 'The table on paper'; of the totals document 02, Item 5.
 use Prim.Native.Nat.{ℕ}
 use mathlib.Core.Bool.{cond}
 use mathlib.Core.List.{List, [], _∷_, _++_}
@@ -21,9 +21,13 @@ blank width = replicate width 32
 abbrev pub newline : List ℕ
 newline = 10 ∷ []
 
--- "columns 1-4 count of nodes, 5-8 the total T, 9-16 the lowest end, 17-24 the highest end"
+-- "5-8 the total T", which has two digits at most; a second total stands in "columns 5-6, blank so far", and the first "then has columns 7-8"
+abbrev pub totalsText : Head → List ℕ
+totalsText h = cond (eqb (h .second) 0) (blank 2) (columns 2 (pos (h .second))) ++ columns 2 (pos (h .total))
+
+-- "columns 1-4 count of nodes, .. 9-16 the lowest end, 17-24 the highest end"
 abbrev pub headerText : Head → ℕ → List ℕ
-headerText h n = columns 4 (pos n) ++ (columns 4 (pos (h .total)) ++ (columns 8 (h .lowest) ++ (columns 8 (h .highest) ++ newline)))
+headerText h n = columns 4 (pos n) ++ (totalsText h ++ (columns 8 (h .lowest) ++ (columns 8 (h .highest) ++ newline)))
 
 -- "Kinds: M (MAX), N (MIN), C (chance), L (leaf)", from the numbers that stand for them
 abbrev pub letterOf : ℕ → ℕ

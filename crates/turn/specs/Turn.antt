@@ -19,9 +19,9 @@ abbrev pub turnLine : Line → Line
 turnLine l =
     record { node = l .node; kind = turnCode (l .kind); parent = l .parent; weight = l .weight; utility = negℤ (l .utility); chances = l .chances }
 
--- "lowest end = minus the old highest, highest = minus the old lowest"
+-- "lowest end = minus the old highest, highest = minus the old lowest"; the totals are kept
 abbrev pub turnHead : Head → Head
-turnHead h = record { total = h .total; lowest = negℤ (h .highest); highest = negℤ (h .lowest) }
+turnHead h = record { total = h .total; second = h .second; lowest = negℤ (h .highest); highest = negℤ (h .lowest) }
 
 abbrev pub turnTable : Table → Table
 turnTable t = record { head = turnHead (t .head); lines = map turnLine (t .lines) }
