@@ -54,6 +54,7 @@ module _ (s : List ℕ) where
             chances = omega (arith, accepted-few s t p);
             grain = omega (arith, accepted-grain s t p);
             leaves = omega (arith, accepted-leaf-lines s t p, accepted-size s t p);
+            second = omega (arith, accepted-ranged s t p .second);
           }
 
   pub exact-small : SmallExact (exactCall (readText s))

@@ -27,6 +27,7 @@ pub record SmallSummary (t : Summary) : Type 0 where
   pub chances : t .chances < 2 ^ 63
   pub grain : t .grain < 2 ^ 63
   pub leaves : t .leaves < 2 ^ 63
+  pub second : t .second < 2 ^ 63
 
 -- a search's counts fit a signed number
 pub record SmallBounds (b : Bounds) : Type 0 where

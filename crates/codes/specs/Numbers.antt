@@ -39,7 +39,7 @@ readCode (Refused r) = 100 * lineOf r + numberOf r
 -- the table's numbers; none where it is refused
 abbrev pub numbersOf : Reading → List ℤ
 numbersOf (Accepted t) =
-    pos (t .nodes) ∷ pos (t .total) ∷ t .lowest ∷ t .highest ∷ pos (t .chances) ∷ pos (t .grain) ∷ pos (t .leaves) ∷ []
+    pos (t .nodes) ∷ pos (t .total) ∷ t .lowest ∷ t .highest ∷ pos (t .chances) ∷ pos (t .grain) ∷ pos (t .leaves) ∷ pos (t .second) ∷ []
 numbersOf (Refused r) = []
 
 -- the same of the exact worth: the worth and G

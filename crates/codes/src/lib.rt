@@ -48,6 +48,7 @@ fn put_table(t: Summary, numbers: &mut [i64])
     put_at(numbers, 4, signed(t.chances));
     put_at(numbers, 5, signed(t.grain));
     put_at(numbers, 6, signed(t.leaves as u64));
+    put_at(numbers, 7, signed(t.second));
 }
 
 fn refusal_code(r: Refusal) -> u64

@@ -66,5 +66,5 @@ module _ (file : List ℕ) (room : ℕ) where
     pub report-twenty : (k : ℕ) → reportCall file scale room ≡ Refused BadScale k → (scale ≡ pos 1 → ⊥) × (scale ≡ pos 2 → ⊥) × (k ≡ 0)
     report-twenty k =
         answers (λ (a : Reported). a ≡ Refused BadScale k → (scale ≡ pos 1 → ⊥) × (scale ≡ pos 2 → ⊥) × (k ≡ 0))
-        (λ h e. let n = subst Sized e h in absurd (omega (arith, n .1 .1)))
+        (λ h e. let n = subst Sized e h in absurd (omega (arith, n .1 .1 (omega arith))))
         (λ f g e. (f, g, cc))
