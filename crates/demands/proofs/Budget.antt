@@ -14,8 +14,8 @@ use Rattle.numbers.specs.Integers.{maxZ, minZ, floorZ, ceilZ}
 use Rattle.line.specs.declared.Refusal.the-variants.{NoRoom, BadMargin, BadBudget}
 use Rattle.line.specs.declared.Refusal.{Refusal}
 use Rattle.line.specs.Refusal.{Verdict, refused, fine, numberOf, unless, unlessAt}
-use Rattle.line.specs.Line.{toNat, climb}
-use Rattle.table.specs.Tree.{Forest, end, leaf, inner, run, after as afterRun, forest, weigh, nodesWhere, leaves}
+use Rattle.line.specs.Line.{toNat, climb, among}
+use Rattle.table.specs.Tree.{Forest, end, leaf, inner, run, after as afterRun, forest, weigh, nodesWhere, powers, uses, leaves}
 use Rattle.table.specs.Table.{Table, tree, nodeLines, complete, readText, greatest, grain}
 use Rattle.table.specs.Accepted.{Rooted}
 use Rattle.table.specs.Root.{playOf}
@@ -125,7 +125,7 @@ eleven e = let q : NoRoom ≡ BadBudget = cc in let z : _≡_ {A = ℕ} 11 17 = 
 
 -- no table is refused 17
 table-seventeen : {P : Type 0} (s : List ℕ) (r : Refusal) → readText s ≡ refused r → Refused r ≡ Refused BadBudget → P
-table-seventeen s r p e = let q : r ≡ BadBudget = cc in absurd (omega (arith, refused-number s r p, ap numberOf q))
+table-seventeen s r p e = let q : r ≡ BadBudget = cc in let n : numberOf r ≡ 17 = ap numberOf q in absurd (omega (arith, refused-number s r p (omega arith)))
 
 pub seventeen : SeventeenIs
 seventeen s m b room = (
@@ -165,5 +165,5 @@ within-sentence3 = within-turned
 -- ---- known answers
 
 pub all-budgets : AllKnown budgets
-unfolding strip digits wholeField signed leading unless unlessAt climb run afterRun forest weigh nodesWhere leaves nodeLines complete readText greatest maxZ minZ floorZ ceilZ begin finish cut point metSpent lower upper safer update stop scan search searchRoot downZ upZ gainZ lossZ inGrains
+unfolding strip digits wholeField signed leading unless unlessAt climb run afterRun forest weigh nodesWhere leaves nodeLines complete readText greatest among uses powers maxZ minZ floorZ ceilZ begin finish cut point metSpent lower upper safer update stop scan search searchRoot downZ upZ gainZ lossZ inGrains
 all-budgets = (refl, refl, (refl, refl, (refl, refl, (refl, refl, (refl, refl, (refl, refl, (refl, refl, (refl, refl, (refl, refl, (refl, refl, (refl, refl, (refl, refl, tt))))))))))))

@@ -1,5 +1,5 @@
 -- Forced plays, at the public calls. Assumes nothing.
-use Prim.Native.Nat.{ℕ, _≤_}
+use Prim.Native.Nat.{ℕ, _≤_, _<_}
 use mathlib.Core.Path.{_≡_, refl, sym, ap, ap₂, _∙_}
 use mathlib.Core.Bool.{Bool, true, false, cond}
 use mathlib.Core.List.{List}
@@ -48,9 +48,9 @@ forced-no-decision s t i p one = ap (λ (v : Verdict Table). judgeCall v i) p �
 pub choice-as-before : ChoiceAsBefore
 choice-as-before s t i p h = ap (λ (v : Verdict Table). judgeCall v i) p ∙ ap judgeAnswer (choice-judged t i h)
 
--- a table's own refusals go up to 10
-not-fourteen : {P : Type 0} (r : Refusal) → numberOf r ≤ 10 → r ≡ NoChild → P
-not-fourteen r h e = absurd (omega (arith, ap numberOf e, h))
+-- a table's own refusals go up to 10, but for 18
+not-fourteen : {P : Type 0} (r : Refusal) → (10 < numberOf r → numberOf r ≡ 18) → r ≡ NoChild → P
+not-fourteen r h e = let n : numberOf r ≡ 14 = ap numberOf e in absurd (omega (arith, h (omega arith)))
 
 answer-refused : (v : Verdict Judgement) (r : Refusal) → judgeAnswer v ≡ Refused r → v ≡ refused r
 answer-refused (refused q) r e = cc

@@ -11,3 +11,4 @@ pub mod Worked
 pub mod Budget
 pub mod Safer
 pub mod Sums
+pub mod Totals

@@ -3,8 +3,8 @@ use mathlib.Core.Path.{refl}
 use Rattle.field.specs.Field.{strip, digits, whole as wholeField, signed, leading}
 use Rattle.numbers.specs.Integers.{maxZ, minZ, floorZ, ceilZ}
 use Rattle.line.specs.Refusal.{unless, unlessAt}
-use Rattle.line.specs.Line.{climb}
-use Rattle.table.specs.Tree.{run, after as afterRun, forest, weigh, nodesWhere, leaves}
+use Rattle.line.specs.Line.{climb, among}
+use Rattle.table.specs.Tree.{run, after as afterRun, forest, weigh, nodesWhere, powers, uses, leaves}
 use Rattle.table.specs.Root.{nodes}
 use Rattle.table.specs.Table.{nodeLines, complete, readText, greatest}
 use Rattle.worth.specs.Worth.{largest, smallest, weighted, total, value, shares}
@@ -16,5 +16,5 @@ use Rattle.rollout.specs.Rollout.{fresh, lows, highs, candidates, over, walk, r
 use Rattle.demands.specs.Rows.{rows, AllTell}
 
 pub all-rows : AllTell rows
-unfolding strip digits wholeField signed leading linesText unless unlessAt climb run afterRun forest weigh nodesWhere leaves nodeLines complete readText greatest maxZ minZ floorZ largest smallest weighted total value shares levels begin finish cut point lower upper safer update stop scan search searchRoot ceilZ downZ upZ gainZ lossZ inGrains fresh lows highs candidates over walk roll nodes
+unfolding strip digits wholeField signed leading linesText unless unlessAt climb run afterRun forest weigh nodesWhere leaves nodeLines complete readText greatest among uses powers maxZ minZ floorZ largest smallest weighted total value shares levels begin finish cut point lower upper safer update stop scan search searchRoot ceilZ downZ upZ gainZ lossZ inGrains fresh lows highs candidates over walk roll nodes
 all-rows = (refl, (refl, (refl, (refl, (refl, (refl, (refl, (refl, (refl, (refl, (refl, (refl, (refl, (refl, (refl, tt)))))))))))))))

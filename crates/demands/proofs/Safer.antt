@@ -10,8 +10,8 @@ use lib.Signed.{ltZ}
 use Rattle.field.specs.Field.{strip, digits, whole as wholeField, signed, leading}
 use Rattle.numbers.specs.Integers.{maxZ, minZ, floorZ, ceilZ}
 use Rattle.line.specs.Refusal.{fine, unless, unlessAt}
-use Rattle.line.specs.Line.{toNat, climb}
-use Rattle.table.specs.Tree.{run, after as afterRun, forest, weigh, nodesWhere, leaves}
+use Rattle.line.specs.Line.{toNat, climb, among}
+use Rattle.table.specs.Tree.{run, after as afterRun, forest, weigh, nodesWhere, powers, uses, leaves}
 use Rattle.table.specs.Table.{Table, tree, nodeLines, complete, readText, greatest}
 use Rattle.table.specs.Root.{Side, toPlay, rootOf, playOf}
 use Rattle.turn.specs.Text.{linesText}
@@ -108,9 +108,9 @@ as-before-within s t m b room a p e =
 -- ---- known answers
 
 pub all-ties : AllKnown ties
-unfolding strip digits wholeField signed leading linesText unless unlessAt climb run afterRun forest weigh nodesWhere leaves nodeLines complete readText greatest maxZ minZ floorZ ceilZ begin finish cut point metSpent lower upper safer update stop scan search searchRoot downZ upZ gainZ lossZ inGrains
+unfolding strip digits wholeField signed leading linesText unless unlessAt climb run afterRun forest weigh nodesWhere leaves nodeLines complete readText greatest among uses powers maxZ minZ floorZ ceilZ begin finish cut point metSpent lower upper safer update stop scan search searchRoot downZ upZ gainZ lossZ inGrains
 all-ties = (refl, refl, (refl, refl, (refl, refl, (refl, refl, tt))))
 
 pub former-ties : FormerTies
-unfolding strip digits wholeField signed leading linesText unless unlessAt climb run afterRun forest weigh nodesWhere leaves nodeLines complete readText greatest maxZ minZ floorZ ceilZ begin finish cut point metSpent lower upper formerly update stop scan search searchRoot downZ upZ gainZ lossZ inGrains
+unfolding strip digits wholeField signed leading linesText unless unlessAt climb run afterRun forest weigh nodesWhere leaves nodeLines complete readText greatest among uses powers maxZ minZ floorZ ceilZ begin finish cut point metSpent lower upper formerly update stop scan search searchRoot downZ upZ gainZ lossZ inGrains
 former-ties = (refl, refl, refl, refl)

@@ -11,7 +11,7 @@ use Rattle.line.specs.declared.Head.{Head}
 use Rattle.line.specs.declared.Line.{Line}
 use Rattle.line.specs.declared.Entry.{Entry}
 use Rattle.line.specs.Refusal.{fine}
-use Rattle.line.specs.Line.{outside, Step, Above, ancestors, stepsOf, stepped, Placed, placed, lineChecks, placeOf, Within}
+use Rattle.line.specs.Line.{outside, totals, among, larger, Step, Above, ancestors, stepsOf, stepped, Placed, placed, lineChecks, placeOf, Within}
 use Rattle.line.specs.Inside.{Ranged}
 use Rattle.line.proofs.Checks.{or-left}
 use Rattle.line.proofs.Fine.{unless-fine}
@@ -23,6 +23,7 @@ use Rattle.turn.proofs.Said.{entryFor, utility-short}
 use Rattle.turn.proofs.Checks.{unless-passed}
 use Rattle.turn.proofs.Kept.{Stands, Standing, standing-none, standing-more, kept-accepted}
 use Rattle.promise.specs.Unread.{Alike, alike-end, alike-leaf, alike-inner}
+use Rattle.promise.proofs.Changed.{alike-grain}
 use Rattle.demands.specs.Demands.{withUtility, SameLines, same-none, same-more, Given, given-none, given-kept, given-new}
 
 -- ---- the tree
@@ -93,9 +94,9 @@ module _ (read : List ℕ) where
   childless-alike : {f g : Forest ℤ} → Alike Read f g → childless g ≡ childless f
   childless-alike a = nodes-alike (λ (k : Kind) (under : Forest ℤ). isEnd under) (λ k f g b. end-alike b) a
 
-  unbalanced-alike : (T : ℕ) {f g : Forest ℤ} → Alike Read f g → unbalanced T g ≡ unbalanced T f
-  unbalanced-alike T a =
-      nodes-alike (λ (k : Kind) (under : Forest ℤ). isChance k && not (eqb (weigh under) T)) (λ k f g b. ap (λ (x : ℕ). isChance k && not (eqb x T)) (weigh-alike b)) a
+  unbalanced-alike : (ts : List ℕ) {f g : Forest ℤ} → Alike Read f g → unbalanced ts g ≡ unbalanced ts f
+  unbalanced-alike ts a =
+      nodes-alike (λ (k : Kind) (under : Forest ℤ). isChance k && not (among (weigh under) ts)) (λ k f g b. ap (λ (x : ℕ). isChance k && not (among x ts)) (weigh-alike b)) a
 
 -- ---- the text
 
@@ -114,7 +115,7 @@ leaf-placed h i n p w c v z P S inside eq =
     let r = unless-fine (lineChecks h i e 32 10 a) (placed i 0 e (stepped i 0 (stepsOf a))) (record { line = leafLine n p w c v; steps = S }) eq in
     let k = r .0 in
     let late = k .1 .1 .1 .1 in
-    let weight = or-left (outside (pos 1) (pos (h .total)) (e .weight)) (outside (h .lowest) (h .highest) (Number v)) (late .1 .1 .0) in
+    let weight = or-left (outside (pos 1) (pos (larger h)) (e .weight)) (outside (h .lowest) (h .highest) (Number v)) (late .1 .1 .0) in
     unless-passed (lineChecks h i f 32 10 a) (placed i 0 f (stepped i 0 (stepsOf a)))
     (k .0, (k .1 .0, (k .1 .1 .0, (k .1 .1 .1 .0, (late .0, (late .1 .0, (rw (weight, inside .0, inside .1) refl, tt)))))))
     ∙ ap (λ (q : Placed). fine (record { line = withUtility z (q .line); steps = q .steps })) (r .1)
@@ -154,5 +155,6 @@ given-accepted s t p read ls g =
       ranged = accepted-ranged s t p;
       lines = given-stand (t .head) (accepted-ranged s t p) read g;
       no-childless = childless-alike read a;
-      no-unbalanced = unbalanced-alike read (t .head .total) a;
+      no-unbalanced = unbalanced-alike read (totals (t .head)) a;
+      same-grain = sym (alike-grain (totals (t .head)) a);
     })

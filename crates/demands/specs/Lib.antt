@@ -8,3 +8,4 @@ pub mod Marks
 pub mod Budget
 pub mod Safer
 pub mod Sums
+pub mod Totals

@@ -1,0 +1,103 @@
+-- The theorems of specs/Totals.antt. Assumes nothing.
+use Prim.Native.Nat.{ℕ, zero, suc, _≤_, _<_}
+use mathlib.Core.Path.{_≡_, refl, sym, ap, _∙_}
+use mathlib.Core.Bool.{Bool, true, false, _||_, cond}
+use mathlib.Core.List.{List, [], _∷_}
+use native.Mathlib.Omega.{arith}
+use lib.Dec.{eqb, eqb·suc-zero}
+use lib.ListN.{length, getD, take}
+use lib.Seq.{length-take-le}
+use lib.IntN.{pos}
+use Rattle.field.specs.Field.{fieldOf}
+use Rattle.field.specs.declared.Field.{Field}
+use Rattle.field.specs.declared.Field.the-variants.{Blank, Number}
+use Rattle.line.specs.declared.Head.{Head}
+use Rattle.line.specs.declared.Heading.{Heading}
+use Rattle.line.specs.Refusal.{fine}
+use Rattle.line.specs.Line.{isBlank, header, headingOf, totals, among, larger}
+use Rattle.line.specs.Inside.{Ranged}
+use Rattle.line.proofs.Fine.{header-ranged}
+use Rattle.table.specs.Table.{Table, readText, count, badLength}
+use Rattle.table.proofs.Top.{good-length}
+use Rattle.table.proofs.Accepted.{checked, one-total}
+use Rattle.table.proofs.Places.{eighteen-needs, eighteen-given, one-total-never}
+use Rattle.turn.proofs.Said.{headingFor, header-said}
+use Rattle.worth.proofs.Worth.{totals-are, exact}
+use Rattle.search.proofs.Table.{no-remainder}
+use Rattle.demands.specs.Totals.{Columns, HeaderColumns, OwnSums, DivisionExact, EighteenIs, OneTotal, AsBefore}
+
+-- ---- the header
+
+number-blank : {P : Type 0} (n : ℕ) → Number (pos n) ≡ Blank → P
+number-blank n e = let z : _≡_ {A = ℕ} 0 1 = cc in absurd (omega arith)
+
+-- the field that a second total is written in
+second-none : (n : ℕ) → cond (eqb n 0) Blank (Number (pos n)) ≡ Blank → n ≡ 0
+second-none zero e = refl
+second-none (suc n) e = number-blank (suc n) (rw (eqb·suc-zero n) at e)
+
+second-some : (n : ℕ) → (cond (eqb n 0) Blank (Number (pos n)) ≡ Blank → ⊥) → (cond (eqb n 0) Blank (Number (pos n)) ≡ Number (pos n)) × (0 < n)
+second-some zero e = absurd (e refl)
+second-some (suc n) e = (rw (eqb·suc-zero n) refl, omega arith)
+
+module _ (n : ℕ) (s : List ℕ) (h : Head) (long : length s ≡ 25) (e : header n s ≡ fine h) where
+  said : headingOf s ≡ headingFor h n
+  said = header-said n s h long e .heading
+
+  ranged : Ranged h
+  ranged = header-ranged n (getD s 24 0) (headingOf s) h e
+
+  second-is : fieldOf s 4 2 ≡ cond (eqb (h .second) 0) Blank (Number (pos (h .second)))
+  second-is = ap (λ (g : Heading). g .second) said
+
+  total-is : cond (isBlank (fieldOf s 4 2)) (fieldOf s 4 4) (fieldOf s 6 2) ≡ Number (pos (h .total))
+  total-is = ap (λ (g : Heading). g .total) said
+
+  columns : Columns s h
+  columns =
+      record {
+        none = λ b. (second-none (h .second) (sym second-is ∙ b), ap (λ (f : Field). cond (isBlank f) (fieldOf s 4 4) (fieldOf s 6 2)) (sym b) ∙ total-is);
+        some = λ b.
+            let q = second-some (h .second) (λ z. b (second-is ∙ z)) in
+            let f : fieldOf s 4 2 ≡ Number (pos (h .second)) = second-is ∙ q .0 in
+            (f, ap (λ (f : Field). cond (isBlank f) (fieldOf s 4 4) (fieldOf s 6 2)) (sym f) ∙ total-is, q .1, ranged .second, ranged .apart);
+      }
+
+-- the header's 25 bytes
+top-long : (s : List ℕ) → badLength (length s) ≡ false → length (take 25 s) ≡ 25
+top-long s b = length-take-le 25 s (omega (arith, good-length (length s) b .0))
+
+pub header-columns : HeaderColumns
+header-columns s t e = let C = checked s t e in columns (count s) (take 25 s) (t .head) (top-long s (C .long)) (C .head)
+
+-- ---- sums, and the division
+
+pub own-sums : OwnSums
+own-sums s t e = totals-are s t e
+
+pub division-exact : DivisionExact
+division-exact s t e = (exact s t e, λ ε full. no-remainder s t e ε full)
+
+-- ---- 18
+
+pub eighteen-is : EighteenIs
+eighteen-is s = (eighteen-needs s, eighteen-given s)
+
+-- ---- with no second total
+
+or-none : (a : Bool) → (a || false) ≡ a
+or-none true = refl
+or-none false = refl
+
+single : (h : Head) → h .second ≡ 0 → OneTotal h
+unfolding among
+single h z = record { weights = omega arith; sums = λ n. rw z (or-none (eqb n (h .total))) }
+
+pub as-before : AsBefore
+as-before s b = (
+  λ h l e.
+      let c = columns (count s) (take 25 s) h (length-take-le 25 s l) e .none b in
+      (c .1, single h (c .0)),
+  λ t e. one-total s t e (header-columns s t e .none b .0),
+  λ e. let x = eighteen-needs s e in one-total-never s x (columns (count s) (take 25 s) (x .table .head) (top-long s (x .long)) (x .head) .none b .0),
+)

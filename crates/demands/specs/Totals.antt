@@ -1,0 +1,63 @@
+-- Opening rolls: two totals in one table. Document 02, Item 5; over texts. What is quoted is the item, where no other paper is named. Demands 2 and 3 are
+-- stated of every accepted text, so of tables of both sorts. proofs/Totals.antt has the theorems.
+use Prim.Native.Nat.{ℕ, _^_, _≤_, _<_}
+use mathlib.Core.Path.{_≡_}
+use mathlib.Core.Bool.{Bool}
+use mathlib.Core.List.{List}
+use lib.Dec.{eqb}
+use lib.ListN.{length, take}
+use lib.IntN.{pos}
+use Rattle.field.specs.Field.{fieldOf}
+use Rattle.field.specs.declared.Field.the-variants.{Blank, Number}
+use Rattle.line.specs.declared.Head.{Head}
+use Rattle.line.specs.declared.Refusal.the-variants.{TooManyGrains}
+use Rattle.line.specs.Refusal.{refused, fine}
+use Rattle.line.specs.Line.{header, totals, among, larger}
+use Rattle.table.specs.Table.{Table, tree, readText, greatest, grain, count}
+use Rattle.table.specs.Accepted.{Excessive}
+use Rattle.worth.specs.Worth.{TotalsAre, Exact}
+use Rattle.search.specs.Exact.{NoRemainder}
+
+-- ---- the header
+
+-- "Header columns 5-6, blank so far, may hold a second total, 1 to 64, different from the first, which then has columns 7-8": what an accepted header
+-- has there. Document 01: "5-8 the total T".
+pub record Columns (s : List ℕ) (h : Head) : Type 0 where
+  pub none : fieldOf s 4 2 ≡ Blank → (h .second ≡ 0) × (fieldOf s 4 4 ≡ Number (pos (h .total)))
+  pub some : (fieldOf s 4 2 ≡ Blank → ⊥)
+      → (fieldOf s 4 2 ≡ Number (pos (h .second))) × (fieldOf s 6 2 ≡ Number (pos (h .total))) × (0 < h .second) × (h .second ≤ 64) × (h .second ≡ h .total → ⊥)
+
+abbrev pub HeaderColumns : Type 0
+HeaderColumns = (s : List ℕ) (t : Table) → readText s ≡ fine t → Columns (take 25 s) (t .head)
+
+-- ---- sums, and the division
+
+-- "A chance line's weights sum to either total, and its own sum is its T": the sum that a C's worth is divided by is one of the totals
+abbrev pub OwnSums : Type 0
+OwnSums = (s : List ℕ) (t : Table) → readText s ≡ fine t → TotalsAre (totals (t .head)) (grain t) (tree t)
+
+-- "The division without remainder .. must hold for tables of both sorts": of every C's worth, and of lines 20 and 21 in every search
+abbrev pub DivisionExact : Type 0
+DivisionExact =
+    (s : List ℕ) (t : Table) → readText s ≡ fine t → Exact (grain t) (tree t) × ((ε : ℕ) (full : List ℕ → Bool) → NoRemainder t ε full)
+
+-- ---- 18
+
+-- "Refused: 18, a grain count above 16,777,216, after 9": exactly where the grain count is too great and no earlier condition holds
+abbrev pub EighteenIs : Type 0
+EighteenIs = (s : List ℕ) → (readText s ≡ refused TooManyGrains → Excessive s) × (Excessive s → readText s ≡ refused TooManyGrains)
+
+-- ---- with no second total everything is as it was
+
+-- what each rule that has changed then says: weights "1 to T", "A C's weights sum to T"
+pub record OneTotal (h : Head) : Type 0 where
+  pub weights : larger h ≡ h .total
+  pub sums : (n : ℕ) → among n (totals h) ≡ eqb n (h .total)
+
+-- and, where columns 5-6 are blank: the total is that of columns 5-8, "The grain count G is T to the power K", and 18 is never given
+abbrev pub AsBefore : Type 0
+AsBefore =
+    (s : List ℕ) → fieldOf (take 25 s) 4 2 ≡ Blank
+    → ((h : Head) → 25 ≤ length s → header (count s) (take 25 s) ≡ fine h → (fieldOf (take 25 s) 4 4 ≡ Number (pos (h .total))) × OneTotal h)
+    × ((t : Table) → readText s ≡ fine t → grain t ≡ t .head .total ^ greatest (t .lines))
+    × (readText s ≡ refused TooManyGrains → ⊥)
