@@ -1,9 +1,10 @@
-//! Reads a table from its text, or refuses it: refusals 1 to 10.
+//! Reads a table from its text, or refuses it: refusals 1 to 10, and 18 for its grain
+//! count (document 02, Item 5).
 
 use super::table::*;
 
 /// Reads a whole text. The sequence of the checks is document 01's: 1, then the
-/// header, then each node line from the top, then 8 and 9 over all nodes.
+/// header, then each node line from the top, then 8 and 9 over all nodes; and last 18.
 pub fn read(text: &[u8]) -> Result<Table, Refusal> {
     let (lines, rest) = text.as_chunks::<LINE>();
     if !rest.is_empty() || lines.len() < 2 || lines.len() > 1 + MOST_NODES {
@@ -32,6 +33,7 @@ pub(super) struct Header {
     /// The count as it is written, which may be wrong.
     pub count: i64,
     total: i64,
+    second: Option<i64>,
     lowest: i64,
     highest: i64,
 }
@@ -43,12 +45,16 @@ impl Header {
             return Err(2);
         }
         let count = number(&line[0..4])?;
-        let total = number(&line[4..8])?;
+        let second = field(&line[4..6])?;
+        // Where columns 5-6 are blank, those of a single total say no more than 7-8.
+        let total = number(&line[6..8])?;
         let lowest = number(&line[8..16])?;
         let highest = number(&line[16..24])?;
 
         let ends = -FARTHEST_END..=FARTHEST_END;
-        if !(1..=MOST_TOTAL).contains(&total)
+        let totals = 1..=MOST_TOTAL;
+        if !totals.contains(&total)
+            || second.is_some_and(|second| !totals.contains(&second) || second == total)
             || !ends.contains(&lowest)
             || !ends.contains(&highest)
             || lowest > highest
@@ -58,9 +64,20 @@ impl Header {
         Ok(Header {
             count,
             total,
+            second,
             lowest,
             highest,
         })
+    }
+
+    /// The first total, and the second if there is one.
+    fn totals(&self) -> impl Iterator<Item = i64> {
+        [Some(self.total), self.second].into_iter().flatten()
+    }
+
+    /// The greatest weight that any child of a C may have.
+    fn larger(&self) -> i64 {
+        self.totals().max().expect("there is a first total")
     }
 }
 
@@ -74,9 +91,9 @@ struct Step {
 /// What is known after some of the node lines.
 struct Reader {
     header: Header,
+    larger: i64,
+    /// Those read, with the sums of the weights of their children so far.
     nodes: Vec<Node>,
-    /// For each node, the sum of its children's weights so far.
-    sums: Vec<i64>,
     path: Vec<Step>,
     most_chances: usize,
     leaves: usize,
@@ -88,10 +105,10 @@ impl Reader {
         let count = header.count as usize;
         Reader {
             nodes: Vec::with_capacity(count),
-            sums: vec![0; count],
             path: Vec::with_capacity(LONGEST_PATH),
             most_chances: 0,
             leaves: 0,
+            larger: header.larger(),
             header,
         }
     }
@@ -135,7 +152,7 @@ impl Reader {
             return Err(7);
         }
 
-        let weights = 1..=self.header.total;
+        let weights = 1..=self.larger;
         let utilities = self.header.lowest..=self.header.highest;
         if weight.is_some_and(|w| !weights.contains(&w))
             || utility.is_some_and(|u| !utilities.contains(&u))
@@ -144,7 +161,7 @@ impl Reader {
         }
 
         if let (Some(parent), Some(weight)) = (parent, weight) {
-            self.sums[parent] += weight;
+            self.nodes[parent].sum += weight;
         }
         self.most_chances = self.most_chances.max(chances);
         self.leaves += usize::from(kind == Kind::Leaf);
@@ -154,6 +171,7 @@ impl Reader {
             parent,
             weight,
             utility,
+            sum: 0,
             stop: node + 1,
         });
         Ok(())
@@ -176,7 +194,7 @@ impl Reader {
         Err(6)
     }
 
-    /// Closes the last path, then looks for 8 and 9.
+    /// Closes the last path, then looks for 8, 9 and 18.
     fn finish(mut self) -> Result<Table, Refusal> {
         let count = self.nodes.len();
         for step in &self.path {
@@ -189,24 +207,41 @@ impl Reader {
             return Err(refusal(8, node + 1));
         }
 
-        let total = self.header.total;
-        let mut sums = self.nodes.iter().zip(&self.sums);
-        let unequal = sums.position(|(node, &sum)| node.kind == Kind::Chance && sum != total);
-        if let Some(node) = unequal {
+        let is_total = |sum| self.header.totals().any(|total| total == sum);
+        let mut nodes = self.nodes.iter();
+        let neither = nodes.position(|node| node.kind == Kind::Chance && !is_total(node.sum));
+        if let Some(node) = neither {
             return Err(refusal(9, node + 1));
         }
 
-        let chances = self.most_chances as u32;
+        let totals = self.header.totals();
+        let grains = totals.map(|total| total.pow(most_uses(&self.nodes, total)));
+        let grains = grains.product();
+        if grains > MOST_GRAINS {
+            return Err(refusal(18, 0));
+        }
+
         Ok(Table {
-            total,
+            total: self.header.total,
+            second: self.header.second,
             lowest: self.header.lowest,
             highest: self.header.highest,
             nodes: self.nodes,
-            chances,
-            grains: total.pow(chances),
+            chances: self.most_chances as u32,
+            grains,
             leaves: self.leaves,
         })
     }
+}
+
+/// The greatest number of C on a path whose weights sum to this total.
+fn most_uses(nodes: &[Node], total: i64) -> u32 {
+    let mut uses: Vec<u32> = Vec::with_capacity(nodes.len());
+    for node in nodes {
+        let above = node.parent.map_or(0, |parent| uses[parent]);
+        uses.push(above + u32::from(node.sum == total));
+    }
+    uses.into_iter().max().unwrap_or(0)
 }
 
 /// Reads a field that must not be blank.

@@ -6,8 +6,11 @@ pub const LINE: usize = 25;
 /// The most nodes a table has.
 pub const MOST_NODES: usize = 1_024;
 
-/// The greatest total T of a chance node's weights.
+/// The greatest total T of a chance node's weights, the first or the second.
 pub const MOST_TOTAL: i64 = 64;
+
+/// The greatest grain count (document 02, Item 5).
+pub const MOST_GRAINS: i64 = 16_777_216;
 
 /// The ends lie between this and its negative.
 pub const FARTHEST_END: i64 = 1_000_000;
@@ -33,6 +36,8 @@ pub struct Node {
     pub parent: Option<usize>,
     pub weight: Option<i64>,
     pub utility: Option<i64>,
+    /// What the weights of its children sum to: a chance node's own T. 0 at other nodes.
+    pub sum: i64,
     /// One past the last node of this node's run: itself and all under it.
     pub stop: usize,
 }
@@ -40,14 +45,18 @@ pub struct Node {
 /// An accepted table.
 #[derive(Clone, Debug, PartialEq, Eq)]
 pub struct Table {
+    /// The first total, in columns 7-8.
     pub total: i64,
+    /// The second, in columns 5-6 (document 02, Item 5); none where they are blank.
+    pub second: Option<i64>,
     pub lowest: i64,
     pub highest: i64,
     /// In line order, which is depth-first order.
     pub nodes: Vec<Node>,
     /// K, the greatest number of chance nodes on any path.
     pub chances: u32,
-    /// G, the grains in one point: T to the power K.
+    /// G, the grains in one point: each total to the power of its greatest number of
+    /// uses on a path, multiplied.
     pub grains: i64,
     /// The number of leaves.
     pub leaves: usize,

@@ -28,8 +28,8 @@ pub fn worths(table: &Table) -> Vec<i64> {
     for (i, node) in table.nodes.iter().enumerate().rev() {
         if node.kind == Kind::Chance {
             let sum = entries[i];
-            assert_eq!(sum % table.total, 0, "node {i}: T leaves a remainder");
-            entries[i] = sum / table.total;
+            assert_eq!(sum % node.sum, 0, "node {i}: T leaves a remainder");
+            entries[i] = sum / node.sum;
         }
         let Some(parent) = node.parent else {
             continue;
