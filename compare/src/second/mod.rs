@@ -4,6 +4,7 @@
 //! documents would have to be made twice to go unseen. One module a subject.
 
 pub mod desk;
+mod faults;
 mod judge;
 mod marking;
 mod program;
@@ -15,10 +16,11 @@ mod table;
 mod turn;
 mod worth;
 
+pub use faults::{grains_by, leaves_remainder, worth_divided_by, Divisor, GrainCount};
 pub use judge::{judge, Judgement};
 pub use marking::{mark, steps, Mark, MARKS};
 pub use program::output;
-pub use read::read;
+pub use read::{read, read_up_to};
 pub use report::{
     positions, report, Entry, Position, Report, Stop, Total, MOST_POSITIONS, PLAY_LINE,
 };

@@ -6,6 +6,12 @@ use super::table::*;
 /// Reads a whole text. The sequence of the checks is document 01's: 1, then the
 /// header, then each node line from the top, then 8 and 9 over all nodes; and last 18.
 pub fn read(text: &[u8]) -> Result<Table, Refusal> {
+    read_up_to(text, MOST_GRAINS)
+}
+
+/// The same with another limit of the grain count, or as good as none. It is there for
+/// tests to count the tables that such an engine would have answered otherwise.
+pub fn read_up_to(text: &[u8], most_grains: i64) -> Result<Table, Refusal> {
     let (lines, rest) = text.as_chunks::<LINE>();
     if !rest.is_empty() || lines.len() < 2 || lines.len() > 1 + MOST_NODES {
         return Err(refusal(1, 0));
@@ -22,7 +28,7 @@ pub fn read(text: &[u8]) -> Result<Table, Refusal> {
             .line(node, line)
             .map_err(|number| refusal(number, node + 1))?;
     }
-    reader.finish()
+    reader.finish(most_grains)
 }
 
 fn refusal(number: u8, line: usize) -> Refusal {
@@ -195,7 +201,7 @@ impl Reader {
     }
 
     /// Closes the last path, then looks for 8, 9 and 18.
-    fn finish(mut self) -> Result<Table, Refusal> {
+    fn finish(mut self, most_grains: i64) -> Result<Table, Refusal> {
         let count = self.nodes.len();
         for step in &self.path {
             self.nodes[step.node].stop = count;
@@ -217,7 +223,7 @@ impl Reader {
         let totals = self.header.totals();
         let grains = totals.map(|total| total.pow(most_uses(&self.nodes, total)));
         let grains = grains.product();
-        if grains > MOST_GRAINS {
+        if grains > most_grains {
             return Err(refusal(18, 0));
         }
 

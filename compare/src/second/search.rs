@@ -128,9 +128,10 @@ impl Ties {
 
 /// How a C takes its numbers: as they are, as Algorithm 1 does. An engine may keep T times
 /// them instead (document 02, Item 4) and must answer alike. The other ways are what it
-/// answers if it takes a number for T times that number, or the other way round; they are
-/// there for tests to count where one would have changed an answer. The faults count from
-/// the lowest end, as an engine does whose sums begin with 0.
+/// answers if it takes a number for T times that number, or the other way round, or the
+/// other total for its own; they are there for tests to count where one would have changed
+/// an answer. The faults count from the lowest end, as an engine does whose sums begin with
+/// 0.
 #[derive(Clone, Copy, Debug, PartialEq, Eq)]
 pub enum Sums {
     Right,
@@ -146,6 +147,17 @@ pub enum Sums {
     DividedAgain,
     /// The same, but only where it is cut.
     DividedAgainAtCut,
+    /// A C takes the larger of two totals for its own sum (document 02, Item 5), in its
+    /// sums and in the windows below it.
+    LargerTotal,
+    /// The smaller.
+    SmallerTotal,
+    /// The larger in its sums alone.
+    LargerInSums,
+    SmallerInSums,
+    /// The larger in the windows below it alone.
+    LargerInWindows,
+    SmallerInWindows,
 }
 
 /// A child of the root that was entered, and what was found there. By Item 6 one that is
@@ -188,15 +200,20 @@ pub fn search_watched(
         return refused(11);
     }
 
-    let scale = Scale::of(table, terms.rounding);
+    let ends = Bounds {
+        low: table.lowest * table.grains,
+        high: table.highest * table.grains,
+    };
     let whole = Window {
-        alpha: scale.least,
-        beta: scale.greatest,
+        alpha: ends.low,
+        beta: ends.high,
     };
     let mut search = Search {
         nodes: &table.nodes,
         grains: table.grains,
-        scale,
+        ends,
+        rounding: terms.rounding,
+        totals: (table.smaller_total(), table.larger_total()),
         margin: terms.margin,
         sums: terms.sums,
         leaves,
@@ -216,8 +233,8 @@ pub fn search_watched(
     })
 }
 
-/// The least and the greatest value there is, in grains, T, and how a window under a
-/// C is rounded.
+/// The least and the greatest value there is, in grains, the T of a C, and how a window
+/// under it is rounded.
 #[derive(Clone, Copy, Debug)]
 pub struct Scale {
     pub least: i64,
@@ -227,17 +244,8 @@ pub struct Scale {
 }
 
 /// No product here leaves the range of i64: a difference of two values is at
-/// most 2,000,000 times 64 to the 4th, and it is multiplied by 64 at most.
+/// most 2,000,000 times the greatest grain count, and it is multiplied by 64 at most.
 impl Scale {
-    fn of(table: &Table, rounding: Rounding) -> Scale {
-        Scale {
-            least: table.lowest * table.grains,
-            greatest: table.highest * table.grains,
-            total: table.total,
-            rounding,
-        }
-    }
-
     /// Line 9: alpha for a child of this weight, from the alpha and the high of
     /// the chance node above it. Document 01 has the quotient rounded down.
     pub fn alpha_below(&self, weight: i64, alpha: i64, high: i64) -> i64 {
@@ -303,7 +311,11 @@ impl Window {
 struct Search<'a, W> {
     nodes: &'a [Node],
     grains: i64,
-    scale: Scale,
+    /// The least and the greatest value: the bounds of a node of which nothing is known.
+    ends: Bounds,
+    rounding: Rounding,
+    /// The smaller total and the larger, for the faults.
+    totals: (i64, i64),
     margin: i64,
     sums: Sums,
     leaves: &'a mut [u16],
@@ -340,7 +352,7 @@ impl<W: FnMut(Step)> Search<'_, W> {
     fn unread(&mut self, node: usize) -> Bounds {
         self.spent = true;
         (self.watch)(Step::Unread(node));
-        self.ends()
+        self.ends
     }
 
     fn leaf(&mut self, node: usize) -> Bounds {
@@ -356,8 +368,8 @@ impl<W: FnMut(Step)> Search<'_, W> {
 
     fn max(&mut self, node: usize, mut window: Window) -> Bounds {
         let stop = self.nodes[node].stop;
-        let mut bounds = self.ends();
-        let mut best_high = self.scale.least;
+        let mut bounds = self.ends;
+        let mut best_high = self.ends.low;
         let mut child = node + 1;
         loop {
             let found = self.enter(child, || window);
@@ -377,8 +389,8 @@ impl<W: FnMut(Step)> Search<'_, W> {
 
     fn min(&mut self, node: usize, mut window: Window) -> Bounds {
         let stop = self.nodes[node].stop;
-        let mut bounds = self.ends();
-        let mut best_low = self.scale.greatest;
+        let mut bounds = self.ends;
+        let mut best_low = self.ends.high;
         let mut child = node + 1;
         loop {
             let found = self.enter(child, || window);
@@ -397,9 +409,9 @@ impl<W: FnMut(Step)> Search<'_, W> {
     }
 
     fn chance(&mut self, node: usize, mut window: Window) -> Bounds {
-        let scale = self.scale;
+        let scale = self.scale(self.nodes[node].sum);
         let stop = self.nodes[node].stop;
-        let mut bounds = self.ends();
+        let mut bounds = self.ends;
         let mut child = node + 1;
         loop {
             let weight = self.nodes[child].weight;
@@ -418,11 +430,13 @@ impl<W: FnMut(Step)> Search<'_, W> {
         }
     }
 
-    /// The bounds of a node of which nothing is known.
-    fn ends(&self) -> Bounds {
-        Bounds {
-            low: self.scale.least,
-            high: self.scale.greatest,
+    /// The scale at a C with this T.
+    fn scale(&self, total: i64) -> Scale {
+        Scale {
+            least: self.ends.low,
+            greatest: self.ends.high,
+            total,
+            rounding: self.rounding,
         }
     }
 
@@ -449,9 +463,20 @@ impl<W: FnMut(Step)> Search<'_, W> {
     /// As `chance`, but for the fault. It stands apart, so that the right way is not
     /// slowed by the wrong ones.
     fn faulty_chance(&mut self, node: usize, mut window: Window) -> Bounds {
-        let (scale, margin) = (self.scale, self.margin);
-        let stop = self.nodes[node].stop;
-        let mut bounds = self.ends();
+        let Node { sum, stop, .. } = self.nodes[node];
+        let ((smaller, larger), margin) = (self.totals, self.margin);
+        // T in the sums, and in the windows below.
+        let (total, below) = match self.sums {
+            Sums::LargerTotal => (larger, larger),
+            Sums::SmallerTotal => (smaller, smaller),
+            Sums::LargerInSums => (larger, sum),
+            Sums::SmallerInSums => (smaller, sum),
+            Sums::LargerInWindows => (sum, larger),
+            Sums::SmallerInWindows => (sum, smaller),
+            _ => (sum, sum),
+        };
+        let (scale, windows) = (self.scale(total), self.scale(below));
+        let mut bounds = self.ends;
         let mut child = node + 1;
         match self.sums {
             Sums::BareAlpha => window.alpha = scale.divided(window.alpha),
@@ -468,13 +493,17 @@ impl<W: FnMut(Step)> Search<'_, W> {
             let weight = weight.expect("a child of a C has a weight");
             self.margin = below;
             let found = self.enter(child, || Window {
-                alpha: scale.alpha_below(weight, window.alpha, bounds.high),
-                beta: scale.beta_below(weight, window.beta, bounds.low),
+                alpha: windows.alpha_below(weight, window.alpha, bounds.high),
+                beta: windows.beta_below(weight, window.beta, bounds.low),
             });
             self.margin = margin;
-            // A child that is itself divided once too often may leave a remainder.
+            // What is divided once too often, or by another total, may leave a remainder.
             bounds.low += weight * (found.low - scale.least) / scale.total;
             bounds.high -= weight * (scale.greatest - found.high) / scale.total;
+            // A divisor that is too small leads past the ends, where numbers would soon be
+            // too large.
+            bounds.low = bounds.low.min(scale.greatest);
+            bounds.high = bounds.high.max(scale.least);
             window.narrow(bounds);
             child = self.nodes[child].stop;
             if child == stop {

@@ -62,6 +62,18 @@ pub struct Table {
     pub leaves: usize,
 }
 
+impl Table {
+    /// The larger of the two totals, or the only one.
+    pub fn larger_total(&self) -> i64 {
+        self.total.max(self.second.unwrap_or(self.total))
+    }
+
+    /// The smaller likewise.
+    pub fn smaller_total(&self) -> i64 {
+        self.total.min(self.second.unwrap_or(self.total))
+    }
+}
+
 /// How many children the root has.
 pub fn root_children(table: &Table) -> usize {
     let nodes = table.nodes.iter();
