@@ -10,12 +10,12 @@ use crate::second::MOST_NODES;
 /// The arrays lent to the reading of a table.
 ///
 /// For an accepted table `numbers` holds the count of nodes, T, the lowest
-/// end, the highest end, K, G and the count of leaves, and the other arrays
-/// hold one entry for each node. All else is left as it was, and everything
-/// where the table is refused.
+/// end, the highest end, K, G, the count of leaves and the second total or 0, and
+/// the other arrays hold one entry for each node. All else is left as it was, and
+/// everything where the table is refused.
 #[derive(Clone, Debug, PartialEq, Eq)]
 pub struct Lent {
-    pub numbers: [i64; 8],
+    pub numbers: [i64; 9],
     pub kind: [u8; MOST_NODES],
     pub stop: [u16; MOST_NODES],
     pub weight: [u8; MOST_NODES],
@@ -26,7 +26,7 @@ impl Lent {
     /// Arrays full of a pattern that is no entry of any table, so that an
     /// entry that was written can be told from one that was left alone.
     pub const PATTERN: Lent = Lent {
-        numbers: [-0x5a5a_5a5a_5a5a_5a5a; 8],
+        numbers: [-0x5a5a_5a5a_5a5a_5a5a; 9],
         kind: [0xa5; MOST_NODES],
         stop: [0xa5a5; MOST_NODES],
         weight: [0xa5; MOST_NODES],

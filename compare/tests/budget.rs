@@ -11,7 +11,7 @@ use compare::hold::numbers::ROOM;
 use compare::hold::searching::{Expected, OTHER_ROUNDINGS};
 use compare::hold::seen::Seen;
 use compare::hold::span;
-use compare::hold::tally::OF_TABLES;
+use compare::hold::tally::{OF_GRAINS, OF_TABLES};
 use compare::hold::ties::{self, AWAY, BEHIND};
 use compare::random::{number_from_environment, Random};
 use compare::second::{
@@ -65,6 +65,8 @@ fn random_texts() {
     let answers = &comparison.answers;
     answers.demand_but(200, |sort| sort.ends_with(AFTER_UNREAD));
     comparison.tally.demand_refusals(&OF_TABLES);
+    comparison.tally.demand_refusals(&OF_GRAINS);
+    comparison.tally.demand_two_totals();
     comparison.tally.demand_refusals(&[11, 12, 17]);
     let answers = comparison.tally.counts[0];
     assert!(answers >= 50_000, "only {answers} answers");
@@ -173,6 +175,7 @@ fn reads_that_end_in_a_chance_node() {
         held.expect("valid");
     }
     comparison.tally.report();
+    comparison.tally.demand_two_totals();
     // About half of what the usual seed gives.
     roundings.demand(650);
     let answers = &comparison.answers;

@@ -4,10 +4,14 @@
 
 use compare::hold::best_plays;
 use compare::hold::seen::{Seen, ROOTS, SIDES};
+use compare::hold::totals::{on_one_path, uses};
 use compare::random::{seed, Random};
 use compare::second::{self, root_children, Kind, Table, MOST_CHANCES, MOST_TOTAL};
 use compare::texts::examples::escaped;
-use compare::texts::knobs::{Kinds, Knobs, Order, Shape, Utilities, Weights, ROLLS, WIDEST};
+use compare::texts::knobs::{
+    Kinds, Knobs, Order, Shape, Utilities, Weights, OPENINGS, ROLLS, WIDEST,
+};
+use compare::texts::totals::{Grains, Plan, GRAINS};
 use compare::texts::{self, bench, level, matches, ties, windows};
 
 /// A setting and its name.
@@ -86,7 +90,8 @@ fn broken_knob(knobs: &Knobs, table: &Table) -> Option<&'static str> {
             "nodes",
             nodes == knobs.nodes || fewer && nodes < knobs.nodes,
         ),
-        ("totals", knobs.totals == [table.total]),
+        ("totals", totals_obey(knobs, table)),
+        ("grains", table.grains <= knobs.grains),
         ("ends", ends == knobs.ends),
         ("utilities", utilities_obey(knobs, table)),
         ("kinds", kinds_obey(knobs, table)),
@@ -99,6 +104,11 @@ fn broken_knob(knobs: &Knobs, table: &Table) -> Option<&'static str> {
     ];
     let broken = knobs_and_tables.iter().find(|(_, obeyed)| !obeyed);
     broken.map(|(name, _)| *name)
+}
+
+fn totals_obey(knobs: &Knobs, table: &Table) -> bool {
+    let totals = Some(table.total).into_iter().chain(table.second);
+    totals.eq(knobs.totals.iter().copied())
 }
 
 fn utilities_obey(knobs: &Knobs, table: &Table) -> bool {
@@ -187,11 +197,13 @@ fn shape_obeys(knobs: &Knobs, table: &Table) -> bool {
 
 fn weights_obey(knob: Weights, table: &Table) -> bool {
     weights(table).iter().all(|weights| {
-        let doubles = weights.iter().filter(|weight| **weight == 1).count();
+        let of_one = weights.iter().filter(|weight| **weight == 1).count();
+        let sum: i64 = weights.iter().sum();
         match knob {
             Weights::Any | Weights::Uneven => true,
             Weights::Even => spread(weights) <= 1,
-            Weights::Dice => (weights.len(), doubles, table.total) == (ROLLS, 6, 36),
+            Weights::Dice if sum == 36 => (weights.len(), of_one) == (ROLLS, 6),
+            Weights::Dice => (weights.len(), of_one, sum) == (OPENINGS, OPENINGS, 15),
         }
     })
 }
@@ -341,8 +353,8 @@ fn windows_are_under_heavy_children() {
             second::read(&text).unwrap_or_else(|refusal| panic!("{refusal:?} at {}", place()));
         let root = table.nodes[0].kind;
         let heavy = table.nodes.iter().filter(|node| {
-            let weight = node.weight.unwrap_or(0);
-            3 * weight >= 2 * table.total
+            let sum = node.parent.map_or(0, |parent| table.nodes[parent].sum);
+            node.weight.is_some_and(|weight| 3 * weight >= 2 * sum)
         });
         let kinds: Vec<Kind> = heavy.map(|node| node.kind).collect();
         assert_eq!(kinds.len(), weights(&table).len(), "{}", place());
@@ -350,6 +362,7 @@ fn windows_are_under_heavy_children() {
         assert!(others && !kinds.contains(&Kind::Leaf), "{}", place());
         seen.count_root(&SIDES, &table);
         seen.count_chances(&table);
+        seen.count("both totals on a path", on_one_path(&table));
     }
     seen.demand_but(300, |sort| sort == "K 0");
 }
@@ -375,6 +388,8 @@ fn plays_are_alike() {
         };
         seen.count("two plays that are the same", apart(0));
         seen.count("two plays with one leaf apart", apart(1));
+        let both = uses(&table).iter().all(|uses| *uses > 0);
+        seen.count("both totals under C", both);
     }
     seen.demand_but(60, |sort| ["K 3", "K 4"].contains(&sort));
 }
@@ -405,6 +420,51 @@ fn leaves_apart(one: &[second::Node], other: &[second::Node]) -> Option<usize> {
     let pairs = one.iter().zip(other);
     let apart = pairs.filter(|(one, other)| one != other).count();
     alike.then_some(apart)
+}
+
+/// Tables with two totals by a plan have the planned uses of each and so the planned grain
+/// count, and nothing wrong but that it may be too great; both totals on one path, both and
+/// never on one, and one of them without a use, come often.
+#[test]
+fn totals_are_used_as_planned() {
+    let mut seen = Seen::default();
+    for number in 0..6_000 {
+        let mut random = Random::of_case(seed(), number);
+        let plan = match number % 6 {
+            0 => Plan::any(&mut random),
+            other => Plan::of(GRAINS[other as usize - 1], &mut random),
+        };
+        let text = plan.text(&mut random);
+        let place = || format!("case {number}, {plan:?}:\n{}", escaped(&text));
+        let table = second::read_up_to(&text, i64::MAX)
+            .unwrap_or_else(|refusal| panic!("{refusal:?} at {}", place()));
+        let totals = [Some(table.total), table.second];
+        assert_eq!(totals, plan.totals.map(Some), "{}", place());
+        assert_eq!(
+            uses(&table),
+            plan.uses.map(|uses| uses as u32),
+            "{}",
+            place()
+        );
+        assert_eq!(table.grains, plan.grains(), "{}", place());
+        let refused = second::read(&text).is_err_and(|refusal| refusal.number == 18);
+        let above = Grains::Above.contains(plan.grains());
+        assert_eq!(refused, above, "{}", place());
+
+        let [first, second] = plan.uses.map(|uses| uses > 0);
+        seen.count("both totals on a path", on_one_path(&table));
+        let apart = first && second && !on_one_path(&table);
+        seen.count("both totals, never on one path", apart);
+        seen.count("the first total alone", first && !second);
+        seen.count("the second total alone", second && !first);
+        seen.count_root(&[Kind::Max, Kind::Min, Kind::Chance], &table);
+        for grains in GRAINS {
+            let here = grains.contains(table.grains);
+            seen.count(&format!("{grains:?}"), here);
+        }
+        seen.count("a grain count allowed", !above);
+    }
+    seen.demand(200);
 }
 
 /// The benchmark's figures are compared with those of earlier runs, so every byte

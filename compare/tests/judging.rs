@@ -7,7 +7,7 @@ use compare::hold::best_plays;
 use compare::hold::judging::{hold_to, Comparison, OLDER};
 use compare::hold::numbers::ROOM;
 use compare::hold::seen::SIDES;
-use compare::hold::tally::{say, OF_TABLES};
+use compare::hold::tally::{say, OF_GRAINS, OF_TABLES};
 use compare::random::{number_from_environment, seed, Random};
 use compare::second::{self, root_children, Judgement, Refusal, FARTHEST_END, MOST_NODES};
 use compare::texts::examples::*;
@@ -72,6 +72,8 @@ fn random_texts() {
     let seen = &comparison.seen;
     seen.demand_but(100, |sort| sort.starts_with("a grain apart"));
     comparison.tally.demand(&OF_TABLES);
+    comparison.tally.demand(&OF_GRAINS);
+    comparison.tally.demand_two_totals();
     comparison.tally.demand(&[14]);
     demand_forced(&comparison, tables);
 }
@@ -115,6 +117,7 @@ fn level_plays() {
     }
     comparison.tally.report();
     comparison.tally.demand_refusals(&[14]);
+    comparison.tally.demand_two_totals();
     let seen = &comparison.seen;
     seen.demand_but(1_000, is_without_choice);
     let older = SIDES.map(|kind| seen.of(&format!("{OLDER} at {kind:?}")));

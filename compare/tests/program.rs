@@ -16,7 +16,7 @@ use std::time::Duration;
 
 use compare::hold;
 use compare::hold::seen::Seen;
-use compare::hold::tally::{Tally, OF_TABLES};
+use compare::hold::tally::{Tally, OF_GRAINS, OF_TABLES};
 use compare::random::{number_from_environment, Random};
 use compare::second::{self, LINE, MOST_NODES};
 use compare::texts::examples::*;
@@ -206,7 +206,11 @@ fn random_inputs() {
         seen.count("margin out of range, refused 12", well && refused == 12);
         let bad_both = !damaged && !well && table.is_err();
         seen.count("margin and table bad", bad_both);
-        assert!(!bad_both || refused < 11, "the table is named first");
+        let of_table = refused < 11 || refused == 18;
+        assert!(!bad_both || of_table, "the table is named first");
+        if let Ok(table) = &table {
+            comparison.tally.add_table(table);
+        }
         seen.count("no play", play == Some(0));
         seen.count("first child played", play == Some(1));
         seen.count("later child played", play.is_some_and(|play| play > 1));
@@ -220,7 +224,8 @@ fn random_inputs() {
     comparison.tally.report();
     seen.demand(100);
     assert!(comparison.tally.cases >= 2_000, "too few inputs");
-    for number in OF_TABLES {
+    comparison.tally.demand_two_totals();
+    for number in OF_TABLES.into_iter().chain(OF_GRAINS) {
         let count = comparison.tally.counts[number];
         assert!(count >= 4, "refusal {number} came only {count} times");
     }

@@ -4,9 +4,9 @@
 //! number.
 
 use compare::engine::{self, Lent};
-use compare::hold::reading::{expected, Comparison};
+use compare::hold::reading::{expected, Comparison, NUMBERS};
 use compare::hold::seen::{Seen, ROOTS};
-use compare::hold::tally::OF_TABLES;
+use compare::hold::tally::{OF_GRAINS, OF_TABLES};
 use compare::random::{number_from_environment, seed, Random};
 use compare::second::{self, Kind, Refusal, LINE, MOST_NODES, MOST_TOTAL};
 use compare::texts;
@@ -48,6 +48,8 @@ fn random_texts() {
     comparison.tally.report();
     seen.demand(100);
     comparison.tally.demand(&OF_TABLES);
+    comparison.tally.demand(&OF_GRAINS);
+    comparison.tally.demand_two_totals();
 }
 
 /// Tables with one fault each: both engines must name the refusal, and the line,
@@ -55,7 +57,7 @@ fn random_texts() {
 #[test]
 fn each_refusal_alone() {
     let mut comparison = Comparison::new("each refusal alone");
-    for number in 1..=10 {
+    for number in [1, 2, 3, 4, 5, 6, 7, 8, 9, 10, 18] {
         for case in 0..2_000 {
             let case = 10_000 * u64::from(number) + case;
             let mut random = Random::of_case(comparison.tally.seed, case);
@@ -157,6 +159,8 @@ fn every_field() {
     let fields = [
         (0, 0, 4),
         (0, 4, 8),
+        (0, 4, 6),
+        (0, 6, 8),
         (0, 8, 16),
         (0, 16, 24),
         (5, 0, 4),
@@ -337,7 +341,7 @@ fn slices_of_any_length() {
                 &mut height[..rooms[4]],
             );
             assert_eq!(got, returned);
-            let counted = if answer.is_ok() { 7 } else { 0 };
+            let counted = if answer.is_ok() { NUMBERS } else { 0 };
             assert_eq!(
                 numbers,
                 cut(&full.numbers[..counted], rooms[0], p.numbers[0])

@@ -39,7 +39,7 @@ fn marked(scale: i64, loss: i64) -> Mark {
 // ---------------------------------------------------------------------------
 
 /// The refusals of a report; 1 is not given.
-const REFUSALS: [usize; 14] = [2, 3, 4, 5, 6, 7, 8, 9, 10, 11, 14, 15, 16, 20];
+const REFUSALS: [usize; 15] = [2, 3, 4, 5, 6, 7, 8, 9, 10, 11, 14, 15, 16, 18, 20];
 
 /// The main comparison. It also fails where the files were too much alike to
 /// mean anything.
@@ -61,6 +61,7 @@ fn random_files() {
     comparison.scales.demand(100);
     comparison.forced.demand(100);
     tally.demand_refusals(&REFUSALS);
+    tally.demand_two_totals();
     assert!(tally.counts[20] >= 1_000, "too few refused scales");
     for (number, count) in tally.counts.iter().enumerate().skip(1) {
         let given = REFUSALS.contains(&number);

@@ -5,7 +5,7 @@
 
 use compare::hold::numbers::ROOM;
 use compare::hold::rolling::{hold_to, policies, Comparison, Expected, Rooms};
-use compare::hold::tally::OF_TABLES;
+use compare::hold::tally::{OF_GRAINS, OF_TABLES};
 use compare::random::{number_from_environment, Random};
 use compare::second::{self, Refusal, FARTHEST_END, MOST_NODES};
 use compare::texts;
@@ -45,6 +45,8 @@ fn random_texts() {
     comparison.tally.report();
     comparison.seen.demand(200);
     comparison.tally.demand(&OF_TABLES);
+    comparison.tally.demand(&OF_GRAINS);
+    comparison.tally.demand_two_totals();
     comparison.tally.demand(&[11, 13]);
     assert!(tables >= 20_000, "only {tables} accepted tables without C");
 }

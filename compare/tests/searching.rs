@@ -9,7 +9,7 @@ use compare::hold::searching::{
 };
 use compare::hold::seen::Seen;
 use compare::hold::span;
-use compare::hold::tally::{Tally, OF_TABLES};
+use compare::hold::tally::{Tally, OF_GRAINS, OF_TABLES};
 use compare::random::{number_from_environment, seed, Random};
 use compare::second::{self, Kind, Refusal, Rounding, Scale, Table, GREATEST_MARGIN, MOST_NODES};
 use compare::texts::examples::*;
@@ -61,6 +61,8 @@ fn random_texts() {
     comparison.answers.demand(2_000);
     comparison.tests.demand(2_000);
     comparison.tally.demand(&OF_TABLES);
+    comparison.tally.demand(&OF_GRAINS);
+    comparison.tally.demand_two_totals();
     comparison.tally.demand(&[11, 12]);
     assert!(tables >= 50_000, "only {tables} accepted tables");
 }
@@ -113,6 +115,7 @@ fn narrow_tables() {
     let answers = &comparison.answers;
     answers.demand_but(1_000, |sort| sort.ends_with("root Leaf"));
     comparison.tests.demand(1_000);
+    comparison.tally.demand_two_totals();
 }
 
 /// Tables of 1,024 lines with T 64 and the widest ends.

@@ -64,7 +64,7 @@ fn random_tables() {
         }
     }
     // About half of what the usual seed gives, or less, here and below, for each fault.
-    comparison.demand_tests(2_500);
+    comparison.demand_tests(2_500, true);
     comparison.demand_faults(3_000, 500);
     comparison.tables.demand(300);
     for (sort, least) in [
@@ -107,7 +107,7 @@ fn cut_tests_of_chance_nodes() {
         let questions = Questions { margins, asked };
         comparison.hold(sort, &text, &table, &mut random, questions);
     }
-    comparison.demand_tests(800);
+    comparison.demand_tests(800, true);
     comparison.demand_faults(1_500, 150);
 }
 
@@ -133,7 +133,7 @@ fn windows_below_chance_nodes() {
         comparison.count_roundings(NARROWED, &table, &questions);
         comparison.hold(NARROWED, &text, &table, &mut random, questions);
     }
-    comparison.demand_tests(1_200);
+    comparison.demand_tests(1_200, true);
     comparison.demand_faults(20_000, 6_000);
     comparison.roundings.demand(1_000);
 }
@@ -169,7 +169,7 @@ fn largest_tables() {
         let questions = Questions { margins, asked };
         comparison.hold("T 64", text, &table, &mut random, questions);
     }
-    comparison.demand_tests(70);
+    comparison.demand_tests(70, false);
     comparison.demand_faults(600, 100);
     let four = comparison.plain.tables.of("K 4");
     assert!(four >= 300, "four C on a path only {four} times");

@@ -56,6 +56,8 @@ fn random_tables() {
     }
     plain.tally.report();
     within.tally.report();
+    plain.tally.demand_two_totals();
+    within.tally.demand_two_totals();
     say(&format!("several plays tied in {tied} of {cases} tables"));
     // About half of what the usual seed gives, or less.
     let rare = |sort: &str| sort.starts_with(BEHIND);

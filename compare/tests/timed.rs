@@ -3,7 +3,7 @@
 
 use compare::engine;
 use compare::hold::span;
-use compare::hold::tally::{Tally, OF_TABLES};
+use compare::hold::tally::{Tally, OF_GRAINS, OF_TABLES};
 use compare::random::Random;
 use compare::second::{self, GREATEST_MARGIN};
 use compare::texts;
@@ -20,7 +20,10 @@ fn answers_as_the_search_does() {
         let mut random = Random::of_case(tally.seed, number);
         let text = texts::case(&mut random).text;
         let (leaves, span) = match second::read(&text) {
-            Ok(table) => (table.leaves, span(&table)),
+            Ok(table) => {
+                tally.add_table(&table);
+                (table.leaves, span(&table))
+            }
             Err(_) => (3, 9),
         };
         // A list one entry short, an exact one and a long one; numbers of any length.
@@ -44,5 +47,7 @@ fn answers_as_the_search_does() {
     }
     tally.report();
     tally.demand_refusals(&OF_TABLES);
+    tally.demand_refusals(&OF_GRAINS);
+    tally.demand_two_totals();
     tally.demand_refusals(&[11, 12]);
 }

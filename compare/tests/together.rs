@@ -131,8 +131,10 @@ fn searching_turned_tables_and_other_unread_leaves() {
         }
         seen.count_root(&[Kind::Max, Kind::Min, Kind::Chance], &table);
         tally.add(&[0; 4]);
+        tally.add_table(&table);
     }
     tally.report();
+    tally.demand_two_totals();
     seen.demand(1_000);
 }
 
@@ -187,7 +189,9 @@ fn rollouts_worth_and_search() {
             seen.count("no leaf read", answer.1.is_empty());
         }
         tally.add(&[0; 4]);
+        tally.add_table(&table);
     }
     tally.report();
+    tally.demand_two_totals();
     seen.demand(1_000);
 }

@@ -3,7 +3,7 @@
 //! The environment variable SEED sets the seed of the random texts, CASES their
 //! number.
 
-use compare::hold::tally::{Tally, OF_TABLES};
+use compare::hold::tally::{Tally, OF_GRAINS, OF_TABLES};
 use compare::hold::turning::{hold_to, Comparison, PATTERN};
 use compare::random::{number_from_environment, Random};
 use compare::second::{self, Refusal, FARTHEST_END, MOST_NODES};
@@ -36,6 +36,8 @@ fn random_texts() {
     comparison.tally.report();
     comparison.seen.demand(200);
     comparison.tally.demand(&OF_TABLES);
+    comparison.tally.demand(&OF_GRAINS);
+    comparison.tally.demand_two_totals();
     comparison.tally.demand(&[11]);
     assert!(tables >= 50_000, "only {tables} accepted tables");
 }

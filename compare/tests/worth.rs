@@ -5,7 +5,7 @@
 
 use compare::hold::numbers::ROOM;
 use compare::hold::seen::Seen;
-use compare::hold::tally::{Tally, OF_TABLES};
+use compare::hold::tally::{Tally, OF_GRAINS, OF_TABLES};
 use compare::hold::worth::{count, hold, hold_to};
 use compare::random::{number_from_environment, Random};
 use compare::second::{self, Kind, FARTHEST_END, MOST_NODES};
@@ -35,6 +35,8 @@ fn random_texts() {
     tally.report();
     seen.demand(100);
     tally.demand(&OF_TABLES);
+    tally.demand(&OF_GRAINS);
+    tally.demand_two_totals();
 }
 
 // ---------------------------------------------------------------------------

@@ -114,6 +114,9 @@ impl Comparison {
             }
         }
         self.tally.add(&codes);
+        if let Ok(table) = &table {
+            self.tally.add_table(table);
+        }
         table
     }
 

@@ -50,6 +50,7 @@ impl Comparison {
         let codes: Vec<u64> = answers.iter().map(|(_, answer)| code(answer)).collect();
         self.tally.add(&codes);
         if let Ok(table) = &table {
+            self.tally.add_table(table);
             self.seen.count_root(&ROOTS, table);
             self.seen.count_choice(table);
             count(&mut self.seen, table, &answers);

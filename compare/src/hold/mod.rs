@@ -14,6 +14,7 @@ pub mod seen;
 pub mod sums;
 pub mod tally;
 pub mod ties;
+pub mod totals;
 pub mod turning;
 pub mod worth;
 

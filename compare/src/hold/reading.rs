@@ -7,6 +7,9 @@ use crate::engine::{self, Lent};
 use crate::second::{self, Refusal, Table};
 use crate::texts::examples::escaped;
 
+/// How many numbers are written.
+pub const NUMBERS: usize = 8;
+
 /// Compares the two engines on texts.
 pub struct Comparison {
     pub tally: Tally,
@@ -36,6 +39,9 @@ impl Comparison {
             );
         }
         self.tally.add(&[returned]);
+        if let Ok(table) = &answer {
+            self.tally.add_table(table);
+        }
         answer
     }
 }
@@ -44,7 +50,7 @@ impl Comparison {
 pub fn expected(answer: &Result<Table, Refusal>) -> (u64, Lent) {
     let mut lent = Lent::PATTERN;
     if let Ok(table) = answer {
-        lent.numbers[..7].copy_from_slice(&[
+        lent.numbers[..NUMBERS].copy_from_slice(&[
             table.nodes.len() as i64,
             table.total,
             table.lowest,
@@ -52,6 +58,7 @@ pub fn expected(answer: &Result<Table, Refusal>) -> (u64, Lent) {
             i64::from(table.chances),
             table.grains,
             table.leaves as i64,
+            table.second.unwrap_or(0),
         ]);
         for (i, node) in table.nodes.iter().enumerate() {
             lent.kind[i] = kind_number(node.kind);

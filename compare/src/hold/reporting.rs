@@ -212,6 +212,9 @@ impl Comparison {
         self.tally.add(&codes);
         match &answer {
             Ok(report) => {
+                for position in second::positions(file) {
+                    self.tally.add_header(position.text[4..6] != *b"  ");
+                }
                 count_report(&mut self.accepted, scale, report);
                 count_forced(&mut self.forced, file, report);
             }

@@ -174,6 +174,7 @@ impl Comparison {
         }
         self.tally.add(&codes);
         if let Ok(table) = &table {
+            self.tally.add_table(table);
             if table.chances == 0 {
                 self.seen.count_table(table);
                 let roots = [Kind::Max, Kind::Min, Kind::Leaf];

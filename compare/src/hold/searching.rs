@@ -17,7 +17,7 @@ use crate::second::{
     MOST_NODES,
 };
 use crate::texts::examples::escaped;
-use crate::texts::knobs::{ROLLS, WAYS};
+use crate::texts::knobs::{OPENINGS, ROLLS, WAYS};
 use crate::texts::put_utility;
 
 /// No node has this number, so an entry of a list that was written shows.
@@ -218,6 +218,7 @@ impl Comparison {
         }
         self.tally.add(&codes);
         if let (Ok(table), Some(worths)) = (&table, &worths) {
+            self.tally.add_table(table);
             count_table(&mut self.tables, table, worths);
         }
         table
@@ -329,22 +330,33 @@ fn count_table(seen: &mut Seen, table: &Table, worths: &[i64]) {
     let best = best_plays(table, worths);
     seen.count("a forced play", best > 0 && root_children(table) == 1);
     seen.count("several plays of the best worth", best > 1);
-    let rolls = table.chances > 0 && table.total == WAYS && rolls_only(table);
-    seen.count("the 21 rolls at every C", rolls);
+    let (rolls, openings) = (
+        rolls(table, WAYS, ROLLS),
+        rolls(table, OPENINGS as i64, OPENINGS),
+    );
+    let all = table
+        .nodes
+        .iter()
+        .filter(|node| node.kind == Kind::Chance)
+        .count();
+    seen.count("the 21 rolls at every C", all > 0 && rolls == all);
+    let both = rolls > 0 && openings > 0 && rolls + openings == all;
+    seen.count("the 21 rolls and the 15 opening rolls", both);
     seen.count_chances(table);
     seen.count_root(&ROOTS, table);
 }
 
-/// Whether every C has the 21 rolls of two dice as its children.
-fn rolls_only(table: &Table) -> bool {
+/// How many C have this T and so many children.
+fn rolls(table: &Table, total: i64, rolls: usize) -> usize {
     let mut children = vec![0; table.nodes.len()];
     for node in &table.nodes {
         if let Some(parent) = node.parent {
             children[parent] += 1;
         }
     }
-    let mut nodes = table.nodes.iter().zip(children);
-    nodes.all(|(node, children)| node.kind != Kind::Chance || children == ROLLS)
+    let nodes = table.nodes.iter().zip(children);
+    let here = nodes.filter(|(node, children)| node.sum == total && *children == rolls);
+    here.count()
 }
 
 pub fn count_list(seen: &mut Seen, room: usize, leaves: usize) {

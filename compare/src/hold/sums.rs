@@ -7,6 +7,7 @@ use super::searching::{self, hold_changed, Expected, OTHER_ROUNDINGS};
 use super::seen::{Seen, ROOTS};
 use super::span;
 use super::tally::say;
+use super::totals;
 use crate::random::Random;
 use crate::second::{Kind, Node, Sums, Table, Terms, MOST_TOTAL};
 use crate::texts::knobs::WAYS;
@@ -114,10 +115,14 @@ impl Comparison {
     }
 
     /// Reports, then fails the test where cut tests of C, or those just cut or just not
-    /// cut, were too few.
-    pub fn demand_tests(&self, least: u64) {
+    /// cut, were too few; or tables with two totals, if there are to be any.
+    pub fn demand_tests(&self, least: u64, two_totals: bool) {
         self.plain.tally.report();
         self.within.tally.report();
+        if two_totals {
+            self.plain.tally.demand_two_totals();
+            self.within.tally.demand_two_totals();
+        }
         for sort in ["cut", "just cut", "just not cut"] {
             let plain = self.plain.tests.of(&format!("{sort} at Chance"));
             let within = format!("Chance {sort} while reads are left");
@@ -211,7 +216,12 @@ fn count_table(seen: &mut Seen, table: &Table) {
     let differs = |node: &Node| under_chance(node).is_some_and(|c| first(c) != node.weight);
     seen.count("uneven weights", nodes.iter().any(differs));
     for total in [1, 2, WAYS, MOST_TOTAL] {
-        let here = table.chances > 0 && table.total == total;
+        let here = nodes.iter().any(|node| node.sum == total);
         seen.count(&format!("T {total}"), here);
     }
+    seen.count(
+        "both totals under C",
+        totals::uses(table).iter().all(|uses| *uses > 0),
+    );
+    seen.count("both totals on a path", totals::on_one_path(table));
 }

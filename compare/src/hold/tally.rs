@@ -4,9 +4,13 @@ use std::io::Write;
 use std::time::Instant;
 
 use crate::random::seed;
+use crate::second::Table;
 
-/// Refusals of a table itself, whatever is asked of it.
+/// Refusals of a table itself by document 01, whatever is asked of it.
 pub const OF_TABLES: [usize; 10] = [1, 2, 3, 4, 5, 6, 7, 8, 9, 10];
+
+/// That for its grain count (document 02, Item 5).
+pub const OF_GRAINS: [usize; 1] = [18];
 
 /// The last refusal's number.
 const LAST: usize = 20;
@@ -20,6 +24,9 @@ pub struct Tally {
     pub cases: u64,
     /// How often each refusal came, by its number; at 0, how often none came.
     pub counts: [u64; 1 + LAST],
+    /// The accepted tables, and those among them with two totals.
+    tables: u64,
+    of_two_totals: u64,
 }
 
 impl Tally {
@@ -30,6 +37,8 @@ impl Tally {
             began: Instant::now(),
             cases: 0,
             counts: [0; 1 + LAST],
+            tables: 0,
+            of_two_totals: 0,
         }
     }
 
@@ -39,6 +48,17 @@ impl Tally {
         for code in returned {
             self.counts[(code % 100) as usize] += 1;
         }
+    }
+
+    /// Counts an accepted table.
+    pub fn add_table(&mut self, table: &Table) {
+        self.add_header(table.second.is_some());
+    }
+
+    /// Counts an accepted table of two totals or one.
+    pub fn add_header(&mut self, two_totals: bool) {
+        self.tables += 1;
+        self.of_two_totals += u64::from(two_totals);
     }
 
     /// Where a text is found again.
@@ -70,6 +90,18 @@ impl Tally {
         assert!(self.cases >= 100_000, "only {} texts", self.cases);
         assert!(self.counts[0] >= 10_000, "too few accepted tables");
         self.demand_refusals(refusals);
+    }
+
+    /// Says how many of the accepted tables have two totals (document 02, Item 5), and
+    /// fails the test where they are less than a third.
+    pub fn demand_two_totals(&self) {
+        let (two, all) = (self.of_two_totals, self.tables);
+        let share = 100.0 * two as f64 / all as f64;
+        say(&format!(
+            "{}: two totals in {two} of {all} accepted tables, {share:.1} %",
+            self.name
+        ));
+        assert!(all > 0 && 3 * two >= all, "too few tables of two totals");
     }
 
     /// Fails the test where one of these refusals came too seldom.

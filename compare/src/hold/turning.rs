@@ -79,6 +79,7 @@ impl Comparison {
         }
         self.tally.add(&codes);
         if let Ok(table) = &table {
+            self.tally.add_table(table);
             let turned = turned(text);
             assert!(!turned.windows(2).any(|pair| pair == b"-0"), "-0 written");
             hold_to(&self.tally, &turned, text.len(), &Ok(text));

@@ -26,6 +26,9 @@ pub fn hold(tally: &mut Tally, text: &[u8]) -> Result<(Table, i64), Refusal> {
         hold_to(tally, text, room, returned, written);
     }
     tally.add(&[returned]);
+    if let Ok((table, _)) = &answer {
+        tally.add_table(table);
+    }
     answer
 }
 

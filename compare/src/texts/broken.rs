@@ -4,15 +4,18 @@
 use super::damage::marked_lines;
 use super::draft::{Draft, Line};
 use super::knobs::{Kinds, Knobs, Shape};
+use super::settings::two_in;
+use super::totals;
 use crate::random::Random;
 use crate::second::{Refusal, LINE, LONGEST_PATH, MOST_TOTAL};
 
-/// A text with this refusal, 1 to 10, at the line that comes with it.
+/// A text with this refusal, 1 to 10 or 18, at the line that comes with it.
 pub fn broken(number: u8, random: &mut Random) -> (Vec<u8>, Refusal) {
     let (text, line) = match number {
         1 => (wrong_length(random), 0),
         2 => ill_written(random),
         10 => beyond_a_limit(random),
+        18 => (totals::too_grainy(random), 0),
         _ => {
             let mut draft = weighted(random).draft(random);
             let line = match number {
@@ -31,13 +34,13 @@ pub fn broken(number: u8, random: &mut Random) -> (Vec<u8>, Refusal) {
     (text, Refusal { number, line })
 }
 
-/// Any table with a root C, so that some node has a weight; T is at least 2, so
+/// Any table with a root C, so that some node has a weight; T is at least 3, so
 /// that a weight may be wrong and yet in range.
 fn weighted(random: &mut Random) -> Knobs {
     let knobs = Knobs::any(random);
     Knobs {
         nodes: knobs.nodes.max(2),
-        totals: vec![random.between(2, MOST_TOTAL)],
+        totals: two_in(2, random, |random| random.between(3, MOST_TOTAL)),
         root: Kinds::either(1),
         path: LONGEST_PATH,
         ..knobs
@@ -67,8 +70,9 @@ fn ill_written(random: &mut Random) -> (Vec<u8>, usize) {
         0 => (24, b"\r 0\0"),
         // The last digit of the count or of the node number.
         1 => (3, b" -x+\n"),
-        // Column 5, or the last digit of T.
-        2 => (if line == 0 { 7 } else { 4 }, b"-x\t"),
+        // Column 5, or the last digit of T or of the second total.
+        2 if line == 0 => (random.pick(&[5, 7]), b"-x\t"),
+        2 => (4, b"-x\t"),
         // The kind, or the last digit of the highest end.
         _ => (if line == 0 { 23 } else { 5 }, b" "),
     };
@@ -99,9 +103,15 @@ fn beyond_a_limit(random: &mut Random) -> (Vec<u8>, usize) {
 
 fn out_of_range(draft: &mut Draft, random: &mut Random) -> usize {
     let (lowest, highest) = (draft.lowest, draft.highest);
-    let total = draft.totals[0];
+    let larger = draft.larger_total();
     match random.below(5) {
-        0 => draft.totals = vec![random.pick(&[0, -1, MOST_TOTAL + 1])],
+        0 => {
+            let at = random.below(draft.totals.len());
+            let mut bad = vec![0, -1, MOST_TOTAL + 1];
+            // Or both are the same.
+            bad.extend(draft.totals.get(1 - at));
+            draft.totals[at] = random.pick(&bad);
+        }
         1 => draft.highest = lowest - 1,
         2 => draft.lowest = highest + 1,
         3 => {
@@ -110,7 +120,7 @@ fn out_of_range(draft: &mut Draft, random: &mut Random) -> usize {
                 random,
                 |line| line.weight.is_some(),
                 |line, random| {
-                    line.weight = random.pick(&[Some(0), Some(-1), Some(total + 1)]);
+                    line.weight = random.pick(&[Some(0), Some(-1), Some(larger + 1)]);
                 },
             );
         }
@@ -194,23 +204,41 @@ fn childless(draft: &mut Draft, random: &mut Random) -> usize {
     )
 }
 
-/// One weight more or less by one; the line is the C's.
+/// One weight is another, so that the sum is neither total; by one more or less, if that
+/// will do. The line is the C's.
 fn wrong_sum(draft: &mut Draft, random: &mut Random) -> usize {
-    let total = draft.totals[0];
+    let (totals, larger) = (draft.totals.clone(), draft.larger_total());
+    let sums = sums(draft);
     let line = change(
         draft,
         random,
         |line| line.weight.is_some(),
         |line, random| {
-            line.weight = line.weight.map(|weight| match weight {
-                1 => 2,
-                _ if weight == total || random.one_in(2) => weight - 1,
-                _ => weight + 1,
-            });
+            let parent = line.parent.expect("a node with a weight has a parent");
+            let weight = line.weight.expect("a weight");
+            let rest = sums[parent as usize] - weight;
+            let is_wrong =
+                |other: &i64| (1..=larger).contains(other) && !totals.contains(&(rest + other));
+            let near = [weight - 1, weight + 1].into_iter().filter(is_wrong);
+            let near: Vec<i64> = near.collect();
+            let any: Vec<i64> = (1..=larger).filter(is_wrong).collect();
+            let wrong = if near.is_empty() { any } else { near };
+            line.weight = Some(random.pick(&wrong));
         },
     );
     let parent = draft.lines[line - 1].parent;
     parent.expect("a node with a weight has a parent") as usize + 1
+}
+
+/// What the weights under each node sum to.
+fn sums(draft: &Draft) -> Vec<i64> {
+    let mut sums = vec![0; draft.lines.len()];
+    for line in &draft.lines {
+        if let (Some(parent), Some(weight)) = (line.parent, line.weight) {
+            sums[parent as usize] += weight;
+        }
+    }
+    sums
 }
 
 /// Changes one of the lines that are wanted, and returns which.

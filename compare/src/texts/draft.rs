@@ -7,7 +7,8 @@ use crate::second::LINE;
 
 pub struct Draft {
     pub count: i64,
-    /// What the weights under a C sum to. Document 01 has one total.
+    /// What the weights under a C may sum to: one total, or the first and the second
+    /// (document 02, Item 5).
     pub totals: Vec<i64>,
     pub lowest: i64,
     pub highest: i64,
@@ -34,6 +35,11 @@ impl Draft {
             highest,
             lines: Vec::new(),
         }
+    }
+
+    /// The larger total.
+    pub fn larger_total(&self) -> i64 {
+        *self.totals.iter().max().expect("a total")
     }
 
     /// Adds a line at its place, counts it, and returns its node number.
@@ -76,12 +82,16 @@ impl Draft {
     }
 }
 
-/// Writes columns 5 to 8 of the header.
+/// Writes columns 5 to 8 of the header. A second total has columns 5-6, the first then 7-8.
 fn put_totals(text: &mut Vec<u8>, totals: &[i64]) {
-    let &[total] = totals else {
-        panic!("{totals:?}: document 01 has one total");
-    };
-    put(text, 4, Some(total));
+    match *totals {
+        [total] => put(text, 4, Some(total)),
+        [first, second] => {
+            put(text, 2, Some(second));
+            put(text, 2, Some(first));
+        }
+        _ => panic!("{totals:?}: there is one total or two"),
+    }
 }
 
 /// Writes a field, right-justified in its columns.

@@ -1,7 +1,7 @@
 //! Grows a random draft by the knobs.
 
 use super::draft::Draft;
-use super::knobs::{Knobs, Order, Shape, Utilities, Weights, ROLLS};
+use super::knobs::{Knobs, Order, Shape, Utilities, Weights, OPENINGS, ROLLS, WAYS};
 use crate::random::Random;
 
 pub fn grow(knobs: &Knobs, random: &mut Random) -> Draft {
@@ -9,6 +9,7 @@ pub fn grow(knobs: &Knobs, random: &mut Random) -> Draft {
         knobs,
         random,
         draft: Draft::new(knobs.totals.clone(), knobs.ends),
+        most_uses: [0; 2],
     };
     grower.add(
         knobs.nodes,
@@ -16,7 +17,7 @@ pub fn grow(knobs: &Knobs, random: &mut Random) -> Draft {
             parent: None,
             weight: None,
             depth: 1,
-            chances: 0,
+            uses: [0; 2],
             decided: None,
         },
     );
@@ -27,7 +28,12 @@ struct Grower<'a> {
     knobs: &'a Knobs,
     random: &'a mut Random,
     draft: Draft,
+    /// The greatest number of uses of each total on a path so far.
+    most_uses: Uses,
 }
+
+/// How many C take each of the totals.
+type Uses = [u32; 2];
 
 /// Where a node stands.
 struct Place {
@@ -36,7 +42,7 @@ struct Place {
     /// The nodes on its path, itself counted.
     depth: usize,
     /// The C above it.
-    chances: usize,
+    uses: Uses,
     /// The side that decided last above it.
     decided: Option<u8>,
 }
@@ -45,7 +51,7 @@ enum Node {
     Leaf,
     /// An M or N.
     Decision(u8),
-    /// A C with its total.
+    /// A C with the place of its total among the two.
     Chance(usize),
 }
 
@@ -55,20 +61,25 @@ impl Grower<'_> {
     fn add(&mut self, most: usize, place: Place) {
         let rest = most - 1;
         let node = self.node(rest, &place);
-        let (kind, chances, decided) = match node {
+        let mut uses = place.uses;
+        let (kind, decided) = match node {
             Node::Leaf => {
                 let utility = Some(self.utility());
                 self.draft.add(b'L', place.parent, place.weight, utility);
                 return;
             }
-            Node::Decision(side) => (side, place.chances, Some(side)),
-            Node::Chance(_) => (b'C', place.chances + 1, place.decided),
+            Node::Decision(side) => (side, Some(side)),
+            Node::Chance(of) => {
+                uses[of] += 1;
+                self.most_uses[of] = self.most_uses[of].max(uses[of]);
+                (b'C', place.decided)
+            }
         };
         let number = self.draft.add(kind, place.parent, place.weight, None);
 
         let sizes = self.sizes(&node, rest, place.depth);
         let weights = match node {
-            Node::Chance(total) => self.weights(total, sizes.len()),
+            Node::Chance(of) => self.weights(self.total(of), sizes.len()),
             _ => vec![None; sizes.len()],
         };
         // What a run leaves over goes to the next one.
@@ -80,7 +91,7 @@ impl Grower<'_> {
                 parent: Some(number),
                 weight,
                 depth: place.depth + 1,
-                chances,
+                uses,
                 decided,
             };
             self.add(most, below);
@@ -104,9 +115,11 @@ impl Grower<'_> {
             kinds.rarity > 0 && self.random.one_in(kinds.rarity)
         };
         if roll {
-            let total = self.random.pick(&knobs.totals) as usize;
-            if self.may_roll(total, rest, place) {
-                return Node::Chance(total);
+            let of = self.random.below(knobs.totals.len());
+            // Where one total may not stand, the other may.
+            let mut either = [of, knobs.totals.len() - 1 - of].into_iter();
+            if let Some(of) = either.find(|&of| self.may_roll(of, rest, place)) {
+                return Node::Chance(of);
             }
             // No decision may stand in its place.
             if by_order {
@@ -119,14 +132,29 @@ impl Grower<'_> {
         })
     }
 
+    fn total(&self, of: usize) -> usize {
+        self.knobs.totals[of] as usize
+    }
+
     /// Whether a C of this total may stand at this place.
-    fn may_roll(&self, total: usize, rest: usize, place: &Place) -> bool {
+    fn may_roll(&self, of: usize, rest: usize, place: &Place) -> bool {
+        let total = self.total(of);
         // Each child weighs at least 1, so there are no more than T.
         let room = match self.knobs.weights {
-            Weights::Dice => rest >= ROLLS,
+            Weights::Dice => rest >= rolls(total).len(),
             _ => rest <= total || !self.above_leaves(place.depth),
         };
-        room && place.chances < self.knobs.chances
+        let chances = place.uses.iter().sum::<u32>() as usize;
+        room && chances < self.knobs.chances && self.grains_with(of, place) <= self.knobs.grains
+    }
+
+    /// The grain count with a C of this total at this place.
+    fn grains_with(&self, of: usize, place: &Place) -> i64 {
+        let mut uses = self.most_uses;
+        uses[of] = uses[of].max(place.uses[of] + 1);
+        let powers = self.knobs.totals.iter().zip(uses);
+        let powers = powers.map(|(total, uses)| total.saturating_pow(uses));
+        powers.fold(1, i64::saturating_mul)
     }
 
     /// Whether all children of a node at this depth are leaves, as a path must
@@ -139,17 +167,20 @@ impl Grower<'_> {
     fn sizes(&mut self, node: &Node, rest: usize, depth: usize) -> Vec<usize> {
         let knobs = self.knobs;
         let most = match node {
-            Node::Chance(total) => rest.min(*total),
+            Node::Chance(of) => rest.min(self.total(*of)),
             _ => rest,
         };
-        let dice = matches!(node, Node::Chance(_)) && knobs.weights == Weights::Dice;
+        let dice = match node {
+            Node::Chance(of) if knobs.weights == Weights::Dice => Some(rolls(self.total(*of))),
+            _ => None,
+        };
         if self.above_leaves(depth) {
-            return vec![1; if dice { ROLLS } else { rest }];
+            return vec![1; dice.map_or(rest, |rolls| rolls.len())];
         }
-        if dice {
+        if let Some(rolls) = dice {
             return match knobs.shape {
-                Shape::Levels(lengths) => rolled(rest, lengths[depth - 1]),
-                _ => self.divided(rest, ROLLS),
+                Shape::Levels(lengths) => rolled(rest, rolls.len(), lengths[depth - 1]),
+                _ => self.divided(rest, rolls.len()),
             };
         }
         let root = depth == 1;
@@ -194,7 +225,7 @@ impl Grower<'_> {
             Weights::Any => parts(self.random, total, children),
             Weights::Even => equal_parts(total, children),
             Weights::Uneven => lumps(self.random, total, children),
-            Weights::Dice => rolls(),
+            Weights::Dice => rolls(total),
         };
         let written = weights.iter().map(|weight| Some(*weight as i64));
         written.collect()
@@ -238,10 +269,10 @@ fn plays(rest: usize, length: usize) -> Vec<usize> {
 }
 
 /// A run for each roll: as many of this length as there are nodes for, then leaves.
-fn rolled(rest: usize, length: usize) -> Vec<usize> {
-    let long = (rest - ROLLS).checked_div(length - 1).unwrap_or(0);
+fn rolled(rest: usize, rolls: usize, length: usize) -> Vec<usize> {
+    let long = (rest - rolls).checked_div(length - 1).unwrap_or(0);
     let run = |roll| if roll < long { length } else { 1 };
-    (0..ROLLS).map(run).collect()
+    (0..rolls).map(run).collect()
 }
 
 /// Divides `whole` at random into so many parts, each at least 1; in half the
@@ -275,8 +306,13 @@ fn equal_parts(whole: usize, count: usize) -> Vec<usize> {
     (0..count).map(part).collect()
 }
 
-/// In how many ways each roll of two dice comes.
-fn rolls() -> Vec<usize> {
+/// In how many ways each roll of two dice comes, of this total: 36 with the doubles, 15
+/// without them.
+fn rolls(total: usize) -> Vec<usize> {
+    if total == OPENINGS {
+        return vec![1; OPENINGS];
+    }
+    assert_eq!(total, WAYS as usize, "no total of rolls");
     let mut ways = Vec::with_capacity(ROLLS);
     for first in 1..=6 {
         for second in first..=6 {

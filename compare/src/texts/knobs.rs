@@ -11,9 +11,11 @@ use crate::second::FARTHEST_END;
 pub struct Knobs {
     /// The number of nodes; fewer where `stops` or dice leave some over.
     pub nodes: usize,
-    /// Each C takes one of these as the sum of its weights. Document 01 has one
-    /// total.
+    /// Each C takes one of these as the sum of its weights: one total, or the first and
+    /// the second (document 02, Item 5).
     pub totals: Vec<i64>,
+    /// The greatest grain count: with two totals some C are left out so that it is kept.
+    pub grains: i64,
     /// The lowest end and the highest.
     pub ends: (i64, i64),
     pub utilities: Utilities,
@@ -99,7 +101,8 @@ pub enum Weights {
     Even,
     /// A few children have the most of it.
     Uneven,
-    /// Those of the 21 rolls of two dice, which are all the children; T is 36.
+    /// Those of the 21 rolls of two dice, which are all the children, where T is 36; where
+    /// it is 15, those of the opening rolls.
     Dice,
 }
 
@@ -110,6 +113,10 @@ pub const WIDEST: (i64, i64) = (-FARTHEST_END, FARTHEST_END);
 /// two.
 pub const WAYS: i64 = 36;
 pub const ROLLS: usize = 21;
+
+/// The rolls without the doubles, of which the first of a game is one; each has the weight
+/// 1, so that this is their total too (document 02, Item 5).
+pub const OPENINGS: usize = 15;
 
 impl Knobs {
     pub fn draft(&self, random: &mut Random) -> Draft {

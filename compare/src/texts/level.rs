@@ -6,12 +6,12 @@
 use super::draft::Draft;
 use super::grow::parts;
 use super::knobs::WAYS;
-use super::settings;
+use super::settings::{self, other_than};
 use crate::random::Random;
 use crate::second::{MOST_CHANCES, MOST_TOTAL};
 
-/// A table whose root is an M or N with two plays to eight. T is at least 2 and
-/// there is a C, so that a point has several grains.
+/// A table whose root is an M or N with two plays to eight. There is a C whose T is at
+/// least 2, so that a point has several grains.
 pub struct Planned {
     pub text: Vec<u8>,
     /// G, the grains in one point.
@@ -29,14 +29,65 @@ const MANY_LINES: usize = 300;
 
 /// What a table is made by.
 pub struct Plan {
-    /// T, at least 2.
-    pub total: i64,
-    /// K, at least 1.
-    pub chances: u32,
+    pub totals: Levels,
     pub ends: (i64, i64),
     /// What each play loses, in grains; one of them nothing, and none more than the
     /// ends are apart. They are at most eight.
     pub losses: Vec<i64>,
+}
+
+/// The T of the C on a path, from the first, as many as K, at least one; each is at least 2,
+/// and they are one total or two. A path with fewer C has the first of them, so that their
+/// product is the grain count.
+#[derive(Clone, Debug)]
+pub struct Levels(Vec<i64>);
+
+impl Levels {
+    /// So many C of one total; or in half the cases any of two, the first of which is this.
+    pub fn of(total: i64, chances: usize, random: &mut Random) -> Levels {
+        let mut totals = vec![total; chances];
+        if random.one_in(2) {
+            let other = other_than(total, random, |random| random.between(2, MOST_TOTAL));
+            for at in totals.iter_mut().skip(1) {
+                *at = random.pick(&[total, other]);
+            }
+        }
+        Levels(totals)
+    }
+
+    /// K.
+    fn chances(&self) -> usize {
+        self.0.len()
+    }
+
+    /// T of a C with so many that may come on a path, itself counted.
+    fn total(&self, chances: usize) -> i64 {
+        self.0[self.chances() - chances]
+    }
+
+    /// In what steps the worths are that stand under this C: the product of its T and all
+    /// before.
+    fn step(&self, chances: usize) -> i64 {
+        self.0[..=self.chances() - chances].iter().product()
+    }
+
+    /// G.
+    pub fn grains(&self) -> i64 {
+        self.0.iter().product()
+    }
+
+    /// What the header has: with one total a second, in half the cases, which no C takes.
+    fn header(&self, random: &mut Random) -> Vec<i64> {
+        let first = self.0[0];
+        let used = self.0.iter().find(|total| **total != first).copied();
+        let unused = other_than(first, random, |random| random.between(1, MOST_TOTAL));
+        let second = used.or(random.one_in(2).then_some(unused));
+        let mut totals: Vec<i64> = Some(first).into_iter().chain(second).collect();
+        if random.one_in(2) {
+            totals.reverse();
+        }
+        totals
+    }
 }
 
 pub fn planned(random: &mut Random) -> Planned {
@@ -44,13 +95,13 @@ pub fn planned(random: &mut Random) -> Planned {
         0 => random.pick(&[2, 3, WAYS, MOST_TOTAL - 1, MOST_TOTAL]),
         _ => random.between(2, MOST_TOTAL),
     };
-    let chances = 1 + random.below(MOST_CHANCES) as u32;
-    let grains = total.pow(chances);
+    let chances = 1 + random.below(MOST_CHANCES);
+    let totals = Levels::of(total, chances, random);
+    let grains = totals.grains();
     let ends = settings::ends(random);
     let losses = losses(random, grains, (ends.1 - ends.0) * grains);
     let plan = Plan {
-        total,
-        chances,
+        totals,
         ends,
         losses,
     };
@@ -61,12 +112,11 @@ impl Plan {
     /// A table by this plan, for either side.
     pub fn table(self, random: &mut Random) -> Planned {
         let Plan {
-            total,
-            chances,
+            totals,
             ends,
             losses,
         } = self;
-        let grains = total.pow(chances);
+        let (chances, grains) = (totals.chances(), totals.grains());
         let (low, high) = (ends.0 * grains, ends.1 * grains);
         let side = random.pick(b"MN");
         let most = losses.iter().max().expect("a play");
@@ -75,14 +125,13 @@ impl Plan {
             _ => best(random, grains, (low, high - most), low),
         };
 
-        let mut draft = Draft::new(vec![total], ends);
+        let mut draft = Draft::new(totals.header(random), ends);
         let root = draft.add(side, None, None, None);
         let deep = random.below(losses.len());
         let mut maker = Maker {
             random,
             draft,
-            total,
-            chances,
+            totals,
             grains,
             ends: (low, high),
         };
@@ -142,9 +191,7 @@ fn best(random: &mut Random, grains: i64, (least, most): (i64, i64), end: i64) -
 struct Maker<'a> {
     random: &'a mut Random,
     draft: Draft,
-    total: i64,
-    /// K.
-    chances: u32,
+    totals: Levels,
     grains: i64,
     /// In grains.
     ends: (i64, i64),
@@ -156,7 +203,7 @@ struct Place {
     parent: i64,
     weight: Option<i64>,
     /// The C that there may be on a path from here on.
-    chances: u32,
+    chances: usize,
     /// The M and N that there may be.
     sides: usize,
     /// Whether a path must have all those C, so that the table's K is as planned.
@@ -232,9 +279,9 @@ impl Maker<'_> {
     /// The weights and worths of children whose mean is this worth, where so many
     /// C may come on a path, theirs the first. Their worths are in whole steps: what
     /// the C after it can give.
-    fn children(&mut self, worth: i64, chances: u32) -> Vec<(i64, i64)> {
-        let (total, grains) = (self.total, self.grains);
-        let step = total.pow(self.chances - chances + 1);
+    fn children(&mut self, worth: i64, chances: usize) -> Vec<(i64, i64)> {
+        let (total, grains) = (self.totals.total(chances), self.grains);
+        let step = self.totals.step(chances);
         let floor = worth.div_euclid(grains) * grains;
         // T times what is above whole points: a point for so many of the weights,
         // which are less than T, and a rest, which is in whole steps.

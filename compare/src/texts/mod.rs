@@ -5,8 +5,9 @@
 //! sets it, `grow` makes a draft by it, and `draft` writes that out. The damages,
 //! the inputs of the margin program and the matches begin with its tables. Only
 //! those of `level` are made otherwise, by a plan of what their plays lose, and some
-//! matches of such tables; those of `windows`, whose windows under C are narrow; and
-//! those of `ties`, whose plays are much alike.
+//! matches of such tables; those of `windows`, whose windows under C are narrow;
+//! those of `ties`, whose plays are much alike; and those of `totals`, whose two totals
+//! have a planned number of uses.
 
 pub mod bench;
 pub mod broken;
@@ -22,6 +23,7 @@ pub mod matches;
 mod settings;
 pub mod small;
 pub mod ties;
+pub mod totals;
 pub mod windows;
 
 use crate::random::Random;

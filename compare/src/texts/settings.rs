@@ -1,9 +1,11 @@
 //! Settings of the knobs for the tests: tables over the full ranges of document
 //! 01, tables where one thing is frequent, and tables beyond one limit.
 
-use super::knobs::{Kinds, Knobs, Order, Shape, Utilities, Weights, WAYS, WIDEST};
+use super::knobs::{Kinds, Knobs, Order, Shape, Utilities, Weights, OPENINGS, WAYS, WIDEST};
 use crate::random::Random;
-use crate::second::{FARTHEST_END, LONGEST_PATH, MOST_CHANCES, MOST_NODES, MOST_TOTAL};
+use crate::second::{
+    FARTHEST_END, LONGEST_PATH, MOST_CHANCES, MOST_GRAINS, MOST_NODES, MOST_TOTAL,
+};
 
 /// The shapes by which trees with C are of all sorts.
 const NOT_FLAT: [Shape; 3] = [Shape::Deep, Shape::Bushy(2, 6), Shape::Any];
@@ -14,7 +16,8 @@ impl Knobs {
         let kinds = Kinds::either(random.pick(&[0, 1, 2, 4, 10]));
         Knobs {
             nodes: nodes(random),
-            totals: vec![total(random)],
+            totals: totals(random),
+            grains: MOST_GRAINS,
             ends: ends(random),
             utilities: Utilities::Spread,
             root: kinds,
@@ -54,7 +57,7 @@ impl Knobs {
         let lowest = random.between(-4, 2);
         let knobs = Knobs {
             nodes: 6 + random.below(40),
-            totals: vec![random.between(2, 7)],
+            totals: two_in(2, random, |random| random.between(2, 7)),
             ends: (lowest, lowest + random.between(1, 3)),
             chances: 1 + random.below(2),
             path: LONGEST_PATH,
@@ -97,7 +100,8 @@ impl Knobs {
         }
     }
 
-    /// As dice games have them: T 36, and every C has the 21 rolls of two dice.
+    /// As dice games have them: every C has the 21 rolls of two dice, T 36, or with two
+    /// totals the 15 opening rolls.
     pub fn dice(random: &mut Random) -> Knobs {
         let nodes = match random.below(20) {
             0..=9 => random.between(2, 100),
@@ -106,7 +110,7 @@ impl Knobs {
         };
         Knobs {
             nodes: nodes as usize,
-            totals: vec![WAYS],
+            totals: rolls(2, random),
             root: Kinds::either(4),
             order: Order::Rolls,
             path: LONGEST_PATH,
@@ -117,14 +121,15 @@ impl Knobs {
         }
     }
 
-    /// As a position of a dice game has them: after each play of the root the 21 rolls,
-    /// after some rolls plays again; one C on a path, or two.
+    /// As a position of a dice game has them: after each play of the root the 21 rolls, or
+    /// with two totals the 15 opening rolls; after some rolls plays again; one C on a path,
+    /// or two.
     pub fn position(random: &mut Random) -> Knobs {
         let chances = 1 + random.below(2);
         let nodes = random.between(45, [100, 250][chances - 1]);
         Knobs {
             nodes: nodes as usize,
-            totals: vec![WAYS],
+            totals: rolls(3, random),
             ends: apart(random),
             root: Kinds::either(0),
             order: Order::Rolls,
@@ -227,6 +232,7 @@ impl Knobs {
         Knobs {
             nodes: MOST_NODES,
             totals: vec![1],
+            grains: MOST_GRAINS,
             ends: WIDEST,
             utilities: Utilities::Uniform,
             root: Kinds {
@@ -263,11 +269,30 @@ impl Knobs {
         let knobs = Knobs {
             nodes: path + random.below(40),
             chances: MOST_CHANCES + 1 + random.below(2),
+            grains: i64::MAX,
             path,
             shape: random.pick(&[Shape::Deep, Shape::Any]),
             ..Knobs::any(random)
         };
         knobs.with_chances(1 + random.below(2))
+    }
+
+    /// Two large totals and C at every node that may be one, so that the grain count is
+    /// too great, as a rule.
+    pub fn too_grainy(random: &mut Random) -> Knobs {
+        let first = random.between(24, MOST_TOTAL);
+        let knobs = Knobs {
+            nodes: 16 + random.below(100),
+            totals: vec![
+                first,
+                other_than(first, random, |r| r.between(24, MOST_TOTAL)),
+            ],
+            grains: i64::MAX,
+            path: LONGEST_PATH,
+            shape: Shape::Bushy(2, 4),
+            ..Knobs::any(random)
+        };
+        knobs.with_chances(1)
     }
 
     /// 1,025 nodes.
@@ -301,6 +326,62 @@ fn nodes(random: &mut Random) -> usize {
         _ => random.between(most - 2, most),
     };
     nodes as usize
+}
+
+/// One total, or in half the cases two.
+fn totals(random: &mut Random) -> Vec<i64> {
+    match random.below(16) {
+        0 => random
+            .pick(&[[WAYS, OPENINGS as i64], [OPENINGS as i64, WAYS]])
+            .to_vec(),
+        // So small that both have many uses on a path.
+        1 | 2 => {
+            let first = random.between(1, 8);
+            vec![
+                first,
+                other_than(first, random, |random| random.between(1, 8)),
+            ]
+        }
+        // One divides the other.
+        3 => {
+            let small = random.between(1, MOST_TOTAL / 2);
+            let large = small * random.between(2, MOST_TOTAL / small);
+            random.pick(&[[small, large], [large, small]]).to_vec()
+        }
+        4..=7 => {
+            let first = total(random);
+            vec![first, other_than(first, random, total)]
+        }
+        _ => vec![total(random)],
+    }
+}
+
+/// One total, or in one of so many cases two, the first and the second.
+pub fn two_in(n: usize, random: &mut Random, total: fn(&mut Random) -> i64) -> Vec<i64> {
+    let first = total(random);
+    match random.one_in(n) {
+        true => vec![first, other_than(first, random, total)],
+        false => vec![first],
+    }
+}
+
+/// A total that differs from this one.
+pub fn other_than(first: i64, random: &mut Random, total: fn(&mut Random) -> i64) -> i64 {
+    loop {
+        let second = total(random);
+        if second != first {
+            return second;
+        }
+    }
+}
+
+/// The total of the rolls, or in one of so many cases that of the opening rolls too.
+fn rolls(n: usize, random: &mut Random) -> Vec<i64> {
+    let openings = OPENINGS as i64;
+    match random.one_in(n) {
+        true => random.pick(&[[WAYS, openings], [openings, WAYS]]).to_vec(),
+        false => vec![WAYS],
+    }
 }
 
 fn total(random: &mut Random) -> i64 {

@@ -1,9 +1,11 @@
 //! Tables whose plays at the root are much alike, so that many share a bound (document
 //! 02, Item 6). There are a few patterns, and each play is one of them, as it is or with
-//! another utility in one leaf. Utilities are few, and as a rule away from the ends.
+//! another utility in one leaf. Utilities are few, and as a rule away from the ends. Half of
+//! the tables have two totals.
 
 use super::draft::Draft;
 use super::grow::parts;
+use super::settings::other_than;
 use crate::random::Random;
 
 /// A table of this sort, with two plays to eight.
@@ -15,7 +17,11 @@ pub fn alike(random: &mut Random) -> Vec<u8> {
     let mut maker = Maker {
         sides: random.pick(&[(b'M', b'N'), (b'N', b'M')]),
         ends,
-        total: random.between(2, 6),
+        totals: {
+            let first = random.between(2, 6);
+            let second = other_than(first, random, |random| random.between(2, 6));
+            random.pick(&[&[first][..], &[first, second]]).to_vec()
+        },
         chances: random.below(3),
         utilities,
         random,
@@ -25,7 +31,7 @@ pub fn alike(random: &mut Random) -> Vec<u8> {
         false => maker.any(),
     };
 
-    let mut draft = Draft::new(vec![maker.total], ends);
+    let mut draft = Draft::new(maker.totals.clone(), ends);
     let root = draft.add(maker.sides.0, None, None, None);
     for _ in 0..2 + maker.random.below(7) {
         let mut play = patterns[maker.random.below(patterns.len())].clone();
@@ -75,7 +81,8 @@ struct Maker<'a> {
     /// The side that is to move at the root, and the other.
     sides: (u8, u8),
     ends: (i64, i64),
-    total: i64,
+    /// Each C takes one of them.
+    totals: Vec<i64>,
     /// The most C on a path.
     chances: usize,
     utilities: Vec<i64>,
@@ -107,11 +114,12 @@ impl Maker<'_> {
 
     /// A C whose first leaf is so far from the end, times its weight.
     fn part(&mut self, share: i64) -> Tree {
-        let divide = (1..=self.total).filter(|weight| share % weight == 0);
+        let total = self.random.pick(&self.totals);
+        let divide = (1..=total).filter(|weight| share % weight == 0);
         let weight = self.random.pick(&divide.collect::<Vec<_>>());
         let mut children = vec![(weight, Tree::Leaf(self.away(share / weight)))];
-        if weight < self.total {
-            children.push((self.total - weight, self.below(1, 0)));
+        if weight < total {
+            children.push((total - weight, self.below(1, 0)));
         }
         Tree::Chance(children)
     }
@@ -127,7 +135,7 @@ impl Maker<'_> {
     /// A node with children, with up to so many such nodes below it on a path.
     fn inner(&mut self, levels: usize, chances: usize) -> Tree {
         if chances > 0 && self.random.one_in(2) {
-            let total = self.total as usize;
+            let total = self.random.pick(&self.totals) as usize;
             let children = 1 + self.random.below(total.min(3));
             let weights = parts(self.random, total, children);
             let child = |weight| (weight as i64, self.below(levels, chances - 1));

@@ -1,10 +1,12 @@
 //! Tables where much hangs on the windows under C. A leaf at the root narrows the
 //! window of one long path, on which a C and a node of the side that is not to move
 //! follow each other. The path goes through the heavy child of each C, where the window
-//! is narrower than the ends, and the light ones are leaves.
+//! is narrower than the ends, and the light ones are leaves. Half of the tables have two
+//! totals (document 02, Item 5), which take turns at random on that path.
 
 use super::draft::Draft;
 use super::grow::parts;
+use super::settings::other_than;
 use crate::random::Random;
 use crate::second::MOST_CHANCES;
 
@@ -12,10 +14,15 @@ use crate::second::MOST_CHANCES;
 pub fn narrowed(random: &mut Random) -> Vec<u8> {
     let lowest = random.between(-50, 50);
     let highest = lowest + random.pick(&[3, 10, 100, 1_000]);
-    let total = random.between(3, 13);
+    let mut totals = vec![random.between(3, 13)];
+    if random.one_in(2) {
+        totals.push(other_than(totals[0], random, |random| {
+            random.between(3, 13)
+        }));
+    }
     let (root, other) = random.pick(&[(b'M', b'N'), (b'N', b'M')]);
     let mut path = Path {
-        draft: Draft::new(vec![total], (lowest, highest)),
+        draft: Draft::new(totals, (lowest, highest)),
         random,
         other,
     };
@@ -55,7 +62,8 @@ impl Path<'_> {
     /// Adds a C, itself counted among so many on the path.
     fn add_chance(&mut self, parent: i64, chances: usize) {
         let node = self.draft.add(b'C', Some(parent), None, None);
-        let total = self.draft.totals[0];
+        // All C are on one path, so there are no more grains than with the larger total.
+        let total = self.random.pick(&self.draft.totals);
         // From two thirds on.
         let heavy = self.random.between((2 * total + 2) / 3, total - 1);
         let light = (total - heavy) as usize;

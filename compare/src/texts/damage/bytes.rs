@@ -28,7 +28,7 @@ pub const ON_TEXT: &[OnText] = &[
     carriage_returns,
 ];
 
-const HEADER_FIELDS: [(usize, usize); 4] = [(0, 4), (4, 8), (8, 16), (16, 24)];
+const HEADER_FIELDS: [(usize, usize); 6] = [(0, 4), (4, 8), (4, 6), (6, 8), (8, 16), (16, 24)];
 const NODE_FIELDS: [(usize, usize); 5] = [(0, 4), (5, 6), (6, 11), (11, 16), (16, 24)];
 
 fn change_byte(text: &mut Vec<u8>, at: usize, random: &mut Random) {

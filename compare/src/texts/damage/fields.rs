@@ -9,6 +9,7 @@ type OnDraft = fn(&mut Draft, usize, &mut Random);
 pub const ON_DRAFT: &[OnDraft] = &[
     wrong_count,
     wrong_total,
+    other_totals,
     wrong_ends,
     narrower_ends,
     wrong_number,
@@ -45,8 +46,32 @@ fn wrong_count(draft: &mut Draft, _: usize, random: &mut Random) {
 }
 
 fn wrong_total(draft: &mut Draft, _: usize, random: &mut Random) {
-    let total = draft.totals[0].clamp(0, 65);
-    draft.totals[0] = random.pick(&[total - 1, total + 1, 0, 65, -1, 9_999, -999]);
+    let at = random.below(draft.totals.len());
+    let total = draft.totals[at].clamp(0, 65);
+    let [far, below] = match draft.totals[..] {
+        [_] => [9_999, -999],
+        _ => [99, -9],
+    };
+    let mut wrong = vec![total - 1, total + 1, 0, 65, -1, far, below];
+    wrong.extend(draft.totals.get(1 - at));
+    draft.totals[at] = random.pick(&wrong);
+}
+
+/// Exchanges two totals, so that the table means the same; or leaves one out, or puts a
+/// second one in, of which the sums may know or not.
+fn other_totals(draft: &mut Draft, _: usize, random: &mut Random) {
+    let is_short = |total: &i64| (-9..=99).contains(total);
+    match draft.totals.len() {
+        2 if random.one_in(2) => draft.totals.reverse(),
+        2 => {
+            draft.totals.remove(random.below(2));
+        }
+        _ if draft.totals.iter().all(is_short) => {
+            let total = random.between(1, 64);
+            draft.totals.insert(random.below(2), total);
+        }
+        _ => {}
+    }
 }
 
 fn wrong_ends(draft: &mut Draft, _: usize, random: &mut Random) {
@@ -166,7 +191,7 @@ fn ancestors(draft: &Draft, at: usize) -> Vec<usize> {
 }
 
 fn wrong_weight(draft: &mut Draft, at: usize, random: &mut Random) {
-    let total = draft.totals[0];
+    let total = draft.larger_total();
     if let Some(line) = draft.lines.get_mut(at) {
         line.weight = match line.weight {
             None => random.pick(&[Some(1), Some(total), Some(0), Some(65)]),
@@ -205,13 +230,13 @@ fn weight_moved(draft: &mut Draft, at: usize, _: &mut Random) {
     }
 }
 
-/// Adds 256 to the weights under one C, none of them above T: a sum kept in one
-/// byte would still be T.
+/// Adds 256 to the weights under one C, none of them above the larger total: a sum kept in
+/// one byte would still be T.
 fn heavier_by_256(draft: &mut Draft, at: usize, _: &mut Random) {
     let Some(chance) = line_from(draft, at, |line| line.kind == b'C') else {
         return;
     };
-    let total = draft.totals[0];
+    let total = draft.larger_total();
     let mut weights: Vec<&mut i64> = draft
         .lines
         .iter_mut()
@@ -257,7 +282,7 @@ fn beyond_a_power_of_2(draft: &mut Draft, at: usize, random: &mut Random) {
         }
     };
     match random.below(4) {
-        0 => add(&mut draft.totals[0], byte, 9_999),
+        0 if draft.totals.len() == 1 => add(&mut draft.totals[0], byte, 9_999),
         1 => add(&mut draft.highest, wide, 99_999_999),
         _ => {}
     }

@@ -18,6 +18,7 @@ pub fn damaged(random: &mut Random) -> Vec<u8> {
         0..=4 => (Knobs::too_deep(random), 0),
         5..=9 => (Knobs::too_chancy(random), 0),
         10 => (Knobs::too_long(random), 0),
+        11..=13 => (Knobs::too_grainy(random), 0),
         _ => (Knobs::any(random), 1),
     };
     let mut draft = knobs.draft(random);

@@ -6,7 +6,7 @@ use super::{tiny, Position};
 use crate::random::Random;
 use crate::second::{FARTHEST_END, MOST_CHANCES, MOST_TOTAL};
 use crate::texts::knobs::WIDEST;
-use crate::texts::level::Plan;
+use crate::texts::level::{Levels, Plan};
 use crate::texts::settings;
 
 /// The steps of both scales, and the thousandths next to them.
@@ -68,8 +68,8 @@ pub fn chosen(random: &mut Random) -> Vec<Chosen> {
 /// A position where one of two plays to six, with the loss that is planned, is made.
 fn planned(random: &mut Random) -> Chosen {
     let thousandths = thousandths(random);
-    let (total, chances) = total_and_chances(thousandths, random);
-    let point = total.pow(chances);
+    let totals = totals(thousandths, random);
+    let point = totals.grains();
     let loss = grains(thousandths, point, random).expect("a loss so listed");
 
     let mut losses = vec![0; 1 + random.below(2)];
@@ -82,8 +82,7 @@ fn planned(random: &mut Random) -> Chosen {
     losses.insert(play, loss);
     let most = losses.iter().max().expect("a play");
     let planned = Plan {
-        total,
-        chances,
+        totals,
         ends: ends(most.div_euclid(point) + 1, random),
         losses,
     };
@@ -118,19 +117,20 @@ fn thousandths(random: &mut Random) -> i64 {
     }
 }
 
-/// T and K by which some loss is listed as so many thousandths. In one of four cases
-/// a thousandth is a whole number of grains.
-fn total_and_chances(thousandths: i64, random: &mut Random) -> (i64, u32) {
+/// The totals of the C on a path by which some loss is listed as so many thousandths. In
+/// one of four cases a thousandth is a whole number of grains, where there is one total.
+fn totals(thousandths: i64, random: &mut Random) -> Levels {
     loop {
         let (total, chances) = match random.one_in(4) {
-            true => (10 * random.between(1, 6), random.between(3, 4) as u32),
+            true => (10 * random.between(1, 6), 3 + random.below(2)),
             false => (
                 random.between(2, MOST_TOTAL),
-                1 + random.below(MOST_CHANCES) as u32,
+                1 + random.below(MOST_CHANCES),
             ),
         };
-        if grains(thousandths, total.pow(chances), random).is_some() {
-            return (total, chances);
+        let totals = Levels::of(total, chances, random);
+        if grains(thousandths, totals.grains(), random).is_some() {
+            return totals;
         }
     }
 }

@@ -153,7 +153,7 @@ fn other_table(position: &mut Position, random: &mut Random) {
 }
 
 fn broken_table(position: &mut Position, random: &mut Random) {
-    let number = random.between(2, 10) as u8;
+    let number = random.pick(&[2, 3, 4, 5, 6, 7, 8, 9, 10, 18]);
     position.table = broken(number, random).0;
 }
 
@@ -179,6 +179,9 @@ fn ill_written_header(position: &mut Position, random: &mut Random) {
         (0, "  05"),
         (4, "    "),
         (4, "  +1"),
+        (4, "36  "),
+        (4, "0036"),
+        (4, " 100"),
         (8, "        "),
         (8, "      -0"),
         (16, "      - "),
@@ -195,6 +198,10 @@ fn header_out_of_range(position: &mut Position, random: &mut Random) {
         (4, "   0"),
         (4, "  65"),
         (4, "  -1"),
+        (4, " 036"),
+        (4, "6536"),
+        (4, "-136"),
+        (4, "3636"),
         (8, "-1000001"),
         (8, " 1000001"),
         (16, " 1000001"),

@@ -7,6 +7,7 @@ mod damage;
 pub mod rounding;
 
 use super::knobs::{Kinds, Knobs, Shape, Weights};
+use super::settings::two_in;
 use crate::random::Random;
 use crate::second::{self, root_children, Kind, LONGEST_PATH, MOST_POSITIONS, MOST_TOTAL};
 
@@ -148,7 +149,7 @@ pub fn tiny(random: &mut Random) -> Knobs {
     let lowest = random.between(-3, 3);
     Knobs {
         nodes: 4 + random.below(7),
-        totals: vec![random.between(2, MOST_TOTAL)],
+        totals: two_in(2, random, |random| random.between(2, MOST_TOTAL)),
         ends: (lowest, lowest + random.between(1, 3)),
         root: Kinds::either(8),
         inner: Kinds::either(1),
