@@ -548,12 +548,17 @@ const FAULTS: [&[Fault]; 9] = [
     &[
         (2, 0, |file| file.put(0, "  +5")),
         (2, 0, |file| file.put(4, "    ")),
+        (2, 0, |file| file.put(4, " 4  ")),
+        (2, 0, |file| file.put(4, "00 4")),
         (2, 0, |file| file.put(14, "00")),
         (2, 0, |file| file.put(24, " ")),
     ],
     &[
         (3, 0, |file| file.put(4, "   0")),
         (3, 0, |file| file.put(4, "  65")),
+        (3, 0, |file| file.put(4, " 0 4")),
+        (3, 0, |file| file.put(4, " 4 4")),
+        (3, 0, |file| file.put(4, "65 4")),
         (3, 0, |file| file.put(15, "9")),
         (3, 0, |file| file.put(16, " 1000001")),
     ],

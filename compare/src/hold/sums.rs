@@ -25,6 +25,16 @@ const FAULTS: [(&str, Sums); 6] = [
     ("a C divided twice where cut", Sums::DividedAgainAtCut),
 ];
 
+/// What it may have wrong with two totals (document 02, Item 5).
+const FAULTS_OF_TOTALS: [(&str, Sums); 6] = [
+    ("the larger total", Sums::LargerTotal),
+    ("the smaller total", Sums::SmallerTotal),
+    ("the larger total in sums", Sums::LargerInSums),
+    ("the smaller total in sums", Sums::SmallerInSums),
+    ("the larger total in windows", Sums::LargerInWindows),
+    ("the smaller total in windows", Sums::SmallerInWindows),
+];
+
 /// Compares the two engines without a budget and within one.
 pub struct Comparison {
     pub plain: searching::Comparison,
@@ -35,6 +45,8 @@ pub struct Comparison {
     /// windows that are rounded the wrong way.
     faults: Seen,
     pub roundings: Seen,
+    /// And by the wrong total.
+    pub totals: Seen,
 }
 
 /// What is asked of a table: margins without a budget, and others with budgets.
@@ -58,6 +70,7 @@ impl Comparison {
             tables: Seen::default(),
             faults: Seen::default(),
             roundings: Seen::default(),
+            totals: Seen::default(),
         }
     }
 
@@ -101,6 +114,14 @@ impl Comparison {
             let others =
                 OTHER_ROUNDINGS.map(|(other, rounding)| (other, Terms { rounding, ..terms }));
             count_wrong(&mut self.roundings, sort, table, terms, &others);
+        }
+    }
+
+    /// Counts where another total in place of a C's own sum would have changed an answer.
+    pub fn count_totals(&mut self, sort: &str, table: &Table, questions: &Questions) {
+        for terms in questions.terms() {
+            let wrong = FAULTS_OF_TOTALS.map(|(fault, sums)| (fault, Terms { sums, ..terms }));
+            count_wrong(&mut self.totals, sort, table, terms, &wrong);
         }
     }
 

@@ -192,6 +192,39 @@ pub fn chain(kinds: &[u8], total: i64) -> Vec<u8> {
     text.into_bytes()
 }
 
+/// Table B with two totals in its header, as they stand in columns 5-8, and with these
+/// weights.
+pub fn two_totals(columns: &str, weights: [i64; 2]) -> Vec<u8> {
+    let mut text = dotted(TABLE_B);
+    text[4..8].copy_from_slice(columns.as_bytes());
+    for (line, weight) in (4..).zip(weights) {
+        let columns = LINE * line + 11..LINE * line + 16;
+        text[columns].copy_from_slice(format!("{weight:>5}").as_bytes());
+    }
+    text
+}
+
+/// A root M with two chains of C, so many of the first total and so many of the second,
+/// over one leaf each; every weight is T.
+pub fn two_chains(totals: [i64; 2], lengths: [usize; 2]) -> Vec<u8> {
+    let nodes = 1 + lengths.iter().map(|length| length + 1).sum::<usize>();
+    let [first, second] = totals;
+    let mut text = format!("{nodes:>4}{second:>2}{first:>2}       0       0\n");
+    text += &format!("{:>4} M{:>18}\n", 0, "");
+    let mut node = 0;
+    for (total, length) in totals.into_iter().zip(lengths) {
+        let (mut parent, mut weight) = (0, String::new());
+        for _ in 0..length {
+            node += 1;
+            text += &format!("{node:>4} C{parent:>5}{weight:>5}{:>8}\n", "");
+            (parent, weight) = (node, total.to_string());
+        }
+        node += 1;
+        text += &format!("{node:>4} L{parent:>5}{weight:>5}{:>8}\n", 0);
+    }
+    text.into_bytes()
+}
+
 /// Refused tables, each with its refusal's number and line.
 pub fn refused_examples() -> Vec<(Vec<u8>, u8, usize)> {
     let b = || dotted(TABLE_B);
@@ -280,6 +313,46 @@ pub fn refused_examples() -> Vec<(Vec<u8>, u8, usize)> {
         // 8 before 9, although 9's line is the lower one: node 2's weights do
         // not sum to T, and node 4 has no child.
         (table_b_with(5, "...4.M....2....2........"), 8, 5),
+        // 2: the second total is 00, -0 or has a plus, or a blank after its digit.
+        (table_b_with(0, "...500.4.......0.......8"), 2, 0),
+        (table_b_with(0, "...5-0.4.......0.......8"), 2, 0),
+        (table_b_with(0, "...5+3.4.......0.......8"), 2, 0),
+        (table_b_with(0, "...53..4.......0.......8"), 2, 0),
+        // 2: there is a second total and no first, or one with a leading zero, which
+        // would be the T of 100 in four columns.
+        (table_b_with(0, "...5.4.........0.......8"), 2, 0),
+        (table_b_with(0, "...5.100.......0.......8"), 2, 0),
+        // 2 before 3 among the totals: the second is 0, the first 04.
+        (table_b_with(0, "...5.004.......0.......8"), 2, 0),
+        // 3: the second total is 0, -1 or 65, or it is the first; the first is 65 or 0.
+        (table_b_with(0, "...5.0.4.......0.......8"), 3, 0),
+        (table_b_with(0, "...5-1.4.......0.......8"), 3, 0),
+        (table_b_with(0, "...565.4.......0.......8"), 3, 0),
+        (table_b_with(0, "...5.4.4.......0.......8"), 3, 0),
+        (table_b_with(0, "...5.465.......0.......8"), 3, 0),
+        (table_b_with(0, "...5.4.0.......0.......8"), 3, 0),
+        // 3: a weight above the larger total, which is the first or the second.
+        (two_totals(" 3 4", [5, 1]), 3, 4),
+        (two_totals(" 4 3", [5, 1]), 3, 4),
+        // 9: the weights sum to neither total, but to both together, to their difference
+        // or to a number between them.
+        (two_totals(" 3 4", [4, 3]), 9, 3),
+        (two_totals("10 4", [5, 1]), 9, 3),
+        (two_totals(" 2 6", [3, 1]), 9, 3),
+        // 18: two grains for each of the most that are allowed, and 63 to the fourth.
+        (two_chains([64, 2], [4, 1]), 18, 0),
+        (two_chains([2, 64], [1, 4]), 18, 0),
+        (two_chains([64, 63], [4, 4]), 18, 0),
+        // 9 before 18: so many grains, and a weight that is less by two.
+        (
+            {
+                let mut text = two_chains([64, 63], [4, 4]);
+                text[6 * LINE + 15] = b'2';
+                text
+            },
+            9,
+            5,
+        ),
         // 10: the leaf is the 65th node of its path, so its line is 65.
         (chain(&[b'M'; 64], 1), 10, 65),
         // 6 before 10: node 64 stands under the leaf that is the 64th node of its path.

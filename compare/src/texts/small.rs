@@ -53,16 +53,27 @@ pub fn six_nodes(utilities: &'static [&'static str]) -> [Vec<String>; 6] {
 /// one of its lines. Where `hand_on` returns false, the longer texts that begin
 /// with the same node lines are left out.
 pub fn for_each(ends: (i64, i64), nodes: &[Vec<String>], hand_on: &mut dyn FnMut(&[u8]) -> bool) {
-    let (lowest, highest) = ends;
-    let ends = format!("{lowest:>8}{highest:>8}");
-    extend("", 0, &ends, nodes, hand_on);
+    for_each_of("   2", ends, nodes, hand_on);
 }
 
-/// Adds each choice of the next line to the lines before, then of the others.
+/// The same with these totals in columns 5-8 in place of T 2.
+pub fn for_each_of(
+    totals: &str,
+    ends: (i64, i64),
+    nodes: &[Vec<String>],
+    hand_on: &mut dyn FnMut(&[u8]) -> bool,
+) {
+    let (lowest, highest) = ends;
+    let header = format!("{totals}{lowest:>8}{highest:>8}");
+    extend("", 0, &header, nodes, hand_on);
+}
+
+/// Adds each choice of the next line to the lines before, then of the others. The header is
+/// given without its count.
 fn extend(
     before: &str,
     nodes: usize,
-    ends: &str,
+    header: &str,
     others: &[Vec<String>],
     hand_on: &mut dyn FnMut(&[u8]) -> bool,
 ) {
@@ -72,9 +83,9 @@ fn extend(
     let nodes = nodes + 1;
     for line in lines {
         let longer = format!("{before}{line}");
-        let text = format!("{nodes:>4}   2{ends}\n{longer}");
+        let text = format!("{nodes:>4}{header}\n{longer}");
         if hand_on(text.as_bytes()) {
-            extend(&longer, nodes, ends, others, hand_on);
+            extend(&longer, nodes, header, others, hand_on);
         }
     }
 }
