@@ -22,6 +22,7 @@ use compare::second::{self, LINE, MOST_NODES};
 use compare::texts::examples::*;
 use compare::texts::inputs::{damage, margin_line};
 use compare::texts::knobs::Knobs;
+use compare::texts::totals::too_grainy;
 use compare::texts::{self, largest};
 
 // ---------------------------------------------------------------------------
@@ -178,6 +179,7 @@ fn random_inputs() {
             1 => texts::make(Knobs::dice, &mut random),
             2 => texts::make(Knobs::any, &mut random),
             3 => texts::ties::alike(&mut random),
+            7 if number % 32 == 7 => too_grainy(&mut random),
             _ => texts::case(&mut random).text,
         };
         let table = second::read(&text);
@@ -225,7 +227,8 @@ fn random_inputs() {
     seen.demand(100);
     assert!(comparison.tally.cases >= 2_000, "too few inputs");
     comparison.tally.demand_two_totals();
-    for number in OF_TABLES.into_iter().chain(OF_GRAINS) {
+    comparison.tally.demand_refusals(&OF_GRAINS);
+    for number in OF_TABLES {
         let count = comparison.tally.counts[number];
         assert!(count >= 4, "refusal {number} came only {count} times");
     }

@@ -22,6 +22,7 @@ use compare::second::{
     self, Judgement, Kind, Refusal, Stop, Table, GREATEST_MARGIN, LINE, MOST_GRAINS, MOST_NODES,
     MOST_TOTAL,
 };
+use compare::texts;
 use compare::texts::examples::*;
 use compare::texts::knobs::Knobs;
 use compare::texts::matches::{file, Position};
@@ -30,7 +31,6 @@ use compare::texts::totals::{
     too_grainy, too_grainy_and_wrong, with_weights, Grains, Plan, GRAINS,
 };
 use compare::texts::windows::narrowed;
-use compare::texts::{self};
 
 /// The refusal for the grain count.
 const GRAINY: Refusal = Refusal {
@@ -741,6 +741,22 @@ const THROUGH_BOTH: &str = "\
 ...9.L....2....1.......8
 ";
 
+/// A window that is rounded: the first play, of sum 3, is worth (2 × 60 + 72) / 3 = 64
+/// grains of 96. The C of sum 4 leads with weight 3 to an N, so that the N's alpha is
+/// (64 - 96) × 4 / 3 + 96, which is 53 when it is rounded down.
+const ROUNDED: &str = "\
+...9.3.4.......0.......8
+...0.M..................
+...1.C....0.............
+...2.L....1....2.......5
+...3.L....1....1.......6
+...4.C....0.............
+...5.N....4....3........
+...6.L....5............5
+...7.L....5............3
+...8.L....4....1.......8
+";
+
 const OF_BESIDE: &[Known] = &[
     // The C of sum 4 is 18 to 42 after its first leaf, and is cut as 42 is below 60. That of
     // sum 3 is 56 to 88 after its first leaf: 28 grains above 60.
@@ -786,12 +802,34 @@ const OF_THROUGH_BOTH: &[Known] = &[
     ((0, 3), (60, 76, 1, true), &[1, 5, 6]),
 ];
 
+const OF_ROUNDED: &[Known] = &[
+    // The N is 36 to 36 and the C above it then 27 to 51, which is cut as 51 is below 64.
+    ((0, NONE), (64, 64, 1, false), &[2, 3, 6, 7]),
+    // The N's window is 53 to 60 after its first leaf: 7 grains. An alpha of 54, rounded up,
+    // would have cut it here; so would one with 3 in place of 4.
+    ((6, NONE), (64, 64, 1, false), &[2, 3, 6, 7]),
+    // The N is cut at 0 to 60, and the C above it at 0 to 69.
+    ((7, NONE), (64, 69, 1, false), &[2, 3, 6]),
+    ((31, NONE), (64, 69, 1, false), &[2, 3, 6]),
+    // The first play is cut at 40 to 72. The N's alpha is (40 - 96) × 4 / 3 + 96, rounded
+    // down 21, and its window 21 to 60.
+    ((32, NONE), (40, 72, 1, false), &[2, 6, 7]),
+    ((38, NONE), (40, 72, 1, false), &[2, 6, 7]),
+    ((39, NONE), (40, 72, 1, false), &[2, 6]),
+    ((55, NONE), (40, 72, 1, false), &[2, 6]),
+    // The root is cut.
+    ((56, NONE), (40, 96, 1, false), &[2]),
+    // The N is 0 to 60 as its second leaf is unread, and so is the leaf after it.
+    ((0, 3), (64, 69, 1, true), &[2, 3, 6]),
+];
+
 /// What is known of these tables.
 fn known() -> Vec<(Vec<u8>, Asked, Expected)> {
     budget::known(&[
         (dotted(BESIDE), 12, OF_BESIDE),
         (dotted(BELOW), 12, OF_BELOW),
         (dotted(THROUGH_BOTH), 12, OF_THROUGH_BOTH),
+        (dotted(ROUNDED), 12, OF_ROUNDED),
     ])
 }
 
@@ -821,6 +859,8 @@ fn examples() {
         (BELOW, 48, &[]),
         // The second play is worth (2 × 36 + 96) / 3 = 56.
         (THROUGH_BOTH, 60, &[0, 4]),
+        // The N is worth 36, and the second play (3 × 36 + 96) / 4 = 51.
+        (ROUNDED, 64, &[0, 13]),
     ] {
         let text = dotted(table);
         let read = second::read(&text).expect("accepted");
