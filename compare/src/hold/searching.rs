@@ -330,15 +330,10 @@ fn count_table(seen: &mut Seen, table: &Table, worths: &[i64]) {
     let best = best_plays(table, worths);
     seen.count("a forced play", best > 0 && root_children(table) == 1);
     seen.count("several plays of the best worth", best > 1);
-    let (rolls, openings) = (
-        rolls(table, WAYS, ROLLS),
-        rolls(table, OPENINGS as i64, OPENINGS),
-    );
-    let all = table
-        .nodes
-        .iter()
-        .filter(|node| node.kind == Kind::Chance)
-        .count();
+    let openings = rolls(table, OPENINGS as i64, OPENINGS);
+    let rolls = rolls(table, WAYS, ROLLS);
+    let nodes = table.nodes.iter();
+    let all = nodes.filter(|node| node.kind == Kind::Chance).count();
     seen.count("the 21 rolls at every C", all > 0 && rolls == all);
     let both = rolls > 0 && openings > 0 && rolls + openings == all;
     seen.count("the 21 rolls and the 15 opening rolls", both);

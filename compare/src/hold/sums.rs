@@ -26,13 +26,15 @@ const FAULTS: [(&str, Sums); 6] = [
 ];
 
 /// What it may have wrong with two totals (document 02, Item 5).
-const FAULTS_OF_TOTALS: [(&str, Sums); 6] = [
+const FAULTS_OF_TOTALS: [(&str, Sums); 8] = [
     ("the larger total", Sums::LargerTotal),
     ("the smaller total", Sums::SmallerTotal),
     ("the larger total in sums", Sums::LargerInSums),
     ("the smaller total in sums", Sums::SmallerInSums),
     ("the larger total in windows", Sums::LargerInWindows),
     ("the smaller total in windows", Sums::SmallerInWindows),
+    ("the larger total at the margin", Sums::LargerAtMargin),
+    ("the smaller total at the margin", Sums::SmallerAtMargin),
 ];
 
 /// Compares the two engines without a budget and within one.

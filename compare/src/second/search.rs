@@ -158,6 +158,9 @@ pub enum Sums {
     /// The larger in the windows below it alone.
     LargerInWindows,
     SmallerInWindows,
+    /// The larger times the margin, beside T times alpha and beta, in its cut test alone.
+    LargerAtMargin,
+    SmallerAtMargin,
 }
 
 /// A child of the root that was entered, and what was found there. By Item 6 one that is
@@ -511,8 +514,11 @@ impl<W: FnMut(Step)> Search<'_, W> {
             }
             let cuts = self.cuts(node, window);
             let Window { alpha, beta } = window;
+            let cuts_by = |times| scale.total * beta <= scale.total * alpha + times * margin;
             if match self.sums {
-                Sums::BareMargin => scale.total * beta <= scale.total * alpha + margin,
+                Sums::BareMargin => cuts_by(1),
+                Sums::LargerAtMargin => cuts_by(larger),
+                Sums::SmallerAtMargin => cuts_by(smaller),
                 _ => cuts,
             } {
                 break true;
