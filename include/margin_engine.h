@@ -43,9 +43,11 @@ extern "C" {
 #define MARGIN_POSITION(code) ((code) / 1000000)
 
 /*
- * Reads a table. Refuses 1 to 10.
+ * Reads a table. Refuses 1 to 10 and 18.
  *
- * numbers (7): the number of nodes, T, the lowest end, the highest end, K (the most C on a path), G, the number of leaves.
+ * numbers (8): the number of nodes, T, the lowest end, the highest end, K (the most C on a path), G, the number of leaves, the second
+ * total (0 for none). The weights under a C sum to T or to the second total; G is T to the power K, or with a second total each of the
+ * two to the power of the most C of it on a path, multiplied.
  * The other four get an entry for each node, by node number, as far as each has room:
  * kind: 0 for L, 1 for M, 2 for N, 3 for C.
  * stop: one past the last node under the node.
@@ -56,15 +58,15 @@ uint64_t margin_read(const uint8_t *text, size_t text_len, int64_t *numbers, siz
                      uint16_t *stop, size_t stop_len, uint8_t *weight, size_t weight_len, uint32_t *height, size_t height_len);
 
 /*
- * The exact worth. Refuses 1 to 10.
+ * The exact worth. Refuses 1 to 10 and 18.
  *
  * numbers (2): the worth, G.
  */
 uint64_t margin_worth(const uint8_t *text, size_t text_len, int64_t *numbers, size_t numbers_len);
 
 /*
- * Judges the play of root child `number`, counted from 1. Refuses 1 to 10, and 14 where an M or N root with two children or more has no
- * such child.
+ * Judges the play of root child `number`, counted from 1. Refuses 1 to 10 and 18, and 14 where an M or N root with two children or more
+ * has no such child.
  *
  * numbers (3 or 1), without sign: 1, the loss and the number of level children, at an M or N root with two children or more; elsewhere 0
  * alone, for every `number`, as there is no decision: nobody chooses at a C or L root, and a single play is forced. The loss is the root's
@@ -74,8 +76,8 @@ uint64_t margin_worth(const uint8_t *text, size_t text_len, int64_t *numbers, si
 uint64_t margin_judge(const uint8_t *text, size_t text_len, int64_t number, uint64_t *numbers, size_t numbers_len);
 
 /*
- * The bounded search at a margin from 0 to MARGIN_GREATEST_MARGIN. Refuses 1 to 10, 12 for another margin, and 11 where `leaves` has
- * fewer entries than the table has leaves.
+ * The bounded search at a margin from 0 to MARGIN_GREATEST_MARGIN. Refuses 1 to 10 and 18, 12 for another margin, and 11 where `leaves`
+ * has fewer entries than the table has leaves.
  *
  * leaves: the node numbers of the leaves read, in reading sequence.
  * numbers (7): low, high, the node number of the play (0 for none: the root is no play), the number of leaves read, G, high minus low, and
@@ -90,8 +92,8 @@ uint64_t margin_search(const uint8_t *text, size_t text_len, int64_t margin, uin
                        size_t numbers_len);
 
 /*
- * The same search with at most `budget` leaves read, 0 to MARGIN_GREATEST_BUDGET; margin_search is this one with the greatest. Refuses 1 to 10, 12, 17
- * for another budget, and 11 where `leaves` has fewer entries than the table has leaves, whatever the budget.
+ * The same search with at most `budget` leaves read, 0 to MARGIN_GREATEST_BUDGET; margin_search is this one with the greatest. Refuses 1 to 10
+ * and 18, 12, 17 for another budget, and 11 where `leaves` has fewer entries than the table has leaves, whatever the budget.
  *
  * leaves and numbers as in margin_search, but that the last number is 1 where the budget was spent: where margin_search reads more leaves than
  * that.
@@ -105,7 +107,7 @@ uint64_t margin_search_within(const uint8_t *text, size_t text_len, int64_t marg
                               int64_t *numbers, size_t numbers_len);
 
 /*
- * The turned table. Refuses 1 to 10, and 11 where `buffer` is shorter than the text.
+ * The turned table; both totals are kept. Refuses 1 to 10 and 18, and 11 where `buffer` is shorter than the text.
  *
  * buffer: the turned text, text_len bytes.
  */
@@ -118,8 +120,8 @@ struct margin_record {
 };
 
 /*
- * Rollouts on a table without C, under a list of policy bytes. Refuses 1 to 10, 13 where the table has a C, and 11 where `leaves` has
- * fewer entries than the table has leaves or `store` fewer than it has nodes.
+ * Rollouts on a table without C, under a list of policy bytes. Refuses 1 to 10 and 18, 13 where the table has a C, and 11 where `leaves`
+ * has fewer entries than the table has leaves or `store` fewer than it has nodes.
  *
  * policy: which of its candidates a walk takes at each inner node that it comes to. A byte b is used up there, and of m candidates, counted
  * from 0, number b mod m is taken; past the list's end the first. The list may be empty. The worth is the same under every list.
@@ -135,8 +137,8 @@ uint64_t margin_rollout(const uint8_t *text, size_t text_len, const uint8_t *pol
  * The report on a match file: positions one after another, each a play number in 4 columns and a newline, and then a table as long as its
  * header's count says. Each play is judged as by margin_judge, and its loss is marked by the scale of this number, 1 or 2. Refuses 20, with
  * position 0, for any other scale, before all else. Then with the position's number, from 1: 15 where a position begins after 500, 16 where a
- * play-number line is ill-written or the file ends in a position, 2 to 10 for its table, 14 as margin_judge does. At the end 11, with position
- * 0, where `kinds`, `losses` or `marks` has fewer entries than there are positions.
+ * play-number line is ill-written or the file ends in a position, 2 to 10 and 18 for its table, 14 as margin_judge does. At the end 11, with
+ * position 0, where `kinds`, `losses` or `marks` has fewer entries than there are positions.
  *
  * kinds: for each position the kind of its root, as in margin_read.
  * losses: for each position its loss in thousandths of a point, rounded down; -1 where there is no decision, as by margin_judge.

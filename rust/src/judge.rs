@@ -19,8 +19,8 @@ pub enum Judgement {
 }
 
 /// Judges the play of the root child with this number, counted from 1 in the order
-/// of the lines. Refuses 1 to 10, and 14 where an M or N root with two children or
-/// more has no such child.
+/// of the lines. Refuses 1 to 10 and 18, and 14 where an M or N root with two children
+/// or more has no such child.
 ///
 /// ```
 /// use margin_engine::{Judgement, judge};

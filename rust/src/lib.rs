@@ -67,8 +67,11 @@ pub const MOST_POSITIONS: usize = 500;
 /// Bytes of a play-number line: 4 columns and a newline.
 pub const PLAY_LINE: usize = 5;
 
-/// The greatest T.
+/// The greatest T, and the greatest second total.
 pub const MOST_TOTAL: i64 = 64;
+
+/// The greatest G, the grains in one point.
+pub const MOST_GRAINS: i64 = 16_777_216;
 
 /// An end lies at most this far from 0.
 pub const FARTHEST_END: i64 = 1_000_000;

@@ -131,10 +131,10 @@ mod abi {
 }
 
 /// Reads a table. `numbers`: the number of nodes, T, the lowest end, the highest
-/// end, K, G, the number of leaves. The others have an entry for each node:
-/// `kind` 0 for L, 1 for M, 2 for N, 3 for C; `stop` one past the last node under
-/// it; `weight`, 0 where there is none; `height`, a leaf's utility minus the
-/// lowest end, 0 at other nodes.
+/// end, K, G, the number of leaves, the second total (0 for none). The others have an
+/// entry for each node: `kind` 0 for L, 1 for M, 2 for N, 3 for C; `stop` one past the
+/// last node under it; `weight`, 0 where there is none; `height`, a leaf's utility
+/// minus the lowest end, 0 at other nodes.
 pub fn read(
     text: &[u8],
     numbers: &mut [i64],

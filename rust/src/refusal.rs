@@ -13,7 +13,7 @@ use std::fmt;
 #[derive(Clone, Copy, Debug, PartialEq, Eq)]
 #[non_exhaustive]
 pub struct Refusal {
-    /// Which refusal, from 1 to 16, or 20. `docs/REFUSALS.md` says all of each.
+    /// Which refusal, from 1 to 18, or 20. `docs/REFUSALS.md` says all of each.
     pub number: u8,
     /// The line at fault: the header is line 0, and node i is line i + 1. It is 0
     /// for a refusal that no line is to blame for: 1 and those from 11 on.
@@ -48,7 +48,7 @@ impl Refusal {
             2 => match self.line {
                 0 => (
                     "the header is ill-written",
-                    "right-justify each number, with blanks alone before it: columns 1-4, 5-8, 9-16, 17-24, then a newline",
+                    "right-justify each number, with blanks alone before it: columns 1-4, 5-8 (with a second total 5-6 and 7-8), 9-16, 17-24, then a newline",
                 ),
                 _ => (
                     "the line is ill-written",
@@ -57,7 +57,7 @@ impl Refusal {
             },
             3 => (
                 "a number is out of range",
-                "correct the number; T is 1 to 64, an end at most 1,000,000 from 0, a weight 1 to T, a utility between the ends",
+                "correct the number; T and a second total are 1 to 64 and differ, an end is at most 1,000,000 from 0, a weight 1 to the larger total, a utility between the ends",
             ),
             4 if self.line == 0 && self.position > 0 => (
                 "the header's count is not 1 to 1,024",
@@ -90,7 +90,7 @@ impl Refusal {
                 "give it a child, or make it a leaf",
             ),
             9 => (
-                "the weights under this C do not sum to T",
+                "the weights under this C do not sum to T, nor to a second total",
                 "correct the weights of its children",
             ),
             10 => (
@@ -124,6 +124,10 @@ impl Refusal {
             17 => (
                 "the budget is not 0 to 1,024 leaves",
                 "give a budget in this range",
+            ),
+            18 => (
+                "the grain count would be above 16,777,216",
+                "put fewer C of one of the totals on a path, or take a smaller total",
             ),
             20 => (
                 "there is no marking scale of that number",

@@ -99,7 +99,7 @@ pub struct Tally {
 /// columns and a newline, and then a table. The losses are marked by the scale of this
 /// number: from 40 thousandths of a point doubtful, from 80 an error and from 160 a
 /// blunder in scale 1, that of books in print; from 20, 50 and 100 in scale 2, that of
-/// new books. Refuses any other scale, 20, and then 2 to 10 and 14 to 16, with the
+/// new books. Refuses any other scale, 20, and then 2 to 10, 14 to 16 and 18, with the
 /// position at fault. The points are the table's, so that a mark is the book's where
 /// these are.
 ///

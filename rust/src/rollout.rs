@@ -20,7 +20,7 @@ pub struct Rolled {
 /// Rolls out a table without C, until its worth is known. At each inner node that a
 /// walk comes to, the next byte b of the policy chooses among its m candidates the
 /// one with number b mod m, counted from 0; past the policy's end it is the first.
-/// Refuses 1 to 10, and 13 where the table has a C.
+/// Refuses 1 to 10 and 18, and 13 where the table has a C.
 ///
 /// ```
 /// use margin_engine::{Record, rollout};

@@ -44,8 +44,8 @@ pub enum Play {
     None,
 }
 
-/// Searches a table to this margin, in grains. Refuses 1 to 10, and 12 for a margin
-/// that is not 0 to [`GREATEST_MARGIN`](crate::GREATEST_MARGIN).
+/// Searches a table to this margin, in grains. Refuses 1 to 10 and 18, and 12 for a
+/// margin that is not 0 to [`GREATEST_MARGIN`](crate::GREATEST_MARGIN).
 ///
 /// ```
 /// use margin_engine::{Play, search};

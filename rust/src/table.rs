@@ -9,15 +9,19 @@ use crate::{MOST_NODES, raw};
 #[derive(Clone, Debug, PartialEq, Eq)]
 #[non_exhaustive]
 pub struct Table {
-    /// T, which the weights under each C sum to.
+    /// T, which the weights under each C sum to, or under some C where there is a
+    /// second total.
     pub total: i64,
+    /// The second total, which the weights under some C sum to; `None` for none.
+    pub second: Option<i64>,
     /// The lowest end, in points.
     pub lowest: i64,
     /// The highest end, in points.
     pub highest: i64,
-    /// K, the most C on a path.
+    /// K, the most C on a path, whichever total their weights sum to.
     pub chances: i64,
-    /// G, the grains in one point: T to the power K.
+    /// G, the grains in one point: T to the power K. With a second total it is each
+    /// total to the power of the most C of it on a path, multiplied.
     pub per_point: i64,
     /// The number of leaves.
     pub leaves: usize,
@@ -89,9 +93,22 @@ impl Table {
         let below = move |child: usize| (child < stop).then_some(child);
         std::iter::successors(below(node + 1), move |&child| below(self.nodes[child].stop))
     }
+
+    /// What the weights under a node sum to: at a C T or the second total, at any other
+    /// node 0. A child's chance is its weight over this.
+    ///
+    /// # Panics
+    ///
+    /// Where the table has no such node.
+    pub fn sum(&self, node: usize) -> i64 {
+        let weights = self
+            .children(node)
+            .filter_map(|child| self.nodes[child].weight);
+        weights.sum()
+    }
 }
 
-/// Reads a table. Refuses 1 to 10.
+/// Reads a table. Refuses 1 to 10 and 18.
 ///
 /// ```
 /// use margin_engine::{Kind, read};
@@ -106,10 +123,17 @@ impl Table {
 /// let roll = table.nodes[3];
 /// assert_eq!((roll.kind, roll.parent), (Kind::Leaf, Some(2)));
 /// assert_eq!((roll.weight, roll.utility), (Some(3), Some(2)));
+///
+/// // Fifteen first rolls, weight 1 each, and after each play all 21 rolls.
+/// let text = std::fs::read("../examples/first-roll.txt")?;
+/// let table = read(&text)?;
+/// assert_eq!((table.total, table.second), (36, Some(15)));
+/// assert_eq!((table.chances, table.per_point), (2, 36 * 15));
+/// assert_eq!((table.sum(0), table.children(0).count()), (15, 15));
 /// # Ok::<(), Box<dyn std::error::Error>>(())
 /// ```
 pub fn read(text: &[u8]) -> Result<Table, Refusal> {
-    let mut numbers = [0; 7];
+    let mut numbers = [0; 8];
     let mut kinds = [0; MOST_NODES];
     let mut stops = [0; MOST_NODES];
     let mut weights = [0; MOST_NODES];
@@ -123,7 +147,16 @@ pub fn read(text: &[u8]) -> Result<Table, Refusal> {
         &mut heights,
     ))?;
 
-    let [count, total, lowest, highest, chances, per_point, leaves] = numbers;
+    let [
+        count,
+        total,
+        lowest,
+        highest,
+        chances,
+        per_point,
+        leaves,
+        second,
+    ] = numbers;
     let mut nodes: Vec<Node> = Vec::with_capacity(count as usize);
     for i in 0..count as usize {
         let kind = Kind::of(kinds[i]);
@@ -143,6 +176,7 @@ pub fn read(text: &[u8]) -> Result<Table, Refusal> {
     }
     Ok(Table {
         total,
+        second: (second > 0).then_some(second),
         lowest,
         highest,
         chances,

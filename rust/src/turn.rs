@@ -12,8 +12,8 @@ pub struct Turned {
 }
 
 /// Turns a table: M and N change places, utilities get the other sign, and the two
-/// ends are negated and exchanged. Its worth is the table's with the other sign.
-/// Refuses 1 to 10.
+/// ends are negated and exchanged. All else is kept, both totals too. Its worth is the
+/// table's with the other sign. Refuses 1 to 10 and 18.
 ///
 /// ```
 /// use margin_engine::{exact_worth, turn};

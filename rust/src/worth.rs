@@ -13,7 +13,7 @@ pub struct Worth {
     pub per_point: i64,
 }
 
-/// The exact worth of a table, by the published minimax rule. Refuses 1 to 10.
+/// The exact worth of a table, by the published minimax rule. Refuses 1 to 10 and 18.
 ///
 /// ```
 /// let text = std::fs::read("../examples/b.txt")?;

@@ -6,7 +6,7 @@ use std::fmt::{Display, Write as _};
 use std::io::{self, ErrorKind, IsTerminal, Write};
 use std::process::ExitCode;
 
-use margin_engine::{Node, points};
+use margin_engine::{Node, Table, points};
 
 use crate::FAILED;
 
@@ -159,6 +159,17 @@ impl Sheet {
         for leaf in read {
             self.row("leaf", &[leaf]);
         }
+    }
+
+    /// What the table's header says but for the count. A second total has a row of its
+    /// own, so that a table without one has the rows that it always had.
+    pub fn totals_and_ends(&mut self, table: &Table) {
+        self.row("total", &[&table.total]);
+        if let Some(second) = &table.second {
+            self.row("second", &[second]);
+        }
+        self.row("lowest", &[&table.lowest]);
+        self.row("highest", &[&table.highest]);
     }
 
     /// A node as its line in the table has it, and more fields after that.

@@ -1,6 +1,7 @@
 //! Where in a refused table the fault shows. The refusal's number and line are the
 //! engine's; this reads the line again to point at its columns, for the eye.
 
+mod grains;
 mod position;
 
 pub use position::in_match;
@@ -23,6 +24,9 @@ const fn field(first: usize, last: usize, name: &'static str) -> Field {
 
 const COUNT: Field = field(1, 4, "the count of nodes");
 const TOTAL: Field = field(5, 8, "T");
+/// Where these columns are not blank, T has those after them.
+const SECOND: Field = field(5, 6, "the second total");
+const TOTAL_AFTER: Field = field(7, 8, "T (columns 7-8, as 5-6 are not blank)");
 const LOWEST: Field = field(9, 16, "the lowest end");
 const HIGHEST: Field = field(17, 24, "the highest end");
 
@@ -77,21 +81,26 @@ pub fn of(text: &[u8], refusal: &Refusal) -> Spot {
         (1, _) => return length(text),
         (13, _) => return first_chance(lines),
         (2..=4, Some(header)) if refusal.line == 0 => header_faults(header, refusal.number, lines),
-        (2..=10, Some(header)) => {
-            let nodes = Nodes {
-                header,
-                lines: &lines[1..],
-            };
-            nodes.faults(refusal.line - 1, refusal.number)
-        }
+        (2..=10, Some(header)) => Nodes::of(header, lines).faults(refusal.line - 1, refusal.number),
+        (18, Some(header)) => return grains::too_many(&Nodes::of(header, lines)),
         _ => return Spot::default(),
     };
     let line = &lines[refusal.line];
     let is_match = refusal.line == 0 && refusal.position == 0 && begins_a_match(line);
     Spot {
         line: Line::of(refusal.line, line),
+        reason: header.and_then(|header| closer_reason(refusal.number, header)),
         mend: is_match.then_some(ASK_FOR_A_REPORT),
         ..said(&faults)
+    }
+}
+
+/// The reason of a wrong sum by how many totals there are.
+fn closer_reason(number: u8, header: &[u8; LINE]) -> Option<&'static str> {
+    match (number, Totals::of(header).second) {
+        (9, None) => Some("the weights under this C do not sum to T"),
+        (9, Some(_)) => Some("the weights under this C sum to neither total"),
+        _ => None,
     }
 }
 
@@ -241,7 +250,16 @@ fn first_chance(lines: &[[u8; LINE]]) -> Spot {
 fn header_faults(header: &[u8; LINE], number: u8, lines: &[[u8; LINE]]) -> Faults {
     match number {
         2 => {
-            let mut faults = ill_written(header, &[COUNT, TOTAL, LOWEST, HIGHEST], &[]);
+            let Totals { total, second } = Totals::of(header);
+            let fields = [
+                Some(COUNT),
+                second,
+                Some(total),
+                Some(LOWEST),
+                Some(HIGHEST),
+            ];
+            let fields: Vec<Field> = fields.into_iter().flatten().collect();
+            let mut faults = ill_written(header, &fields, &[]);
             faults.extend(newline_fault(header));
             faults
         }
@@ -249,6 +267,27 @@ fn header_faults(header: &[u8; LINE], number: u8, lines: &[[u8; LINE]]) -> Fault
         _ => {
             let (count, nodes) = (shown(header, COUNT), lines.len() - 1);
             vec![(COUNT, format!("it is {count}, and there are {nodes}"))]
+        }
+    }
+}
+
+/// Where the totals of a header stand.
+struct Totals {
+    total: Field,
+    second: Option<Field>,
+}
+
+impl Totals {
+    fn of(header: &[u8; LINE]) -> Totals {
+        match blank(header, SECOND) {
+            true => Totals {
+                total: TOTAL,
+                second: None,
+            },
+            false => Totals {
+                total: TOTAL_AFTER,
+                second: Some(SECOND),
+            },
         }
     }
 }
@@ -298,10 +337,19 @@ fn newline_fault(line: &[u8; LINE]) -> Option<(Field, String)> {
 
 /// The numbers of a header that are out of range.
 fn header_range(header: &[u8; LINE]) -> Faults {
-    let [total, lowest, highest] = [TOTAL, LOWEST, HIGHEST].map(|field| value(header, field));
+    let Totals { total, second } = Totals::of(header);
+    let [t, lowest, highest] = [total, LOWEST, HIGHEST].map(|field| value(header, field));
     let mut faults = Vec::new();
-    if !(1..=MOST_TOTAL).contains(&total) {
-        faults.push((TOTAL, format!("T is not 1 to {MOST_TOTAL}")));
+    if let Some(second) = second {
+        let fault = match value(header, second) {
+            1..=MOST_TOTAL if value(header, second) != t => None,
+            1..=MOST_TOTAL => Some("is T once more".to_string()),
+            _ => Some(format!("is not 1 to {MOST_TOTAL}")),
+        };
+        faults.extend(fault.map(|fault| (second, format!("{} {fault}", second.name))));
+    }
+    if !(1..=MOST_TOTAL).contains(&t) {
+        faults.push((total, format!("T is not 1 to {MOST_TOTAL}")));
     }
     for (end, value) in [(LOWEST, lowest), (HIGHEST, highest)] {
         if value.abs() > FARTHEST_END {
@@ -321,7 +369,22 @@ struct Nodes<'a> {
     lines: &'a [[u8; LINE]],
 }
 
-impl Nodes<'_> {
+impl<'a> Nodes<'a> {
+    /// Of these lines the first is the header.
+    fn of(header: &'a [u8; LINE], lines: &'a [[u8; LINE]]) -> Nodes<'a> {
+        Nodes {
+            header,
+            lines: &lines[1..],
+        }
+    }
+
+    /// T, and the second total if there is one.
+    fn totals(&self) -> (i64, Option<i64>) {
+        let Totals { total, second } = Totals::of(self.header);
+        let value = |field| value(self.header, field);
+        (value(total), second.map(value))
+    }
+
     /// The faults of a node's line that is refused with this number.
     fn faults(&self, node: usize, number: u8) -> Faults {
         let line = &self.lines[node];
@@ -337,8 +400,14 @@ impl Nodes<'_> {
             7 => self.missing(node),
             8 => vec![(KIND, String::new())],
             9 => {
-                let (sum, total) = (self.sum(node), shown(self.header, TOTAL));
-                vec![(KIND, format!("they sum to {sum}, and T is {total}"))]
+                let sum = self.sums()[node];
+                let fault = match self.totals() {
+                    (total, None) => format!("they sum to {sum}, and T is {total}"),
+                    (total, Some(second)) => {
+                        format!("they sum to {sum}, and the totals are {total} and {second}")
+                    }
+                };
+                vec![(KIND, fault)]
             }
             _ => self.path_faults(node),
         }
@@ -359,11 +428,12 @@ impl Nodes<'_> {
 
     /// The weight or the utility that is out of range.
     fn range(&self, line: &[u8; LINE]) -> Faults {
-        let ends = [TOTAL, LOWEST, HIGHEST].map(|field| value(self.header, field));
-        let [total, lowest, highest] = ends;
+        let [lowest, highest] = [LOWEST, HIGHEST].map(|field| value(self.header, field));
+        let (total, second) = self.totals();
+        let larger = second.map_or(total, |second| second.max(total));
         let mut faults = Vec::new();
-        if !blank(line, WEIGHT) && !(1..=total).contains(&value(line, WEIGHT)) {
-            faults.push((WEIGHT, format!("the weight is not 1 to {total}")));
+        if !blank(line, WEIGHT) && !(1..=larger).contains(&value(line, WEIGHT)) {
+            faults.push((WEIGHT, format!("the weight is not 1 to {larger}")));
         }
         if !blank(line, UTILITY) && !(lowest..=highest).contains(&value(line, UTILITY)) {
             let fault = format!("the utility is outside the ends {lowest} and {highest}");
@@ -413,13 +483,15 @@ impl Nodes<'_> {
         faults
     }
 
-    /// The sum of the weights under a node.
-    fn sum(&self, node: usize) -> i64 {
-        let later = node + 1..self.lines.len();
-        let children = later.filter(|child| self.parent(*child) == Some(node));
-        children
-            .map(|child| value(&self.lines[child], WEIGHT))
-            .sum()
+    /// The sum of the weights under each node, of lines that are all right.
+    fn sums(&self) -> Vec<i64> {
+        let mut sums = vec![0; self.lines.len()];
+        for (node, line) in self.lines.iter().enumerate() {
+            if let Some(parent) = self.parent(node) {
+                sums[parent] += value(line, WEIGHT);
+            }
+        }
+        sums
     }
 
     fn path_faults(&self, node: usize) -> Faults {

@@ -5,6 +5,7 @@ use margin_engine::{Node, Table};
 /// The tree's lines, one for each node.
 pub fn lines(table: &Table) -> Vec<String> {
     let nodes = &table.nodes;
+    let sums: Vec<i64> = (0..nodes.len()).map(|node| table.sum(node)).collect();
     // For each node above the one drawn, what stands below its corner.
     let mut path: Vec<&str> = Vec::new();
     let mut depths: Vec<usize> = Vec::with_capacity(nodes.len());
@@ -19,17 +20,17 @@ pub fn lines(table: &Table) -> Vec<String> {
             path.push(if last { "    " } else { "│   " });
         }
         depths.push(path.len());
-        line += &label(table, number, node);
+        line += &label(number, node, &sums);
         lines.push(line);
     }
     lines
 }
 
-/// A node in words: its chance under a C, its number, its kind, its utility.
-fn label(table: &Table, number: usize, node: &Node) -> String {
-    let weight = node
-        .weight
-        .map(|weight| format!("{weight}/{} ", table.total));
+/// A node in words: its chance under a C, its number, its kind, its utility. A chance is
+/// of what the weights under its own C sum to.
+fn label(number: usize, node: &Node, sums: &[i64]) -> String {
+    let chance = node.weight.zip(node.parent);
+    let weight = chance.map(|(weight, parent)| format!("{weight}/{} ", sums[parent]));
     let utility = node.utility.map(|utility| format!(" {utility}"));
     let (weight, utility) = (weight.unwrap_or_default(), utility.unwrap_or_default());
     format!("{weight}{number} {}{utility}", node.kind)

@@ -24,7 +24,8 @@ pub const VERB: Verb = Verb {
         "\
 A node is its number, its kind (M: MAX plays, N: MIN plays, C: dice, L: a leaf)
 and at a leaf its utility; a fraction before it is its chance under a C. The
-worth is in points, with the grains beside it.
+worth is in points, with the grains beside it. `T 36 and 15` are the total and the
+second total of a table that has two.
 ",
         "\
 With --margin M the leaves that a search to this margin reads are marked `read`,
@@ -156,11 +157,13 @@ impl Standing {
 impl Answer for Drawn {
     fn people(&self, page: &mut Page) {
         let table = &self.table;
+        let second = table.second.map(|second| format!(" and {second}"));
         let line = format!(
-            "{} nodes, {} leaves, T {}, ends {} and {}, K {}",
+            "{} nodes, {} leaves, T {}{}, ends {} and {}, K {}",
             table.nodes.len(),
             table.leaves,
             table.total,
+            second.unwrap_or_default(),
             table.lowest,
             table.highest,
             table.chances
@@ -204,9 +207,7 @@ impl Answer for Drawn {
         let table = &self.table;
         sheet.row("nodes", &[&table.nodes.len()]);
         sheet.row("leaves", &[&table.leaves]);
-        sheet.row("total", &[&table.total]);
-        sheet.row("lowest", &[&table.lowest]);
-        sheet.row("highest", &[&table.highest]);
+        sheet.totals_and_ends(table);
         sheet.row("chances", &[&table.chances]);
         sheet.row("grain", &[&table.per_point]);
         if let Some(searched) = &self.searched {

@@ -14,7 +14,7 @@ pub const VERB: Verb = Verb {
     does: "prints the table from the other side",
     more: &["\
 M and N change places, utilities get the other sign, and the two ends are negated
-and exchanged.
+and exchanged. All else is kept, both totals too.
 "],
     ask: |words| words.about_table(Asked),
 };
@@ -35,9 +35,7 @@ impl Answer for Turned {
     fn tsv(&self, sheet: &mut Sheet) {
         let table = read(&self.text).expect("the turned table is a table");
         sheet.row("nodes", &[&table.nodes.len()]);
-        sheet.row("total", &[&table.total]);
-        sheet.row("lowest", &[&table.lowest]);
-        sheet.row("highest", &[&table.highest]);
+        sheet.totals_and_ends(&table);
         for (number, node) in table.nodes.iter().enumerate() {
             sheet.node(number, node, &[]);
         }
