@@ -13,10 +13,12 @@ pub struct Refused {
     /// match does not have, and the line; none where none is shown.
     pub shown: Option<(Option<usize>, String)>,
     pub marks: Vec<Stretch>,
+    /// What the reason says after its colon; none where the words are left open.
+    pub detail: Option<String>,
 }
 
 /// The refusals that have no line of their own.
-const WITHOUT_LINE: [u8; 8] = [1, 12, 13, 14, 15, 16, 17, 20];
+const WITHOUT_LINE: [u8; 9] = [1, 12, 13, 14, 15, 16, 17, 18, 20];
 
 /// The refusal of the command line, not of a file, so that none is named.
 const OF_NO_FILE: u8 = 20;
@@ -29,6 +31,7 @@ impl Refused {
             at: None,
             shown: shown.map(|(number, line)| (Some(number), line)),
             marks: desk::marks(text, refusal),
+            detail: desk::detail(text, refusal),
         }
     }
 
@@ -41,6 +44,7 @@ impl Refused {
             at: None,
             shown: None,
             marks: Vec::new(),
+            detail: None,
         }
     }
 
@@ -51,6 +55,7 @@ impl Refused {
             at: Some((stop.position, stopped.line)),
             shown: stopped.shown,
             marks: stopped.marks,
+            detail: stopped.detail,
         }
     }
 
@@ -85,10 +90,15 @@ impl Refused {
                 ["reason\t", "mend\t"]
             }
         };
-        for name in advice {
+        for (name, detail) in advice.into_iter().zip([&self.detail, &None]) {
             let said = lines.next().and_then(|line| line.strip_prefix(name));
             let well = said.is_some_and(|said| !said.is_empty() && said == said.trim());
-            assert!(well && !said.unwrap_or_default().contains('\t'), "{place}");
+            let said = said.unwrap_or_default();
+            assert!(well && !said.contains('\t'), "{place}");
+            if let Some(detail) = detail {
+                let after = said.split_once(": ").map(|(_, after)| after);
+                assert_eq!(after, Some(detail.as_str()), "{place}");
+            }
         }
     }
 

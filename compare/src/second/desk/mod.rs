@@ -5,9 +5,10 @@
 //! The verbs here and in `matches` gather what there is to say, and `people` and
 //! `tsv` say it in their form; `columns` sets amounts and columns, `tree` draws the
 //! tree. `refused` has the line and the columns of a refusal, `stopped` those of a
-//! refused match.
+//! refused match, and `details` what is said of a sum and of a grain count.
 
 mod columns;
+mod details;
 mod matches;
 mod people;
 mod refused;
@@ -15,6 +16,7 @@ mod stopped;
 mod tree;
 mod tsv;
 
+pub use details::detail;
 pub use matches::{all, no_totals, printed_name, report, Reported, USUAL_SCALE};
 pub use refused::{marks, shown, Stretch};
 pub use stopped::{stopped, Stopped};

@@ -217,13 +217,16 @@ fn budget(budget: i64, spent: bool) -> String {
 }
 
 fn header(table: &Table) -> String {
+    let totals = match table.second {
+        None => table.total.to_string(),
+        Some(second) => format!("{} and {second}", table.total),
+    };
     line(
         "table",
         format!(
-            "{} nodes, {} leaves, T {}, ends {} and {}, K {}",
+            "{} nodes, {} leaves, T {totals}, ends {} and {}, K {}",
             table.nodes.len(),
             table.leaves,
-            table.total,
             table.lowest,
             table.highest,
             table.chances

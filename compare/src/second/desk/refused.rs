@@ -12,12 +12,14 @@ const SHOWN: usize = 40;
 // The columns of the header and of a node line.
 const NUMBER: Stretch = (1, 4);
 const TOTAL: Stretch = (5, 8);
+const SECOND: Stretch = (5, 6);
+const BESIDE_SECOND: Stretch = (7, 8);
 const LOWEST: Stretch = (9, 16);
 const HIGHEST: Stretch = (17, 24);
 const FIFTH: Stretch = (5, 5);
 const KIND: Stretch = (6, 6);
-const PARENT: Stretch = (7, 11);
-const WEIGHT: Stretch = (12, 16);
+pub(super) const PARENT: Stretch = (7, 11);
+pub(super) const WEIGHT: Stretch = (12, 16);
 const UTILITY: Stretch = (17, 24);
 const NEWLINE: Stretch = (25, 25);
 
@@ -52,6 +54,7 @@ pub fn marks(text: &[u8], refusal: Refusal) -> Vec<Stretch> {
         6 => vec![PARENT],
         7 => missing_or_too_many(text, line),
         10 => path_too_long(text, line),
+        18 => totals(line).to_vec(),
         _ => vec![KIND],
     }
 }
@@ -87,9 +90,11 @@ fn ill_written(line: &[u8], header: bool) -> Vec<Stretch> {
     let is_blank = |stretch| columns(line, stretch) == b" ";
     let newline = (NEWLINE, columns(line, NEWLINE) == b"\n");
     let well = match header {
-        true => [NUMBER, TOTAL, LOWEST, HIGHEST]
-            .map(|stretch| (stretch, is_number(stretch)))
-            .to_vec(),
+        true => {
+            let fields = [&[NUMBER], totals(line), &[LOWEST, HIGHEST]].concat();
+            let fields = fields.into_iter();
+            fields.map(|field| (field, is_number(field))).collect()
+        }
         false => vec![
             (NUMBER, is_number(NUMBER)),
             (FIFTH, is_blank(FIFTH)),
@@ -107,16 +112,36 @@ fn header_out_of_range(line: &[u8]) -> Vec<Stretch> {
     let (lowest, highest) = (number(LOWEST), number(HIGHEST));
     let ends = -FARTHEST_END..=FARTHEST_END;
     let in_order = lowest <= highest;
-    wrong([
-        (TOTAL, (1..=MOST_TOTAL).contains(&number(TOTAL))),
+    let is_total = |stretch| (1..=MOST_TOTAL).contains(&number(stretch));
+    let totals = match *totals(line) {
+        [second, total] => {
+            let differ = number(second) != number(total);
+            vec![
+                (second, is_total(second) && differ),
+                (total, is_total(total)),
+            ]
+        }
+        _ => vec![(TOTAL, is_total(TOTAL))],
+    };
+    let ends = [
         (LOWEST, in_order && ends.contains(&lowest)),
         (HIGHEST, in_order && ends.contains(&highest)),
-    ])
+    ];
+    wrong(totals.into_iter().chain(ends))
+}
+
+/// The columns of the totals, in sequence: T's are the last.
+pub(super) fn totals(header: &[u8]) -> &'static [Stretch] {
+    match columns(header, SECOND) {
+        b"  " => &[TOTAL],
+        _ => &[SECOND, BESIDE_SECOND],
+    }
 }
 
 fn node_out_of_range(text: &[u8], line: &[u8]) -> Vec<Stretch> {
     let number = |stretch| value(text, stretch).expect("a number");
-    let weights = 1..=number(TOTAL);
+    let totals = totals(text).iter().map(|&stretch| number(stretch));
+    let weights = 1..=totals.max().expect("a total");
     let utilities = number(LOWEST)..=number(HIGHEST);
     let within = |stretch, range: &std::ops::RangeInclusive<i64>| {
         value(line, stretch).is_none_or(|value| range.contains(&value))
@@ -153,17 +178,17 @@ pub fn wrong(well: impl IntoIterator<Item = (Stretch, bool)>) -> Vec<Stretch> {
 }
 
 /// The line of a node's parent; none for the root.
-fn parent<'a>(text: &'a [u8], line: &[u8]) -> Option<&'a [u8]> {
+pub(super) fn parent<'a>(text: &'a [u8], line: &[u8]) -> Option<&'a [u8]> {
     let parent = value(line, PARENT)?;
     text.chunks(LINE).nth(parent as usize + 1)
 }
 
-fn kind(line: &[u8]) -> u8 {
+pub(super) fn kind(line: &[u8]) -> u8 {
     line[KIND.0 - 1]
 }
 
 /// The number in a field; none where it is blank.
-fn value(line: &[u8], stretch: Stretch) -> Option<i64> {
+pub(super) fn value(line: &[u8], stretch: Stretch) -> Option<i64> {
     field(columns(line, stretch)).expect("a field that is well-written")
 }
 

@@ -1,5 +1,6 @@
 //! What is shown of a refused match: the line at fault and the columns marked.
 
+use super::details::detail;
 use super::refused::{marks, printed, shown, wrong, Stretch};
 use crate::second::read::field;
 use crate::second::{self, Refusal, Stop, LINE, PLAY_LINE};
@@ -14,6 +15,8 @@ pub struct Stopped {
     /// line as it is printed.
     pub shown: Option<(Option<usize>, String)>,
     pub marks: Vec<Stretch>,
+    /// What the reason says after its colon, if it is reckoned.
+    pub detail: Option<String>,
 }
 
 /// What is shown where the report on this file stops so.
@@ -36,6 +39,7 @@ fn nothing(first: usize) -> Stopped {
         line: first,
         shown: None,
         marks: Vec::new(),
+        detail: None,
     }
 }
 
@@ -47,6 +51,7 @@ fn in_table(first: usize, rest: &[u8], refusal: Refusal) -> Stopped {
         line: first + 1 + number,
         shown: Some((Some(number), columns)),
         marks: marks(text, refusal),
+        detail: detail(text, refusal),
     }
 }
 
@@ -66,6 +71,7 @@ fn no_whole_position(first: usize, rest: &[u8]) -> Stopped {
             line: first,
             shown: Some((None, printed(line))),
             marks,
+            detail: None,
         };
     }
     if rest.len() < PLAY_LINE + LINE {

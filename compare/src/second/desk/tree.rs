@@ -30,8 +30,8 @@ pub fn lines(table: &Table) -> Vec<String> {
 
 fn label(table: &Table, number: usize, node: &Node) -> String {
     let mut label = format!("{number} {}", letter(node.kind));
-    if let Some(weight) = node.weight {
-        label = format!("{weight}/{} {label}", table.total);
+    if let (Some(weight), Some(parent)) = (node.weight, node.parent) {
+        label = format!("{weight}/{} {label}", table.nodes[parent].sum);
     }
     if let Some(utility) = node.utility {
         label += &format!(" {utility}");

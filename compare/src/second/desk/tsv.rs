@@ -29,7 +29,7 @@ pub fn search(table: &Table, searched: &Searched) -> String {
 
 /// The table is the turned one.
 pub fn turn(table: &Table) -> String {
-    let mut answer = nodes(table) + &total_and_ends(table);
+    let mut answer = nodes(table) + &totals_and_ends(table);
     for node in 0..table.nodes.len() {
         answer += &row("node", &[&line(table, node)]);
     }
@@ -48,7 +48,7 @@ pub fn rollout(table: &Table, out: &RolledOut) -> String {
 }
 
 pub fn show(table: &Table, searched: Option<&Searched>) -> String {
-    let mut answer = nodes(table) + &leaves(table) + &total_and_ends(table);
+    let mut answer = nodes(table) + &leaves(table) + &totals_and_ends(table);
     answer += &row("chances", &[&table.chances]);
     answer += &grain(table);
     if let Some(searched) = searched {
@@ -166,8 +166,10 @@ fn leaves(table: &Table) -> String {
     row("leaves", &[&table.leaves])
 }
 
-fn total_and_ends(table: &Table) -> String {
+/// A table with one total has no row of a second.
+fn totals_and_ends(table: &Table) -> String {
     let mut rows = row("total", &[&table.total]);
+    rows.extend(table.second.map(|second| row("second", &[&second])));
     rows += &row("lowest", &[&table.lowest]);
     rows + &row("highest", &[&table.highest])
 }
