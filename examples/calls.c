@@ -1,14 +1,14 @@
-/* Calls every function of the header on document 01's tables A and B, on a forced play, on level plays, on plays that tie in the search and on a
- * match, and says where an answer is not as it should be: calls B A FORCED LEVEL TIES MATCH, the files of all six. What it expects is printed
- * in document 01, or read off the tables. */
+/* Calls every function of the header on document 01's tables A and B, on a forced play, on level plays, on plays that tie in the search, on a
+ * match and on a first roll, whose table has two totals, and says where an answer is not as it should be: calls B A FORCED LEVEL TIES MATCH
+ * ROLL, the files of all seven. What it expects is printed in document 01, or read off the tables. */
 #include <stdio.h>
 #include <string.h>
 
 #include "margin_engine.h"
 
 static uint8_t b[MARGIN_MOST_BYTES], a[MARGIN_MOST_BYTES], forced[MARGIN_MOST_BYTES], level[MARGIN_MOST_BYTES];
-static uint8_t ties[MARGIN_MOST_BYTES], match[MARGIN_MOST_BYTES];
-static size_t b_len, a_len, forced_len, level_len, ties_len, match_len;
+static uint8_t ties[MARGIN_MOST_BYTES], match[MARGIN_MOST_BYTES], roll[MARGIN_MOST_BYTES];
+static size_t b_len, a_len, forced_len, level_len, ties_len, match_len, roll_len;
 static int bad;
 
 #define SAME(count, got, ...) same(__LINE__, count, sizeof (got)[0], (got), (const int64_t[]){__VA_ARGS__})
@@ -49,7 +49,7 @@ static size_t load(const char *path, uint8_t *text) {
 }
 
 static void reading(void) {
-    int64_t numbers[8];
+    int64_t numbers[9];
     uint8_t kind[6], weight[6];
     uint16_t stop[6];
     uint32_t height[6];
@@ -58,12 +58,41 @@ static void reading(void) {
     memset(stop, 0xff, sizeof stop);
     memset(weight, 0xff, sizeof weight);
     memset(height, 0xff, sizeof height);
-    returned("margin_read", margin_read(b, b_len, numbers, 8, kind, 6, stop, 6, weight, 6, height, 6), 0);
-    SAME(7, numbers, 5, 4, 0, 8, 1, 4, 3);
+    returned("margin_read", margin_read(b, b_len, numbers, 9, kind, 6, stop, 6, weight, 6, height, 6), 0);
+    SAME(8, numbers, 5, 4, 0, 8, 1, 4, 3, 0);
     SAME(5, kind, 1, 0, 3, 0, 0);
     SAME(5, stop, 5, 2, 5, 4, 5);
     SAME(5, weight, 0, 0, 0, 3, 1);
     SAME(5, height, 0, 5, 0, 2, 8);
+}
+
+/* 64 four times on a path and 63 once on another: 64 to the power 4 is the greatest grain count, so 63 times that is too great. */
+static const char grains[] = "   86364       0       0\n"
+                             "   0 M                  \n"
+                             "   1 C    0             \n"
+                             "   2 C    1   64        \n"
+                             "   3 C    2   64        \n"
+                             "   4 C    3   64        \n"
+                             "   5 L    4   64       0\n"
+                             "   6 C    0             \n"
+                             "   7 L    6   63       0\n";
+
+/* A first roll of weights that sum to 15, then all rolls, which sum to 36. The second total becomes 36, as T is, then 16, which no C sums to, and
+ * 15 again. */
+static void two_totals(void) {
+    int64_t numbers[9];
+    uint8_t kind[1], weight[1];
+    uint16_t stop[1];
+    uint32_t height[1];
+    memset(numbers, 0xff, sizeof numbers);
+    for (int i = 0; i < 3; i++) {
+        memcpy(roll + 4, (const char *[]){"36", "16", "15"}[i], 2);
+        const uint64_t code = margin_read(roll, roll_len, numbers, 9, kind, 0, stop, 0, weight, 0, height, 0);
+        returned("margin_read of two totals", code, (const uint64_t[]){3, 109, 0}[i]);
+        if (code != 0) SAME(0, numbers, 0);
+    }
+    SAME(8, numbers, 1006, 36, -3000, 3000, 2, 540, 945, 15);
+    returned("margin_worth of too many grains", margin_worth((const uint8_t *)grains, sizeof grains - 1, numbers, 9), 18);
 }
 
 static void worth(void) {
@@ -197,12 +226,14 @@ static void report(void) {
 }
 
 int main(int argc, char **argv) {
-    if (argc != 7 || (b_len = load(argv[1], b)) == 0 || (a_len = load(argv[2], a)) == 0 || (forced_len = load(argv[3], forced)) == 0 ||
-        (level_len = load(argv[4], level)) == 0 || (ties_len = load(argv[5], ties)) == 0 || (match_len = load(argv[6], match)) == 0) {
-        fprintf(stderr, "usage: calls B A FORCED LEVEL TIES MATCH\n");
+    if (argc != 8 || (b_len = load(argv[1], b)) == 0 || (a_len = load(argv[2], a)) == 0 || (forced_len = load(argv[3], forced)) == 0 ||
+        (level_len = load(argv[4], level)) == 0 || (ties_len = load(argv[5], ties)) == 0 || (match_len = load(argv[6], match)) == 0 ||
+        (roll_len = load(argv[7], roll)) == 0) {
+        fprintf(stderr, "usage: calls B A FORCED LEVEL TIES MATCH ROLL\n");
         return 2;
     }
     reading();
+    two_totals();
     worth();
     judging();
     searching();
