@@ -343,7 +343,7 @@ fn header_range(header: &[u8; LINE]) -> Faults {
     if let Some(second) = second {
         let fault = match value(header, second) {
             1..=MOST_TOTAL if value(header, second) != t => None,
-            1..=MOST_TOTAL => Some("is T once more".to_string()),
+            1..=MOST_TOTAL => Some("is the same as T".to_string()),
             _ => Some(format!("is not 1 to {MOST_TOTAL}")),
         };
         faults.extend(fault.map(|fault| (second, format!("{} {fault}", second.name))));
