@@ -21,7 +21,16 @@ use compare::texts;
 use compare::texts::examples::*;
 use compare::texts::knobs::{Kinds, Knobs};
 
-const EXAMPLES: [&str; 7] = ["a", "b", "level", "opening", "bear-off", "race", "replies"];
+const EXAMPLES: [&str; 8] = [
+    "a",
+    "b",
+    "level",
+    "opening",
+    "bear-off",
+    "race",
+    "replies",
+    "first-roll",
+];
 
 // ---------------------------------------------------------------------------
 // Answers
@@ -48,7 +57,7 @@ fn every_verb_on_the_examples() {
         let (file, text) = example(name);
         let table = second::read(&text).expect("accepted");
         let children = root_children(&table) as i64;
-        assert!(children >= 2, "{name}: nothing to judge");
+        assert!(children >= 2, "{name}: one child");
         let mut questions = vec![Show, Worth, Turn];
         questions.extend((1..=children).map(Judge));
         for margin in MARGINS {
@@ -158,6 +167,142 @@ fn the_example_of_a_forced_play() {
         comparison.answered(&question, &text, Way::File(&file));
     }
     comparison.demand(20);
+}
+
+const TWO_TOTALS_SHOWN: &str = "\
+table   9 nodes, 5 leaves, T 4 and 3, ends 0 and 8, K 2
+margin  1.000 points (12g)
+low     4.667 points (56g)
+high    4.667 points (56g)
+play    2, node 4
+leaves  5 of 5 read
+grain   12g to the point
+
+tree                   worth
+0 M                    4.667 (56g)
+├── 1 C                3.500 (42g)
+│   ├── 3/4 2 L 2      2.000 (24g)  read
+│   └── 1/4 3 L 8      8.000 (96g)  read
+└── 4 C                4.667 (56g)
+    ├── 1/3 5 L 6      6.000 (72g)  read
+    └── 2/3 6 C        4.000 (48g)
+        ├── 3/4 7 L 3  3.000 (36g)  read
+        └── 1/4 8 L 7  7.000 (84g)  read
+
+number  node  worth        loss         standing
+     1     1  3.500 (42g)  1.167 (14g)  past the margin
+     2     4  4.667 (56g)  0.000 (0g)   play, best, within the margin
+";
+
+const TWO_TOTALS_IN_FIELDS: &str = "\
+nodes\t9
+leaves\t5
+total\t4
+second\t3
+lowest\t0
+highest\t8
+chances\t2
+grain\t12
+node\t0\t\tM\t\t\t56\t4.667
+node\t1\t0\tC\t\t\t42\t3.500
+node\t2\t1\tL\t3\t2\t24\t2.000
+node\t3\t1\tL\t1\t8\t96\t8.000
+node\t4\t0\tC\t\t\t56\t4.667
+node\t5\t4\tL\t1\t6\t72\t6.000
+node\t6\t4\tC\t2\t\t48\t4.000
+node\t7\t6\tL\t3\t3\t36\t3.000
+node\t8\t6\tL\t1\t7\t84\t7.000
+";
+
+const TWO_TOTALS_TURNED: &str = "\
+...9.3.4......-8.......0
+...0.N..................
+...1.C....0.............
+...2.L....1....3......-2
+...3.L....1....1......-8
+...4.C....0.............
+...5.L....4....1......-6
+...6.C....4....2........
+...7.L....6....3......-3
+...8.L....6....1......-7
+";
+
+const TWO_TOTALS_TURNED_IN_FIELDS: &str = "\
+nodes\t9
+total\t4
+second\t3
+lowest\t-8
+highest\t0
+node\t0\t\tN\t\t
+node\t1\t0\tC\t\t
+node\t2\t1\tL\t3\t-2
+node\t3\t1\tL\t1\t-8
+node\t4\t0\tC\t\t
+node\t5\t4\tL\t1\t-6
+node\t6\t4\tC\t2\t
+node\t7\t6\tL\t3\t-3
+node\t8\t6\tL\t1\t-7
+";
+
+const TWO_TOTALS_WORTH: &str = "\
+worth   4.667 points (56g)
+grain   12g to the point
+";
+
+const TWO_TOTALS_JUDGED: &str = "\
+play    1, node 1
+loss    1.167 points (14g)
+level   1 of 2 plays
+grain   12g to the point
+";
+
+const TWO_TOTALS_SEARCHED: &str = "\
+margin  0.000 points (0g)
+low     4.667 points (56g)
+high    4.667 points (56g)
+play    2, node 4
+leaves  5 of 5 read
+leaf    2 3 5 7 8
+grain   12g to the point
+";
+
+/// A table with two totals, by the words and the fields that are printed: every verb.
+#[test]
+fn two_totals_by_the_words_printed() {
+    let text = dotted(TWO_TOTALS);
+    let file = written("desk-two-totals.txt", &text);
+    let turned = TWO_TOTALS_TURNED.replace('.', " ");
+    let printed = [
+        (ShowTo("1".to_string()), Form::People, TWO_TOTALS_SHOWN),
+        (Show, Form::Tsv, TWO_TOTALS_IN_FIELDS),
+        (Turn, Form::People, &turned),
+        (Turn, Form::Tsv, TWO_TOTALS_TURNED_IN_FIELDS),
+        (Worth, Form::People, TWO_TOTALS_WORTH),
+        (Judge(1), Form::People, TWO_TOTALS_JUDGED),
+        (Search("0".to_string()), Form::People, TWO_TOTALS_SEARCHED),
+    ];
+    for (question, form, words) in printed {
+        let answer = question.answer(&text, form).expect("an answer");
+        assert_eq!(answer, words, "{question:?}");
+        ask(question.words(), &text, form, Way::File(&file), 0).answers(words);
+    }
+
+    let mut comparison = Comparison::new("desk on two totals");
+    for text in [text, dotted(TWO_TOTALS_TURNED)] {
+        let mut questions = vec![Show, Worth, Turn, Judge(1), Judge(2)];
+        questions.extend(MARGINS.map(|margin| Search(margin.to_string())));
+        questions.extend(MARGINS.map(|margin| ShowTo(margin.to_string())));
+        questions.extend(BUDGETS.map(|budget| within("0", budget)));
+        for question in &questions {
+            comparison.answered(question, &text, Way::Input);
+        }
+        // A table with a C is not rolled out, whatever its totals.
+        for form in FORMS {
+            let refused = comparison.hold(&Rollout(vec![]), &text, form, Way::Input);
+            assert_eq!(refused.map_err(|refusal| refusal.number), Err(13));
+        }
+    }
+    comparison.demand(120);
 }
 
 /// A random margin as it may be written, for a table of this span.
@@ -270,12 +415,15 @@ fn random_tables() {
         seen.count_table(&table);
         seen.count_root(&ROOTS, &table);
         seen.count_chances(&table);
+        let both_used = uses_both_totals(&table);
         for verb in OF_A_TABLE {
             let is_one = question.words()[0] == verb[0];
             for one in FORMS {
                 let sort = format!("{} for {one:?}", verb[0]);
                 seen.count(&sort, is_one && form == one);
             }
+            let sort = format!("{} of two totals, both used", verb[0]);
+            seen.count(&sort, is_one && both_used);
         }
         let refused = answer.as_ref().err().map(|refusal| refusal.number);
         seen.count("an answer", answer.is_ok());
@@ -301,6 +449,14 @@ fn random_tables() {
     }
     comparison.demand(360);
     seen.demand(2);
+}
+
+/// Whether a table has two totals, and a C of each.
+fn uses_both_totals(table: &Table) -> bool {
+    let used = |total| table.nodes.iter().any(|node| node.sum == total);
+    table
+        .second
+        .is_some_and(|second| used(second) && used(table.total))
 }
 
 /// What `judge` prints of a forced play, whatever its number.
@@ -812,6 +968,30 @@ fn examples_in_the_description() {
         assert_eq!(described, answer, "docs/DESK.md on {words} {file}");
         ask(question.words(), &text, Form::People, Way::File(&file), 0).answers(&described);
     }
+}
+
+/// The tree with two totals that the description begins.
+#[test]
+fn two_totals_in_the_description() {
+    let described = block("docs/DESK.md", "Where a table has a second total");
+    let (file, text) = example("first-roll");
+    let answer = Show.answer(&text, Form::People).expect("an answer");
+    assert!(answer.starts_with(&described), "{described}");
+    assert!(described.lines().count() > 6, "{described}");
+    ask(Show.words(), &text, Form::People, Way::File(&file), 0).answers(&answer);
+}
+
+/// The refused grain count in the description is what the program prints.
+#[test]
+fn refused_grains_in_the_description() {
+    let described = block("docs/DESK.md", "With a second total the reason of 9");
+    assert!(described.starts_with("desk: grains.txt: refused 18\n"));
+    written("grains.txt", &dotted(TOO_MANY_GRAINS));
+    let mut command = command(&["search", "0", "grains.txt"]);
+    command.current_dir(folder());
+    let ran = finish(command, &[]);
+    assert_eq!((ran.status, &*ran.out), (Some(1), ""));
+    assert_eq!(ran.err, described);
 }
 
 /// The refused budget in the description is what the program prints.

@@ -9,6 +9,7 @@ use std::time::{Duration, Instant};
 
 use compare::hold::desk::Question::{Judge, Rollout, Search, SearchWithin, ShowTo};
 use compare::hold::desk::*;
+use compare::hold::seen::Seen;
 use compare::hold::tally::{Tally, OF_TABLES};
 use compare::random::Random;
 use compare::second::desk::{self, Form, Stretch, FORMS};
@@ -45,6 +46,14 @@ fn b_spliced(line: usize, columns: RangeInclusive<usize>, bytes: &[u8]) -> Vec<u
     let first = LINE * line + columns.start() - 1;
     let past = LINE * line + columns.end();
     text.splice(first..past, bytes.iter().copied());
+    text
+}
+
+/// A table that is written with dots, with these bytes from a column of a line on.
+fn spliced(table: &str, line: usize, column: usize, bytes: &[u8]) -> Vec<u8> {
+    let mut text = dotted(table);
+    let first = LINE * line + column - 1;
+    text[first..first + bytes.len()].copy_from_slice(bytes);
     text
 }
 
@@ -104,6 +113,22 @@ const LINES_OF_B: &str = "\
 2 0 17-24 ...5...4.......08....... an end left-justified
 2 0 1-4,9-16 ..05...4......00.......8 two leading zeros
 2 0 1-4,5-8,9-16,17-24 ..05..+4......-0......8. every field
+2 0 5-6 ...500.4.......0.......8 a second total of 00
+2 0 5-6 ...503.4.......0.......8 a leading zero in a second total
+2 0 5-6 ...5+3.4.......0.......8 a plus before a second total
+2 0 5-6 ...5-0.4.......0.......8 a second total of -0
+2 0 5-6 ...53..4.......0.......8 a second total left-justified
+2 0 5-6 ...5.-.4.......0.......8 a minus alone for a second total
+2 0 5-6 ...5.x.4.......0.......8 a letter for a second total
+2 0 7-8 ...536.........0.......8 T left-justified in columns 5-8
+2 0 7-8 ...5.3.........0.......8 a second total and no T
+2 0 7-8 ...5.100.......0.......8 three digits in columns 5-8
+2 0 7-8 ...51504.......0.......8 a leading zero in T beside a second total
+2 0 7-8 ...5154........0.......8 T left-justified beside a second total
+2 0 5-6,7-8 ...50004.......0.......8 four digits, the first three 0
+2 0 5-6 ...5.--4.......0.......8 a minus in column 6, -4 after it
+2 0 1-4,5-6,7-8,9-16,17-24 ..0503+4......-0......8. every field, and a second total
+2 0 9-16 ...5.0.4......00.......8 2 comes before 3 of a second total
 2 1 1-4 .....M.................. no number
 2 1 1-4 ..00.M.................. a leading zero in a number
 2 3 6 ...2......0............. no kind
@@ -133,6 +158,21 @@ const LINES_OF_B: &str = "\
 3 0 9-16,17-24 ...5...4.......0-1000001 an end too low and below the other
 3 0 5-8,9-16,17-24 ...5...0.......9.......8 T 0, and the lowest end above the highest
 3 0 5-8 ...6...0.......0.......8 3 comes before 4
+3 0 5-6 ...5.0.4.......0.......8 a second total of 0
+3 0 5-6 ...565.4.......0.......8 a second total of 65
+3 0 5-6 ...599.4.......0.......8 a second total of 99
+3 0 5-6 ...5-1.4.......0.......8 a second total below zero
+3 0 5-6 ...5.4.4.......0.......8 a second total that T is already
+3 0 5-6 ...56464.......0.......8 both the greatest
+3 0 7-8 ...515.0.......0.......8 T 0 beside a second total
+3 0 7-8 ...51565.......0.......8 T 65 beside a second total
+3 0 7-8 ...515-4.......0.......8 T -4 beside a second total
+3 0 5-6,7-8 ...565-1.......0.......8 both totals
+3 0 5-6,7-8 ...56565.......0.......8 both totals, the same
+3 0 5-6,7-8,9-16,17-24 ...599.0.......9.......8 both totals and both ends
+3 0 5-6,17-24 ...5.4.4.......0.1000001 a second total that T is already, and an end
+3 0 5-6 ...6.4.4.......0.......8 3 of a second total comes before 4
+4 0 1-4 ...615.4.......0.......8 a node too many counted, with a second total
 3 4 12-16 ...3.L....2....5.......2 a weight above T
 3 4 12-16 ...3.L....2....0.......2 a weight of 0
 3 4 12-16 ...3.L....2...-1.......2 a weight below zero
@@ -190,8 +230,25 @@ fn other_texts() -> Vec<Bad> {
     heavy_root[2 * LINE + 15] = b'2';
     let mut no_weight = chain(b"CCCCC", 1);
     no_weight[5 * LINE + 15] = b' ';
+    // The table with two totals, and the one with too many grains, written otherwise.
+    let two = |line, column, bytes: &[u8]| spliced(TWO_TOTALS, line, column, bytes);
+    let grains = |line, column, bytes: &[u8]| spliced(TOO_MANY_GRAINS, line, column, bytes);
+    let mut above_t = two(0, 6, b"9 3");
+    above_t[3 * LINE + 15] = b'4';
+    let childless = grains(8, 1, b"   7 M    6   63        ");
     let bad = Bad::new;
     vec![
+        bad(9, 2, "6", "5 where 4 and 3 are", two(3, 16, b"4")),
+        bad(9, 5, "6", "2 where 4 and 3 are", two(7, 16, b"1")),
+        bad(9, 7, "6", "5 below another C", two(9, 16, b"2")),
+        bad(9, 5, "6", "3 where 4 and 2 are", two(0, 6, b"2")),
+        bad(9, 2, "6", "4 where 5 and 3 are", two(0, 8, b"5")),
+        bad(9, 2, "6", "a weight above T is in range", above_t),
+        bad(3, 3, "12-16", "one above both is not", two(3, 16, b"5")),
+        bad(18, 0, "5-6,7-8", "grains", dotted(TOO_MANY_GRAINS)),
+        bad(18, 0, "5-6,7-8", "grains at N", grains(1, 6, b"N")),
+        bad(8, 8, "6", "8 comes before 18", childless),
+        bad(9, 7, "6", "9 comes before 18", grains(8, 16, b"2")),
         bad(2, 2, "5", "a tab", b_spliced(2, 5..=5, b"\t")),
         bad(2, 0, "25", "a blank for 25", b_spliced(0, 25..=25, b" ")),
         bad(2, 1, "25", "in a node line", b_spliced(1, 25..=25, b" ")),
@@ -235,7 +292,7 @@ fn refused_tables() {
         }
     }
     tally.report();
-    for number in OF_TABLES {
+    for number in OF_TABLES.into_iter().chain([18]) {
         let count = tally.counts[number];
         assert!(count >= 4, "refusal {number} came only {count} times");
     }
@@ -245,21 +302,37 @@ fn refused_tables() {
 #[test]
 fn random_refused_texts() {
     let mut tally = Tally::new("desk on random refused texts");
+    let mut seen = Seen::default();
     for case in 0..1_000 {
         let random = &mut Random::of_case(tally.seed, case);
         let (text, refusal) = match case % 20 {
             number @ 0..10 => broken(1 + number as u8, random),
+            10 => broken(18, random),
             _ => damaged(random),
         };
         assert_eq!(second::read(&text), Err(refusal));
         let form = random.pick(&FORMS);
         let words = words(random.pick(OF_A_TABLE));
         let ran = ask(words, &text, form, Way::Input, case);
-        Refused::of(&text, refusal).hold(&ran, form, Way::Input.name(), &tally.place());
+        let refused = Refused::of(&text, refusal);
+        refused.hold(&ran, form, Way::Input.name(), &tally.place());
+        for (sort, stretch) in [("5-6", (5, 6)), ("7-8", (7, 8)), ("5-8", (5, 8))] {
+            for number in [2, 3] {
+                let is_marked = refused.marks.contains(&stretch) && refusal.number == number;
+                seen.count(&format!("{sort} of the header, {number}"), is_marked);
+            }
+        }
+        let detail = refused.detail.unwrap_or_default();
+        seen.count(
+            "a sum that is neither total",
+            detail.contains("the totals are"),
+        );
+        seen.count("a sum that is not T", detail.contains("and T is"));
         tally.add(&[u64::from(refusal.number)]);
     }
     tally.report();
-    for number in OF_TABLES {
+    seen.demand(5);
+    for number in OF_TABLES.into_iter().chain([18]) {
         let count = tally.counts[number];
         assert!(count >= 50, "refusal {number} came only {count} times");
     }
@@ -384,6 +457,17 @@ const REASONS: &str = "\
 0 ...5...4......-0.......8 the lowest end is -0
 0 ...5...4.......08....... the highest end is not right-justified
 0 ...5...0.......0.......8 T is not 1 to 64
+0 ...500.4.......0.......8 the second total has a leading zero
+0 ...53..4.......0.......8 the second total is not right-justified
+0 ...536.........0.......8 T (columns 7-8, as 5-6 are not blank) is blank
+0 ...5.100.......0.......8 T (columns 7-8, as 5-6 are not blank) has a leading zero
+0 ...565.4.......0.......8 the second total is not 1 to 64
+0 ...5.4.4.......0.......8 the second total is the same as T
+0 ...515.0.......0.......8 T is not 1 to 64
+0 ...599.0.......0.......8 the second total is not 1 to 64, T is not 1 to 64
+0 ...615.4.......0.......8 it is 6, and there are 5
+0 ...51536.......0.......8 they sum to 4, and the totals are 36 and 15
+0 ...51515.......9.......8 the second total is the same as T, the lowest end is above the highest
 0 ...5...4-1000001.......8 the lowest end is more than 1,000,000 from 0
 0 ...5...4.......9.......8 the lowest end is above the highest
 0 ...6...4.......0.......8 it is 6, and there are 5
@@ -419,7 +503,24 @@ fn reasons_in_words() {
         Said::new(table_b_with(line, columns), detail, "").hold(&["show"]);
         told += 1;
     }
-    assert_eq!(told, 26);
+    assert_eq!(told, 37);
+
+    let two = |line: usize, column: usize, bytes: &[u8]| spliced(TWO_TOTALS, line, column, bytes);
+    let weight = "the weight is not 1 to 4";
+    Said::new(two(3, 16, b"5"), weight, "the larger total").hold(&["show"]);
+    let larger = [two(0, 5, b"16"), two(0, 5, b" 416")];
+    for (text, totals) in larger.into_iter().zip(["4 and 16", "16 and 4"]) {
+        let mut text = text;
+        text[3 * LINE + 14..3 * LINE + 16].copy_from_slice(b"17");
+        let weight = "the weight is not 1 to 16";
+        Said::new(text.clone(), weight, "the larger total").hold(&["show"]);
+        text[3 * LINE + 15] = b'6';
+        let sum = format!("they sum to 17, and the totals are {totals}");
+        Said::new(text, &sum, "weights").hold(&["show"]);
+    }
+    let grains = "64 is used 4 times on the path to node 4, 63 once on that to node 6, \
+                  so G would be 1,056,964,608";
+    Said::new(dotted(TOO_MANY_GRAINS), grains, "fewer C").hold(&["show"]);
 
     let closed = dotted(&TABLE_A.replace("...6.L....4", "...6.L....1"));
     let others = "other nodes than those under node 1 stand between";

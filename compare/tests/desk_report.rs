@@ -217,6 +217,49 @@ N       no decisions
 scale   2
 ";
 
+const TWO_TOTALS_REPORTED: &str = "\
+position  side  play         loss  mark
+       1  M        1        1.166  blunder
+       2  M        2        0.000  no mark
+       3  N        1        1.166  blunder
+       4  C        1  no decision
+       5  M        2        1.500  blunder
+
+M       3 decisions, 2.666 points lost, 0.8887 each
+marks   1 no mark, 0 doubtful, 0 errors, 2 blunders
+N       1 decision, 1.166 points lost, 1.1660 each
+marks   0 no mark, 0 doubtful, 0 errors, 1 blunder
+scale   2
+";
+
+/// Tables with two totals among others: what a play loses there is 14 of 12 grains to
+/// the point.
+#[test]
+fn two_totals() {
+    let turned = second_turned(&dotted(TWO_TOTALS));
+    let bytes = file(&[
+        position(1, TWO_TOTALS),
+        position(2, TWO_TOTALS),
+        Position::new(1, turned),
+        Position::new(1, example("first-roll").1),
+        position(2, TABLE_B),
+    ]);
+    let given = in_file("two-totals", &bytes);
+    let (words, _) = report_words(from_ref(&given), Form::People);
+    run(&words, &[]).answers(TWO_TOTALS_REPORTED);
+    for form in FORMS {
+        hold_report(from_ref(&given), form, "two totals");
+        hold_report(&[given.clone(), Given::dash(&bytes)], form, "two totals");
+    }
+}
+
+/// The turned table, by the second engine.
+fn second_turned(text: &[u8]) -> Vec<u8> {
+    let mut turned = vec![0; text.len()];
+    second::turn(text, &mut turned).expect("accepted");
+    turned
+}
+
 /// Losses of one side in thousandths, and what is said of them: exact averages, then
 /// some that go down or up, then 0.00025 and 0.00075. After a bar stand the marks.
 const AVERAGES: &str = "\
@@ -1024,8 +1067,8 @@ fn no_such_play_and_too_many() -> Vec<Bad> {
     list
 }
 
-/// 2 to 10: refused tables in the second position. A table whose count is not that
-/// of its lines is none of them, as the file is divided otherwise.
+/// 2 to 10 and 18: refused tables in the second position. A table whose count is not
+/// that of its lines is none of them, as the file is divided otherwise.
 fn refused_tables() -> Vec<Bad> {
     let mut list = Vec::new();
     let mut bad = |text: &[u8], number, line| {
@@ -1047,6 +1090,22 @@ fn refused_tables() -> Vec<Bad> {
         let header = format!("{count}...4.......0.......8");
         bad(&table_b_with(0, &header), 4, 0);
     }
+    for (header, number) in [
+        ("...500.4.......0.......8", 2),
+        ("...5.100.......0.......8", 2),
+        ("...536.........0.......8", 2),
+        ("...565.4.......0.......8", 3),
+        ("...5.4.4.......0.......8", 3),
+        ("...515.0.......0.......8", 3),
+    ] {
+        bad(&table_b_with(0, header), number, 0);
+    }
+    bad(&table_b_with(0, "...51536.......0.......8"), 9, 3);
+    bad(&dotted(TOO_MANY_GRAINS), 18, 0);
+    // 18 comes before 14.
+    let rest = file(&[position(3, TOO_MANY_GRAINS), position(1, LONE_LEAF)]);
+    let bad = Bad::second((18, 0), 11, "5-6,7-8", "18 before 14", &rest);
+    list.push(bad.showing(Some(0), "   86364       0       0"));
     list
 }
 
@@ -1071,7 +1130,7 @@ fn refused_matches() {
         tally.add(&[u64::from(bad.refused.refusal.number)]);
     }
     tally.report();
-    for number in [2, 3, 4, 5, 6, 7, 8, 9, 10, 14, 15, 16] {
+    for number in [2, 3, 4, 5, 6, 7, 8, 9, 10, 14, 15, 16, 18] {
         let count = tally.counts[number];
         assert!(count >= 2, "refusal {number} came only {count} times");
     }
@@ -1114,7 +1173,7 @@ fn random_refused_matches() {
     }
     tally.report();
     seen.demand(10);
-    for number in [2, 3, 4, 5, 6, 7, 8, 9, 10, 14, 15, 16] {
+    for number in [2, 3, 4, 5, 6, 7, 8, 9, 10, 14, 15, 16, 18] {
         let count = tally.counts[number];
         assert!(count >= 10, "refusal {number} came only {count} times");
     }
@@ -1149,7 +1208,13 @@ fn reasons_as_of_the_table_alone() {
         run(&["report", "--tsv"], &bytes)
     };
     let mut tally = Tally::new("desk on reasons in a match");
-    for (text, number, line) in refused_examples() {
+    let more = [
+        (table_b_with(0, "...5.100.......0.......8"), 2, 0),
+        (table_b_with(0, "...5.4.4.......0.......8"), 3, 0),
+        (table_b_with(0, "...51536.......0.......8"), 9, 3),
+        (dotted(TOO_MANY_GRAINS), 18, 0),
+    ];
+    for (text, number, line) in refused_examples().into_iter().chain(more) {
         let ran = in_match("1", &text);
         if number == 1 || (number, line) == (4, 0) || row_of(&ran, "refused") == "16" {
             continue;
@@ -1168,7 +1233,7 @@ fn reasons_as_of_the_table_alone() {
         tally.add(&[14]);
     }
     tally.report();
-    for number in [2, 3, 4, 5, 6, 7, 8, 9, 10, 14] {
+    for number in [2, 3, 4, 5, 6, 7, 8, 9, 10, 14, 18] {
         assert!(tally.counts[number] > 0, "refusal {number} never came");
     }
 }

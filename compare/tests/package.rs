@@ -8,6 +8,7 @@
 use std::fmt::Debug;
 
 use compare::hold::budget::no_budget;
+use compare::hold::desk::example;
 use compare::hold::seen::{Seen, ROOTS, SIDES};
 use compare::hold::tally::{Tally, OF_TABLES};
 use compare::hold::{code, span};
@@ -47,21 +48,24 @@ fn lines(head: impl Debug, nodes: impl Iterator<Item: Debug>) -> Vec<String> {
 
 fn second_lines(table: &Table) -> Vec<String> {
     let ends = (table.lowest, table.highest);
-    let grain = (table.total, table.chances, table.grains);
+    let grain = (table.total, table.second, table.chances, table.grains);
     let nodes = table.nodes.iter();
     lines(
         (ends, grain, table.leaves),
-        nodes.map(|n| (n.kind, n.parent, n.weight, n.utility, n.stop)),
+        nodes.map(|n| (n.kind, n.parent, n.weight, n.utility, n.stop, n.sum)),
     )
 }
 
 fn package_lines(table: &package::Table) -> Vec<String> {
     let ends = (table.lowest, table.highest);
-    let grain = (table.total, table.chances, table.per_point);
-    let nodes = table.nodes.iter();
+    let grain = (table.total, table.second, table.chances, table.per_point);
+    let nodes = table.nodes.iter().zip(0..);
     lines(
         (ends, grain, table.leaves),
-        nodes.map(|n| (n.kind, n.parent, n.weight, n.utility, n.stop)),
+        nodes.map(|(n, node)| {
+            let sum = table.sum(node);
+            (n.kind, n.parent, n.weight, n.utility, n.stop, sum)
+        }),
     )
 }
 
@@ -257,6 +261,7 @@ fn typed_calls() {
             seen.count_root(&ROOTS, table);
             seen.count_table(table);
             seen.count_chances(table);
+            seen.count("a second total", table.second.is_some());
             if second::judge(table, number) == Ok(second::Judgement::NoDecision) {
                 seen.count_forced(table, &[number]);
             }
@@ -265,7 +270,39 @@ fn typed_calls() {
     tally.report();
     seen.demand(20);
     tally.demand_refusals(&OF_TABLES);
-    tally.demand_refusals(&[12, 13, 14, 17]);
+    tally.demand_refusals(&[12, 13, 14, 17, 18]);
+}
+
+/// The example of a first roll: fifteen rolls of weight 1, three plays after each, and
+/// all 21 rolls after each play.
+#[test]
+fn the_example_of_two_totals() {
+    let (_, text) = example("first-roll");
+    let table = package::read(&text).expect("accepted");
+    assert_eq!((table.total, table.second), (36, Some(15)));
+    assert_eq!((table.chances, table.per_point), (2, 540));
+    assert_eq!((table.nodes.len(), table.leaves), (1_006, 945));
+    assert_eq!((table.lowest, table.highest), (-3_000, 3_000));
+    let sums: Vec<i64> = (0..1_006).map(|node| table.sum(node)).collect();
+    let of = |total| sums.iter().filter(|&&sum| sum == total).count();
+    assert_eq!((of(15), of(36), of(0)), (1, 45, 960));
+    assert_eq!(sums[0], 15);
+
+    let turned = package::turn(&text).expect("accepted").text;
+    assert!(turned.starts_with(b"10061536   -3000    3000\n   0 C"));
+    assert_eq!(package::turn(&turned).expect("accepted").text, text);
+
+    let place = "the example of a first roll";
+    let codes = [&text, &turned].map(|text| {
+        let questions = Questions {
+            number: 1,
+            margin: 50 * 540,
+            budget: 500,
+            policy: vec![],
+        };
+        hold(text, &questions, place)
+    });
+    assert_eq!(codes, [[0, 0, 0, 0, 0, 0, 13]; 2]);
 }
 
 // ---------------------------------------------------------------------------
@@ -357,7 +394,7 @@ fn typed_report() {
     }
     tally.report();
     seen.demand(100);
-    tally.demand_refusals(&[2, 3, 4, 5, 6, 7, 8, 9, 10, 14, 15, 16, 20]);
+    tally.demand_refusals(&[2, 3, 4, 5, 6, 7, 8, 9, 10, 14, 15, 16, 18, 20]);
     assert!(tally.counts[0] >= 1_000, "too few reports");
 }
 
@@ -404,14 +441,14 @@ fn typed_marks() {
 fn words_of_refused_reports() {
     let mut seen = vec![];
     let mut random = Random::new(1);
-    while seen.len() < 12 {
+    while seen.len() < 13 {
         let file = matches::case(&mut random);
         let Err(refusal) = package::report(&file, 1) else {
             continue;
         };
         let (number, line, position) = (refusal.number, refusal.line, refusal.position);
         let at = match number {
-            14..=16 => String::new(),
+            14..=16 | 18 => String::new(),
             _ => format!(" at line {line}"),
         };
         let reason = refusal.reason();
@@ -461,7 +498,7 @@ fn words_of_refused_searches() {
 fn words_of_refusals() {
     let mut seen = vec![];
     let mut random = Random::new(1);
-    while seen.len() < 10 {
+    while seen.len() < 11 {
         let text = texts::case(&mut random).text;
         let Err(refusal) = package::read(&text) else {
             continue;
@@ -472,7 +509,7 @@ fn words_of_refusals() {
         seen.push(refusal.number);
         let shown = refusal.to_string();
         let start = match refusal.number {
-            1 => "refused 1: ".to_string(),
+            1 | 18 => format!("refused {}: ", refusal.number),
             number => format!("refused {number} at line {}: ", refusal.line),
         };
         assert!(shown.starts_with(&start), "{shown}");

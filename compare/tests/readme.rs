@@ -71,6 +71,33 @@ fn first_answers() {
     assert_eq!(printed, searched);
 }
 
+/// The lines and the figures of a first roll, whose table has two totals.
+#[test]
+fn first_roll() {
+    let file = "examples/first-roll.txt";
+    let text = example(file);
+    let table = second::read(&text).expect("accepted");
+    assert_eq!((table.total, table.second), (36, Some(15)));
+    let lines = String::from_utf8(text.clone()).expect("ASCII");
+    let described = block("README.md", "second total, and the weights under each C");
+    for (line, described) in lines.lines().zip(described.lines()) {
+        assert_eq!(described.get(..24), Some(line), "{described}");
+    }
+    assert_eq!(described.lines().count(), 5, "{described}");
+
+    let mut tally = Tally::new("searching the README's first roll");
+    let read = leaves_read(&mut tally, &text, [0, 0, 0]);
+    let read = read.split(", ").next().expect("a number");
+    let worth = second::worth(&table) as f64 / table.grains as f64;
+    let said = format!(
+        "A point has 15 × 36 = {} grains there, the first roll is worth {worth:.3} points, and \
+         {read} of the {} leaves are read to tell that.",
+        table.grains, table.leaves
+    );
+    let readme = readme().split_whitespace().collect::<Vec<_>>().join(" ");
+    assert!(readme.contains(&said), "{said}");
+}
+
 /// The sentence on the leaves read of all rolls at two margins.
 #[test]
 fn all_rolls() {

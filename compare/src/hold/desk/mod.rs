@@ -10,11 +10,13 @@ mod questions;
 mod refused;
 mod reports;
 mod run;
+mod tables;
 
 pub use questions::*;
 pub use refused::*;
 pub use reports::*;
 pub use run::*;
+pub use tables::*;
 
 /// The verbs, with what they need before the file.
 pub const VERBS: [&[&str]; 7] = [
