@@ -14,6 +14,7 @@ use compare::hold::desk::Question::{
 use compare::hold::desk::*;
 use compare::hold::rolling::policies;
 use compare::hold::seen::{Seen, ROOTS, SIDES};
+use compare::hold::totals::uses;
 use compare::random::Random;
 use compare::second::desk::{self, Form, FORMS};
 use compare::second::{self, root_children, Refusal, Table, GREATEST_BUDGET};
@@ -415,7 +416,7 @@ fn random_tables() {
         seen.count_table(&table);
         seen.count_root(&ROOTS, &table);
         seen.count_chances(&table);
-        let both_used = uses_both_totals(&table);
+        let both_used = uses(&table).iter().all(|uses| *uses > 0);
         for verb in OF_A_TABLE {
             let is_one = question.words()[0] == verb[0];
             for one in FORMS {
@@ -449,14 +450,6 @@ fn random_tables() {
     }
     comparison.demand(360);
     seen.demand(2);
-}
-
-/// Whether a table has two totals, and a C of each.
-fn uses_both_totals(table: &Table) -> bool {
-    let used = |total| table.nodes.iter().any(|node| node.sum == total);
-    table
-        .second
-        .is_some_and(|second| used(second) && used(table.total))
 }
 
 /// What `judge` prints of a forced play, whatever its number.
@@ -986,7 +979,7 @@ fn two_totals_in_the_description() {
 fn refused_grains_in_the_description() {
     let described = block("docs/DESK.md", "With a second total the reason of 9");
     assert!(described.starts_with("desk: grains.txt: refused 18\n"));
-    written("grains.txt", &dotted(TOO_MANY_GRAINS));
+    written("grains.txt", &too_many_grains());
     let mut command = command(&["search", "0", "grains.txt"]);
     command.current_dir(folder());
     let ran = finish(command, &[]);

@@ -10,7 +10,7 @@ use std::time::{Duration, Instant};
 use compare::hold::desk::Question::{Judge, Rollout, Search, SearchWithin, ShowTo};
 use compare::hold::desk::*;
 use compare::hold::seen::Seen;
-use compare::hold::tally::{Tally, OF_TABLES};
+use compare::hold::tally::{Tally, OF_GRAINS, OF_TABLES};
 use compare::random::Random;
 use compare::second::desk::{self, Form, Stretch, FORMS};
 use compare::second::{self, Refusal, LINE};
@@ -49,9 +49,14 @@ fn b_spliced(line: usize, columns: RangeInclusive<usize>, bytes: &[u8]) -> Vec<u
     text
 }
 
-/// A table that is written with dots, with these bytes from a column of a line on.
-fn spliced(table: &str, line: usize, column: usize, bytes: &[u8]) -> Vec<u8> {
-    let mut text = dotted(table);
+/// The table with two totals, with these bytes from a column of a line on.
+fn two_totals_with(line: usize, column: usize, bytes: &[u8]) -> Vec<u8> {
+    let text = dotted(TWO_TOTALS);
+    overwritten(text, line, column, bytes)
+}
+
+/// The text with these bytes from a column of a line on.
+fn overwritten(mut text: Vec<u8>, line: usize, column: usize, bytes: &[u8]) -> Vec<u8> {
     let first = LINE * line + column - 1;
     text[first..first + bytes.len()].copy_from_slice(bytes);
     text
@@ -231,8 +236,8 @@ fn other_texts() -> Vec<Bad> {
     let mut no_weight = chain(b"CCCCC", 1);
     no_weight[5 * LINE + 15] = b' ';
     // The table with two totals, and the one with too many grains, written otherwise.
-    let two = |line, column, bytes: &[u8]| spliced(TWO_TOTALS, line, column, bytes);
-    let grains = |line, column, bytes: &[u8]| spliced(TOO_MANY_GRAINS, line, column, bytes);
+    let two = two_totals_with;
+    let grains = |line, column, bytes| overwritten(too_many_grains(), line, column, bytes);
     let mut above_t = two(0, 6, b"9 3");
     above_t[3 * LINE + 15] = b'4';
     let childless = grains(8, 1, b"   7 M    6   63        ");
@@ -245,7 +250,7 @@ fn other_texts() -> Vec<Bad> {
         bad(9, 2, "6", "4 where 5 and 3 are", two(0, 8, b"5")),
         bad(9, 2, "6", "a weight above T is in range", above_t),
         bad(3, 3, "12-16", "one above both is not", two(3, 16, b"5")),
-        bad(18, 0, "5-6,7-8", "grains", dotted(TOO_MANY_GRAINS)),
+        bad(18, 0, "5-6,7-8", "grains", too_many_grains()),
         bad(18, 0, "5-6,7-8", "grains at N", grains(1, 6, b"N")),
         bad(8, 8, "6", "8 comes before 18", childless),
         bad(9, 7, "6", "9 comes before 18", grains(8, 16, b"2")),
@@ -292,7 +297,7 @@ fn refused_tables() {
         }
     }
     tally.report();
-    for number in OF_TABLES.into_iter().chain([18]) {
+    for number in OF_TABLES.into_iter().chain(OF_GRAINS) {
         let count = tally.counts[number];
         assert!(count >= 4, "refusal {number} came only {count} times");
     }
@@ -331,8 +336,8 @@ fn random_refused_texts() {
         tally.add(&[u64::from(refusal.number)]);
     }
     tally.report();
-    seen.demand(5);
-    for number in OF_TABLES.into_iter().chain([18]) {
+    seen.demand(1);
+    for number in OF_TABLES.into_iter().chain(OF_GRAINS) {
         let count = tally.counts[number];
         assert!(count >= 50, "refusal {number} came only {count} times");
     }
@@ -505,7 +510,7 @@ fn reasons_in_words() {
     }
     assert_eq!(told, 37);
 
-    let two = |line: usize, column: usize, bytes: &[u8]| spliced(TWO_TOTALS, line, column, bytes);
+    let two = two_totals_with;
     let weight = "the weight is not 1 to 4";
     Said::new(two(3, 16, b"5"), weight, "the larger total").hold(&["show"]);
     let larger = [two(0, 5, b"16"), two(0, 5, b" 416")];
@@ -520,7 +525,7 @@ fn reasons_in_words() {
     }
     let grains = "64 is used 4 times on the path to node 4, 63 once on that to node 6, \
                   so G would be 1,056,964,608";
-    Said::new(dotted(TOO_MANY_GRAINS), grains, "fewer C").hold(&["show"]);
+    Said::new(too_many_grains(), grains, "fewer C").hold(&["show"]);
 
     let closed = dotted(&TABLE_A.replace("...6.L....4", "...6.L....1"));
     let others = "other nodes than those under node 1 stand between";

@@ -1101,9 +1101,9 @@ fn refused_tables() -> Vec<Bad> {
         bad(&table_b_with(0, header), number, 0);
     }
     bad(&table_b_with(0, "...51536.......0.......8"), 9, 3);
-    bad(&dotted(TOO_MANY_GRAINS), 18, 0);
+    bad(&too_many_grains(), 18, 0);
     // 18 comes before 14.
-    let rest = file(&[position(3, TOO_MANY_GRAINS), position(1, LONE_LEAF)]);
+    let rest = file(&[Position::new(3, too_many_grains()), position(1, LONE_LEAF)]);
     let bad = Bad::second((18, 0), 11, "5-6,7-8", "18 before 14", &rest);
     list.push(bad.showing(Some(0), "   86364       0       0"));
     list
@@ -1212,7 +1212,7 @@ fn reasons_as_of_the_table_alone() {
         (table_b_with(0, "...5.100.......0.......8"), 2, 0),
         (table_b_with(0, "...5.4.4.......0.......8"), 3, 0),
         (table_b_with(0, "...51536.......0.......8"), 9, 3),
-        (dotted(TOO_MANY_GRAINS), 18, 0),
+        (too_many_grains(), 18, 0),
     ];
     for (text, number, line) in refused_examples().into_iter().chain(more) {
         let ran = in_match("1", &text);

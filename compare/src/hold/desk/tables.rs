@@ -1,7 +1,9 @@
-//! Tables with two totals (document 02, Item 5); dots stand for blanks.
+//! Tables with two totals (document 02, Item 5).
+
+use crate::texts::examples::two_chains;
 
 /// T is 4 and the second total 3: two plays, the first a C of 4, the second a C of 3
-/// with a C of 4 below it. They are worth 3 1/2 and 4 2/3 points.
+/// with a C of 4 below it. They are worth 3 1/2 and 4 2/3 points. Dots stand for blanks.
 pub const TWO_TOTALS: &str = "\
 ...9.3.4.......0.......8
 ...0.M..................
@@ -17,14 +19,6 @@ pub const TWO_TOTALS: &str = "\
 
 /// Four C of 64 on a path, which alone have the greatest grain count, and one of 63 on
 /// another.
-pub const TOO_MANY_GRAINS: &str = "\
-...86364.......0.......0
-...0.M..................
-...1.C....0.............
-...2.C....1...64........
-...3.C....2...64........
-...4.C....3...64........
-...5.L....4...64.......0
-...6.C....0.............
-...7.L....6...63.......0
-";
+pub fn too_many_grains() -> Vec<u8> {
+    two_chains([64, 63], [4, 1])
+}
