@@ -403,7 +403,7 @@ fn random_text(number: u64, random: &mut Random) -> Vec<u8> {
 fn random_tables() {
     let mut comparison = Comparison::new("desk on random tables");
     let mut seen = Seen::default();
-    for number in 0..360 {
+    for number in 0..720 {
         let random = &mut Random::of_case(comparison.tally.seed, number);
         let text = random_text(number, random);
         let table = second::read(&text).expect("valid");
@@ -448,7 +448,7 @@ fn random_tables() {
         seen.count("a play past the margin", has("past the margin"));
         seen.count("below zero", has(" -") || has("\t-"));
     }
-    comparison.demand(360);
+    comparison.demand(720);
     seen.demand(2);
 }
 
