@@ -321,11 +321,16 @@ fn random_refused_texts() {
         let ran = ask(words, &text, form, Way::Input, case);
         let refused = Refused::of(&text, refusal);
         refused.hold(&ran, form, Way::Input.name(), &tally.place());
-        for (sort, stretch) in [("5-6", (5, 6)), ("7-8", (7, 8)), ("5-8", (5, 8))] {
-            for number in [2, 3] {
-                let is_marked = refused.marks.contains(&stretch) && refusal.number == number;
-                seen.count(&format!("{sort} of the header, {number}"), is_marked);
-            }
+        for (number, stretch) in [
+            (2, (5, 6)),
+            (2, (7, 8)),
+            (3, (5, 6)),
+            (3, (7, 8)),
+            (3, (5, 8)),
+        ] {
+            let is_marked = refused.marks.contains(&stretch) && refusal.number == number;
+            let (first, last) = stretch;
+            seen.count(&format!("{number} at columns {first}-{last}"), is_marked);
         }
         let detail = refused.detail.unwrap_or_default();
         seen.count(
