@@ -93,7 +93,7 @@ uint64_t margin_search(const uint8_t *text, size_t text_len, int64_t margin, uin
 
 /*
  * The same search with at most `budget` leaves read, 0 to MARGIN_GREATEST_BUDGET; margin_search is this one with the greatest. Refuses 1 to 10
- * and 18, 12, 17 for another budget, and 11 where `leaves` has fewer entries than the table has leaves, whatever the budget.
+ * and 18, 12 as margin_search does, 17 for another budget, and 11 where `leaves` has fewer entries than the table has leaves, whatever the budget.
  *
  * leaves and numbers as in margin_search, but that the last number is 1 where the budget was spent: where margin_search reads more leaves than
  * that.

@@ -441,7 +441,10 @@ fn typed_marks() {
 fn words_of_refused_reports() {
     let mut seen = vec![];
     let mut random = Random::new(1);
-    while seen.len() < 13 {
+    for _ in 0..100_000 {
+        if seen.len() == 13 {
+            break;
+        }
         let file = matches::case(&mut random);
         let Err(refusal) = package::report(&file, 1) else {
             continue;
@@ -459,6 +462,7 @@ fn words_of_refused_reports() {
             seen.push(number);
         }
     }
+    assert_eq!(seen.len(), 13, "{seen:?}");
 }
 
 /// A refused scale is in no position and at no line, whatever the file.
@@ -498,7 +502,10 @@ fn words_of_refused_searches() {
 fn words_of_refusals() {
     let mut seen = vec![];
     let mut random = Random::new(1);
-    while seen.len() < 11 {
+    for _ in 0..100_000 {
+        if seen.len() == 11 {
+            break;
+        }
         let text = texts::case(&mut random).text;
         let Err(refusal) = package::read(&text) else {
             continue;
@@ -516,6 +523,7 @@ fn words_of_refusals() {
         assert!(shown.ends_with(refusal.reason()), "{shown}");
         one_line_each(refusal);
     }
+    assert_eq!(seen.len(), 11, "{seen:?}");
 }
 
 fn one_line_each(refusal: package::Refusal) {

@@ -84,8 +84,8 @@ fn random_tables_by_every_call() {
     }
     all.demand_grains();
     all.worth.demand_two_totals();
-    let two = all.reading.tally.cases;
-    assert!(two >= 20_000, "only {two} texts");
+    let texts = all.reading.tally.cases;
+    assert!(texts >= 20_000, "only {texts} texts");
     // About half of what the usual seed gives, or less.
     all.tables.demand_by(|sort| match sort {
         "both totals on a path" => 3_000,
@@ -304,8 +304,8 @@ fn known_header(columns: &[u8], sums: &[i64]) -> u64 {
     }
 }
 
-/// Every content of columns 5-8 over blanks, digits and minus, and over some other bytes,
-/// in front of every body: the refusals 2, 3, 9 and 18 and acceptance are those that the
+/// Every content of columns 5-8 over blanks, digits and minus in front of every body, and
+/// over some other bytes in front of three of them: the refusals 2, 3, 9 and 18 and acceptance are those that the
 /// words of the request give. Each goes to reading and to one other call by turns, and to
 /// the report, where the header is checked apart.
 #[test]
@@ -345,7 +345,7 @@ fn every_content_of_columns_5_to_8() {
     for sums in BODIES {
         let mut text = body(sums);
         for bytes in [USUAL, OTHERS] {
-            // The other bytes are many; all of them before two bodies will do.
+            // The other bytes are many; three bodies will do.
             if bytes == OTHERS && sums.len() > 1 {
                 continue;
             }
@@ -409,7 +409,7 @@ fn hold_another(tally: &mut Tally, text: &[u8], table: &Result<Table, Refusal>) 
 
 /// Every two totals, each with weights at the larger and one above it, and with sums that
 /// are a total or neither: of both together, of their difference, of their product, and one
-/// beside each. What is refused, and where, is worked out from the words of the request.
+/// above each and below. What is refused, and where, is worked out from the words of the request.
 #[test]
 fn weights_and_sums() {
     let mut reading = reading::Comparison::new("weights and sums of two totals");
@@ -453,6 +453,10 @@ fn weights_and_sums() {
             hold(
                 "one above the larger in ones",
                 &vec![1; larger as usize + 1],
+            );
+            hold(
+                "one below the larger in ones",
+                &vec![1; larger as usize - 1],
             );
         }
     }
@@ -608,14 +612,15 @@ fn hold_in_a_match(tally: &Tally, text: &[u8], refusal: Refusal, random: &mut Ra
 // A total without a use
 // ---------------------------------------------------------------------------
 
-/// Everything that the proved engine answers of a table, but for the totals themselves.
+/// What the proved engine answers of a table by a question or a few of each call, but for
+/// the totals themselves.
 #[derive(Debug, PartialEq, Eq)]
 struct Answers {
     read: Vec<i64>,
     worth: Vec<i64>,
     judged: Vec<Vec<i64>>,
     found: Vec<(u64, Vec<i64>, Vec<u16>)>,
-    rolled: (u64, Vec<i64>, Vec<Record>),
+    rolled: (u64, Vec<i64>, Vec<Record>, Vec<u16>),
     report: reporting::Answer,
     /// Past the totals.
     turned: Vec<u8>,
@@ -650,7 +655,7 @@ impl Answers {
             worth,
             judged: judged.collect(),
             found: found.collect(),
-            rolled: (code, numbers, records),
+            rolled: (code, numbers, records, list),
             report: reporting::proved(&file(&[position]), 1),
             turned: turning::turned(text)[8..].to_vec(),
         }

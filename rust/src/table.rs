@@ -9,10 +9,10 @@ use crate::{MOST_NODES, raw};
 #[derive(Clone, Debug, PartialEq, Eq)]
 #[non_exhaustive]
 pub struct Table {
-    /// T, which the weights under each C sum to, or under some C where there is a
-    /// second total.
+    /// T. The weights under each C sum to it, or to the second total where there is
+    /// one.
     pub total: i64,
-    /// The second total, which the weights under some C sum to; `None` for none.
+    /// The second total; `None` where the table has none.
     pub second: Option<i64>,
     /// The lowest end, in points.
     pub lowest: i64,

@@ -205,7 +205,7 @@ pub fn two_totals(columns: &str, weights: [i64; 2]) -> Vec<u8> {
 }
 
 /// A root M with two chains of C, so many of the first total and so many of the second,
-/// over one leaf each; every weight is T.
+/// over one leaf each; every weight is its C's total.
 pub fn two_chains(totals: [i64; 2], lengths: [usize; 2]) -> Vec<u8> {
     let nodes = 1 + lengths.iter().map(|length| length + 1).sum::<usize>();
     let [first, second] = totals;

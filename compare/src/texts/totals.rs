@@ -149,7 +149,7 @@ pub fn too_grainy_and_wrong(random: &mut Random) -> (Vec<u8>, Refusal) {
 }
 
 /// A table in which one C, a child of the root, has leaves alone, of these weights. Where
-/// the totals are so is the rest of it valid.
+/// the totals are valid, so is all the rest but these weights.
 pub fn with_weights(totals: [i64; 2], weights: &[i64], random: &mut Random) -> Vec<u8> {
     let mut draft = Draft::new(totals.to_vec(), (-3, 5));
     let root = draft.add(random.pick(b"MN"), None, None, None);

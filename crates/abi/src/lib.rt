@@ -15,8 +15,8 @@ ghost use Rattle.turn_call.specs.Call.{turnCall, turnBytes};
 ghost use Rattle.codes.specs.Numbers.{readCode, numbersOf, worthCode, worthNumbers, judgeCode, judgeNumbers, searchCode, searchNumbers, rollCode, rollNumbers, turnedCode, reportCode, reportNumbers, put};
 use rollout_call::Record;
 
-// An accepted table: its numbers of nodes, T, the lowest and the highest end, K, G and its number of leaves go to `numbers`, and its
-// nodes to the four slices, as `reading::read` has them. A refused one: nothing is written.
+// An accepted table: its numbers of nodes, T, the lowest and the highest end, K, G, its number of leaves and its second total (0 for none) go to
+// `numbers`, and its nodes to the four slices, as `reading::read` has them. A refused one: nothing is written.
 #[no_mangle]
 pub extern "C" fn margin_read(
     text: &[u8],

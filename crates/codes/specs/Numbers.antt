@@ -36,7 +36,7 @@ abbrev pub readCode : Reading → ℕ
 readCode (Accepted t) = 0
 readCode (Refused r) = 100 * lineOf r + numberOf r
 
--- the table's numbers; none where it is refused
+-- the table's numbers, the second total last, 0 for none; no numbers where it is refused
 abbrev pub numbersOf : Reading → List ℤ
 numbersOf (Accepted t) =
     pos (t .nodes) ∷ pos (t .total) ∷ t .lowest ∷ t .highest ∷ pos (t .chances) ∷ pos (t .grain) ∷ pos (t .leaves) ∷ pos (t .second) ∷ []

@@ -1,22 +1,23 @@
 -- The theorems of specs/Totals.antt. Assumes nothing.
 use Prim.Native.Nat.{ℕ, zero, suc, _≤_, _<_}
 use mathlib.Core.Path.{_≡_, refl, sym, ap, _∙_}
-use mathlib.Core.Bool.{Bool, true, false, _||_, cond}
-use mathlib.Core.List.{List, [], _∷_}
+use mathlib.Core.Bool.{Bool, false, not, _||_, cond}
+use mathlib.Core.List.{List}
 use native.Mathlib.Omega.{arith}
 use lib.Dec.{eqb, eqb·suc-zero}
 use lib.ListN.{length, getD, take}
 use lib.Seq.{length-take-le}
-use lib.IntN.{pos}
+use lib.IntN.{pos, negsuc}
+use lib.Signed.{ltZ}
 use Rattle.field.specs.Field.{fieldOf}
 use Rattle.field.specs.declared.Field.{Field}
 use Rattle.field.specs.declared.Field.the-variants.{Blank, Number}
 use Rattle.line.specs.declared.Head.{Head}
 use Rattle.line.specs.declared.Heading.{Heading}
 use Rattle.line.specs.Refusal.{fine}
-use Rattle.line.specs.Line.{isBlank, header, headingOf, totals, among, larger}
+use Rattle.line.specs.Line.{isIll, isBlank, hasNumber, outside, valueOf, countOf, header, headingOf, illHeading, wideHeading, totals, among, larger}
 use Rattle.line.specs.Inside.{Ranged}
-use Rattle.line.proofs.Fine.{header-ranged}
+use Rattle.line.proofs.Fine.{or-none, header-ranged}
 use Rattle.table.specs.Table.{Table, readText, count, badLength}
 use Rattle.table.proofs.Top.{good-length}
 use Rattle.table.proofs.Accepted.{checked, one-total}
@@ -24,7 +25,7 @@ use Rattle.table.proofs.Places.{eighteen-needs, eighteen-given, one-total-never
 use Rattle.turn.proofs.Said.{headingFor, header-said}
 use Rattle.worth.proofs.Worth.{totals-are, exact}
 use Rattle.search.proofs.Table.{no-remainder}
-use Rattle.demands.specs.Totals.{Columns, HeaderColumns, OwnSums, DivisionExact, EighteenIs, OneTotal, AsBefore}
+use Rattle.demands.specs.Totals.{Columns, HeaderColumns, OwnSums, DivisionExact, EighteenIs, formerIll, formerWide, OneHeading, OneTotal, AsBefore}
 
 -- ---- the header
 
@@ -85,19 +86,34 @@ eighteen-is s = (eighteen-needs s, eighteen-given s)
 
 -- ---- with no second total
 
-or-none : (a : Bool) → (a || false) ≡ a
-or-none true = refl
-or-none false = refl
+blank-heading : (g : Heading) → g .second ≡ Blank → (last : ℕ) → illHeading last g ≡ formerIll last g
+blank-heading g e last =
+    let a : Bool = not (eqb last 10) || isIll (g .count) in
+    ap (λ (f : Field). a || isIll f || isIll (g .total) || isIll (g .lowest) || isIll (g .highest) || isBlank (g .count) || isBlank (g .total) || isBlank (g .lowest) || isBlank (g .highest)) e
+    ∙ ap (λ (b : Bool). b || isIll (g .total) || isIll (g .lowest) || isIll (g .highest) || isBlank (g .count) || isBlank (g .total) || isBlank (g .lowest) || isBlank (g .highest)) (or-none a)
+
+blank-wide : (g : Heading) → g .second ≡ Blank → wideHeading g ≡ formerWide g
+blank-wide g e =
+    ap (λ (f : Field). (outside (pos 1) (pos 64) f || hasNumber (countOf (g .total)) f) || outside (pos 1) (pos 64) (g .total) || outside (negsuc 999999) (pos 1000000) (g .lowest)
+    || outside (negsuc 999999) (pos 1000000) (g .highest) || ltZ (valueOf (g .highest)) (valueOf (g .lowest))) e
+
+one-heading : (s : List ℕ) → fieldOf s 4 2 ≡ Blank → OneHeading s
+one-heading s b =
+    record {
+      total = ap (λ (f : Field). cond (isBlank f) (fieldOf s 4 4) (fieldOf s 6 2)) b;
+      ill = blank-heading (headingOf s) b;
+      wide = blank-wide (headingOf s) b;
+      none = ap countOf b;
+    }
 
 single : (h : Head) → h .second ≡ 0 → OneTotal h
 unfolding among
-single h z = record { weights = omega arith; sums = λ n. rw z (or-none (eqb n (h .total))) }
+single h z = record { weights = omega arith; sums = λ n. rw z (or-none (eqb n (h .total))); text = rw z refl }
 
 pub as-before : AsBefore
-as-before s b = (
-  λ h l e.
-      let c = columns (count s) (take 25 s) h (length-take-le 25 s l) e .none b in
-      (c .1, single h (c .0)),
-  λ t e. one-total s t e (header-columns s t e .none b .0),
-  λ e. let x = eighteen-needs s e in one-total-never s x (columns (count s) (take 25 s) (x .table .head) (top-long s (x .long)) (x .head) .none b .0),
+as-before = (
+  one-heading,
+  single,
+  λ s t e z. one-total s t e z,
+  λ s b e. let x = eighteen-needs s e in one-total-never s x (columns (count s) (take 25 s) (x .table .head) (top-long s (x .long)) (x .head) .none b .0),
 )

@@ -2,19 +2,22 @@
 -- stated of every accepted text, so of tables of both sorts. proofs/Totals.antt has the theorems.
 use Prim.Native.Nat.{ℕ, _^_, _≤_, _<_}
 use mathlib.Core.Path.{_≡_}
-use mathlib.Core.Bool.{Bool}
+use mathlib.Core.Bool.{Bool, not, _||_}
 use mathlib.Core.List.{List}
 use lib.Dec.{eqb}
-use lib.ListN.{length, take}
-use lib.IntN.{pos}
+use lib.ListN.{take}
+use lib.IntN.{pos, negsuc}
+use lib.Signed.{ltZ}
 use Rattle.field.specs.Field.{fieldOf}
 use Rattle.field.specs.declared.Field.the-variants.{Blank, Number}
 use Rattle.line.specs.declared.Head.{Head}
+use Rattle.line.specs.declared.Heading.{Heading}
 use Rattle.line.specs.declared.Refusal.the-variants.{TooManyGrains}
 use Rattle.line.specs.Refusal.{refused, fine}
-use Rattle.line.specs.Line.{header, totals, among, larger}
-use Rattle.table.specs.Table.{Table, tree, readText, greatest, grain, count}
+use Rattle.line.specs.Line.{isIll, isBlank, outside, valueOf, headingOf, illHeading, wideHeading, headOf, totals, among, larger}
+use Rattle.table.specs.Table.{Table, tree, readText, greatest, grain}
 use Rattle.table.specs.Accepted.{Excessive}
+use Rattle.turn.specs.Text.{columns, totalsText}
 use Rattle.worth.specs.Worth.{TotalsAre, Exact}
 use Rattle.search.specs.Exact.{NoRemainder}
 
@@ -47,17 +50,46 @@ DivisionExact =
 abbrev pub EighteenIs : Type 0
 EighteenIs = (s : List ℕ) → (readText s ≡ refused TooManyGrains → Excessive s) × (Excessive s → readText s ≡ refused TooManyGrains)
 
--- ---- with no second total everything is as it was
+-- ---- with no second total everything is as it was: what each rule that has changed then says
 
--- what each rule that has changed then says: weights "1 to T", "A C's weights sum to T"
+-- document 01's conditions of a header: 2, "byte 25 is no newline, a field is ill-written, .. or a field blank"; 3, "T, an end .. out of range, or lowest
+-- end above highest"
+abbrev pub formerIll : ℕ → Heading → Bool
+formerIll last g =
+    not (eqb last 10)
+    || isIll (g .count)
+    || isIll (g .total)
+    || isIll (g .lowest)
+    || isIll (g .highest)
+    || isBlank (g .count)
+    || isBlank (g .total)
+    || isBlank (g .lowest)
+    || isBlank (g .highest)
+
+abbrev pub formerWide : Heading → Bool
+formerWide g =
+    outside (pos 1) (pos 64) (g .total)
+    || outside (negsuc 999999) (pos 1000000) (g .lowest)
+    || outside (negsuc 999999) (pos 1000000) (g .highest)
+    || ltZ (valueOf (g .highest)) (valueOf (g .lowest))
+
+-- a header whose columns 5-6 are blank: the total is that of columns 5-8, the conditions are those, and there is no second total
+pub record OneHeading (s : List ℕ) : Type 0 where
+  pub total : headingOf s .total ≡ fieldOf s 4 4
+  pub ill : (last : ℕ) → illHeading last (headingOf s) ≡ formerIll last (headingOf s)
+  pub wide : wideHeading (headingOf s) ≡ formerWide (headingOf s)
+  pub none : headOf (headingOf s) .second ≡ 0
+
+-- with none: weights "1 to T", "A C's weights sum to T", "5-8 the total T"
 pub record OneTotal (h : Head) : Type 0 where
   pub weights : larger h ≡ h .total
   pub sums : (n : ℕ) → among n (totals h) ≡ eqb n (h .total)
+  pub text : totalsText h ≡ columns 4 (pos (h .total))
 
--- and, where columns 5-6 are blank: the total is that of columns 5-8, "The grain count G is T to the power K", and 18 is never given
+-- "The grain count G is T to the power K", and 18 is never given
 abbrev pub AsBefore : Type 0
 AsBefore =
-    (s : List ℕ) → fieldOf (take 25 s) 4 2 ≡ Blank
-    → ((h : Head) → 25 ≤ length s → header (count s) (take 25 s) ≡ fine h → (fieldOf (take 25 s) 4 4 ≡ Number (pos (h .total))) × OneTotal h)
-    × ((t : Table) → readText s ≡ fine t → grain t ≡ t .head .total ^ greatest (t .lines))
-    × (readText s ≡ refused TooManyGrains → ⊥)
+    ((s : List ℕ) → fieldOf s 4 2 ≡ Blank → OneHeading s)
+    × ((h : Head) → h .second ≡ 0 → OneTotal h)
+    × ((s : List ℕ) (t : Table) → readText s ≡ fine t → t .head .second ≡ 0 → grain t ≡ t .head .total ^ greatest (t .lines))
+    × ((s : List ℕ) → fieldOf (take 25 s) 4 2 ≡ Blank → readText s ≡ refused TooManyGrains → ⊥)

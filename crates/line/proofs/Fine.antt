@@ -127,12 +127,12 @@ header-ranged n last g h e =
 
 -- ---- the totals
 
-or-none : (a : Bool) → (a || false) ≡ a
+pub or-none : (a : Bool) → (a || false) ≡ a
 or-none true = refl
 or-none false = refl
 
 -- what holds of the first total, and of the second where there is one, holds of each
-pub each-total : (P : ℕ → Type 0) (h : Head) → P (h .total) → ((h .second ≡ 0 → ⊥) → P (h .second)) → (n : ℕ) → among n (totals h) ≡ true → P n
+each-total : (P : ℕ → Type 0) (h : Head) → P (h .total) → ((h .second ≡ 0 → ⊥) → P (h .second)) → (n : ℕ) → among n (totals h) ≡ true → P n
 unfolding among
 each-total P h p q n m = go (eqb n (h .total)) refl (eqb (h .second) 0) refl m
   where

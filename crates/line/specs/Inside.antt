@@ -22,7 +22,7 @@ pub record Ranged (h : Head) : Type 0 where
 abbrev pub other : Head → ℕ
 other h = cond (eqb (h .second) 0) (h .total) (h .second)
 
--- "weights 1 to T" under a C, and none elsewhere
+-- "weights 1 to T" under a C, by Item 5 to the larger total, and none elsewhere
 abbrev pub Weighs : Bool → ℕ → ℕ → Type 0
 Weighs true T w = (0 < w) × (w ≤ T)
 Weighs false T w = w ≡ 0

@@ -1,4 +1,4 @@
-// One line of a table: what it says, and document 01's refusals of it.
+// One line of a table: what it says, and the documents' refusals.
 ghost use mathlib.Core.Path.{_≡_};
 ghost use mathlib.Core.Bool.{cond};
 ghost use Prim.Native.Nat.{_<_};

@@ -6,7 +6,7 @@ use native.Mathlib.Numerals.{add-one}
 use native.Mathlib.Omega.{arith}
 use lib.Dec.{lit<}
 
--- the greatest grain count is 64 to the power 4
+-- the greatest power of a total is 64 to the power 4
 pub power-small : (b j : ℕ) → b ≤ 64 → j ≤ 4 → b ^ j ≤ 16777216
 power-small b j h k = le-trans (pow-le-pow-left h j) (pow-le-pow-right {n = 64} (lit< tt) k)
 

@@ -1,4 +1,4 @@
-// One line of a table, read: the header and a node line, with document 01's refusals of them.
+// One line of a table, read: the header and a node line, with the documents' refusals of them.
 ghost use mathlib.Core.Path.{_≡_};
 ghost use mathlib.Core.Bool.{not, cond};
 ghost use mathlib.Core.List.{List};

@@ -20,7 +20,7 @@ use Rattle.table.specs.Table.{Table, summary}
 use Rattle.runs.specs.Inside.{firstOr, scanFrom, bareAt, oddAt}
 use Rattle.gathering.specs.declared.Lines
 
--- the nodes that the first n entries hold, with at most so many C on a path
+-- the nodes that the first n entries hold; `most` is the greatest number of C on a path down through them
 pub record Counted (kinds stops weights : List ℕ) (n most : ℕ) : Type 0 where
   pub heights : List ℕ
   pub forest : Forest ℕ

@@ -1,4 +1,4 @@
-// A table's text: refused with the number and the line of document 01, or decoded into number slices.
+// A table's text: refused with the documents' number and line, or decoded into number slices.
 ghost use mathlib.Core.Path.{_≡_};
 ghost use Prim.Native.Nat.{_+_, _*_, _-_, _<_, _≤_, _^_};
 ghost use lib.ListN.{length, drop, take};

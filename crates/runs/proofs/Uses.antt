@@ -47,8 +47,8 @@ module _ (ks ss ws : List ℕ) where
     pub later : i < getD ss i 0
     pub within : getD ss i 0 ≤ e
 
-  use-is : (T i j : ℕ) (k : Kind) (f : Forest ℕ) → getD ks i 0 ≡ codeOf k → sumAt ss ws i ≡ weigh f → used T k f ≡ useAt ks ss ws T i
-  use-is T i j k f e g = rw (e, code-chance k, g) refl
+  use-is : (T i : ℕ) (k : Kind) (f : Forest ℕ) → getD ks i 0 ≡ codeOf k → sumAt ss ws i ≡ weigh f → used T k f ≡ useAt ks ss ws T i
+  use-is T i k f e g = rw (e, code-chance k, g) refl
 
   pub first-of : (hs : List ℕ) (i e : ℕ) (f : Forest ℕ) → i < e → e ≤ 1024 → Spans (slices hs) i e f → First hs i e f
   unfolding Spans uses
@@ -73,7 +73,7 @@ module _ (ks ss ws : List ℕ) where
         rest = rest;
         below = h .3;
         after = h .4;
-        counts = λ T. ap (λ (x : ℕ). max (x + uses T under) (uses T rest)) (use-is T i j k under (h .1) s);
+        counts = λ T. ap (λ (x : ℕ). max (x + uses T under) (uses T rest)) (use-is T i k under (h .1) s);
         later = omega arith;
         within = b;
       }

@@ -1,5 +1,5 @@
 -- The search of an accepted table is the search over heights, from the lowest end up; no more leaves are read than there are, its play is a node of the
--- table, and its divisions by T leave no remainder. Document 01, 'The search' and 'Grains'. Assumes nothing.
+-- table, and its divisions by a C's own sum leave no remainder. Document 01, 'The search' and 'Grains'. Assumes nothing.
 use Prim.Native.Nat.{ℕ, _+_, _-_, _*_, _≤_, _<_}
 use mathlib.Core.Path.{_≡_, refl, sym, ap, _∙_}
 use mathlib.Core.Bool.{Bool, false}
@@ -139,7 +139,7 @@ module _ (s : List ℕ) (t : Table) (r : readText s ≡ fine t) where
     pub reads-few : length (searchedUntil t ε full .read) ≤ leaves (tree t)
     reads-few = rw (grains-leaves G (tree t)) at (few-reads whole (rules t ε full) (inGrains G (tree t)))
 
-    -- "that division never leaves a remainder, and this is proved": of the search's divisions by T
+    -- "that division never leaves a remainder, and this is proved": of the search's divisions by a C's own sum
     pub no-remainder : NoRemainder t ε full
     no-remainder =
         rw tree-shift

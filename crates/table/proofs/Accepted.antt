@@ -154,7 +154,7 @@ module _ (s : List ℕ) (t : Table) (h : readText s ≡ fine t) where
   pub accepted-leaves : leaves (tree t) ≡ leafLines (t .lines)
   accepted-leaves = read-leaves t (count s) (drop 25 s) (checked s t h .lines) some
 
-  -- the grain count, and how many leaves there are at most
+  -- the grain count
   pub accepted-grain : grain t ≤ 16777216
   accepted-grain = ltb-false 16777216 (grain t) (checked s t h .few-grains)
 
@@ -178,6 +178,7 @@ module _ (s : List ℕ) (t : Table) (h : readText s ≡ fine t) where
   pub accepted-divided : Divided (grain t) 1 (tree t)
   accepted-divided = divided (totals (t .head)) (tree t) accepted-balanced
 
+  -- how many leaves there are at most
   pub accepted-leaf-lines : leafLines (t .lines) ≤ length (t .lines)
   accepted-leaf-lines = few-leaves (t .lines)
 
@@ -208,7 +209,6 @@ module _ (s : List ℕ) (t : Table) (h : readText s ≡ fine t) where
   accepted-spans = read-spans t (count s) (drop 25 s) (checked s t h .lines) some
 
   -- and so do lent slices with room for it, as `reading::decode` leaves them
-  -- in slices that are long enough
   module _ (K S W H : List ℕ) (roomK : length (t .lines) ≤ length K) (roomS : length (t .lines) ≤ length S) (roomW : length (t .lines) ≤ length W)
       (roomH : length (t .lines) ≤ length H) where
     pub accepted-lent : Spans (lent t K S W H) 0 (length (t .lines)) (heightTree t)

@@ -138,7 +138,7 @@ map-divided h G g (inner n w k under rest) d =
 
 -- ---- C on a path
 
-pub greatest-both : (xs ys : List Line) → greatest (xs ++ ys) ≡ max (greatest xs) (greatest ys)
+greatest-both : (xs ys : List Line) → greatest (xs ++ ys) ≡ max (greatest xs) (greatest ys)
 unfolding greatest
 greatest-both [] ys = omega arith
 greatest-both (x ∷ xs) ys = rw (greatest-both xs ys) (omega arith)
@@ -182,7 +182,7 @@ used-one T MIN under b = refl
 used-one T CHANCE under b = rw (only (weigh under) T (b refl))
 
 -- every C is a use of it
-pub uses-one : {A : Type 0} (T : ℕ) (f : Forest A) → Balanced (T ∷ []) f → uses T f ≡ deepest f
+uses-one : {A : Type 0} (T : ℕ) (f : Forest A) → Balanced (T ∷ []) f → uses T f ≡ deepest f
 unfolding uses deepest
 uses-one T end b = refl
 uses-one T (leaf n w v rest) b = uses-one T rest b

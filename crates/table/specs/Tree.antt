@@ -41,10 +41,10 @@ unfoldable pub after : ℕ → List Line → List Line
 after n [] = []
 after n (l ∷ ls) = cond (leb n (l .parent)) (after n ls) (l ∷ ls)
 
--- each of these to the power K of it, multiplied
-unfoldable pub powers : List ℕ → (K : ℕ → ℕ) → ℕ
-powers [] K = 1
-powers (t ∷ ts) K = t ^ K t * powers ts K
+-- each of these to the power that `often` has for it, multiplied
+unfoldable pub powers : List ℕ → (often : ℕ → ℕ) → ℕ
+powers [] often = 1
+powers (t ∷ ts) often = t ^ often t * powers ts often
 
 module _ {A : Type 0} where
   -- a line with the nodes under it and those after it

@@ -134,14 +134,14 @@ module _ (h : Head) (n : ℕ) (few : n < 10000) (total : h .total < 100) (second
   nodes-long : length (columns 4 (pos n)) ≡ 4
   nodes-long = count-long n 4 (omega arith) (omega arith)
 
-  second-long : (b : Bool) → length (cond b (blank 2) (columns 2 (pos (h .second)))) ≡ 2
-  second-long true = length-replicate {A = ℕ} 2 32
-  second-long false = count-long (h .second) 2 (omega arith) (omega arith)
+  totals-long : (b : Bool) → length (cond b (columns 4 (pos (h .total))) (columns 2 (pos (h .second)) ++ columns 2 (pos (h .total)))) ≡ 4
+  totals-long true = count-long (h .total) 4 (omega arith) (omega arith)
+  totals-long false =
+      length-append (columns 2 (pos (h .second))) (columns 2 (pos (h .total)))
+      ∙ ap₂ _+_ (count-long (h .second) 2 (omega arith) (omega arith)) (count-long (h .total) 2 (omega arith) (omega arith))
 
   total-long : length (totalsText h) ≡ 4
-  total-long =
-      length-append (cond (eqb (h .second) 0) (blank 2) (columns 2 (pos (h .second)))) (columns 2 (pos (h .total)))
-      ∙ ap₂ _+_ (second-long (eqb (h .second) 0)) (count-long (h .total) 2 (omega arith) (omega arith))
+  total-long = totals-long (eqb (h .second) 0)
 
   fore-long : length fore ≡ 8
   fore-long = length-append (columns 4 (pos n)) (totalsText h) ∙ ap₂ _+_ nodes-long total-long

@@ -82,6 +82,6 @@ module _ (s : List ℕ) (t : Table) (h : readText s ≡ fine t) where
   canonical =
       ap (λ (n : ℕ). headerText (t .head) n ++ linesText (t .lines)) counted
       ∙ ap₂ _++_
-      (head-text (t .head) (count s) ∙ ap headingText (sym (heading .heading)) ∙ heading-text (take 25 s) (heading .written))
+      (head-text (t .head) (count s) (accepted-ranged s t h) ∙ ap headingText (sym (heading .heading)) ∙ heading-text (take 25 s) (heading .written))
       (lines-canonical (t .head) (accepted-ranged s t h) (count s) 0 [] (drop 25 s) (t .lines) (omega (arith, long, length-drop 25 s)) refl (checked s t h .lines))
       ∙ take-append-drop 25 s

@@ -150,7 +150,7 @@ module _ (s : List ℕ) (t u : Table) (h : readText s ≡ fine t) (K : Kept t u)
   top = headerText (u .head) n
 
   top-again : (headingOf top ≡ headingFor (u .head) n) × (getD top 24 0 ≡ 10) × (length top ≡ 25)
-  top-again = rw (head-text (u .head) n) (text-heading (headingFor (u .head) n) (head-roomy (u .head) n (K .ranged) (omega (arith, accepted-size s t h .1))))
+  top-again = rw (head-text (u .head) n (K .ranged)) (text-heading (headingFor (u .head) n) (head-roomy (u .head) n (K .ranged) (omega (arith, accepted-size s t h .1))))
 
   top-read : header n top ≡ fine (u .head)
   top-read = (λ j. headerFor n (top-again .1 j) (top-again .0 j)) ∙ header-passes n (u .head) (K .ranged)

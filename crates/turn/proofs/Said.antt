@@ -1,19 +1,20 @@
 -- What an accepted header and an accepted node line have in their fields: what their texts are written from. Assumes nothing.
-use Prim.Native.Nat.{ℕ, zero, suc, _^_, _≤_, _<_}
+use Prim.Native.Nat.{ℕ, zero, suc, _-_, _^_, _≤_, _<_}
 use mathlib.Core.Path.{_≡_, refl, sym, ap, subst, _∙_}
 use mathlib.Core.Bool.{Bool, true, false, not, cond}
-use mathlib.Core.List.{List, [], _∷_, append-assoc}
+use mathlib.Core.List.{List, [], _∷_, _++_, append-assoc}
 use native.Mathlib.Omega.{arith}
 use borrow.Author.Tests.{eqb-true, not-false}
 use lib.Dec.{eqb, eqb·suc-zero, lit<}
 use lib.ListN.{length, getD}
 use lib.IntN.{ℤ, pos, negsuc, natAbs}
 use lib.Signed.{ltZ}
-use Rattle.field.specs.Field.{fieldOf}
+use Rattle.field.specs.Field.{fieldOf, textOf}
 use Rattle.field.specs.declared.Field.{Field}
 use Rattle.field.specs.declared.Field.the-variants.{Blank, Ill, Number}
 use Rattle.field.proofs.Bits.{abs-mag}
 use Rattle.field.proofs.Small.{small}
+use Rattle.field.proofs.Width.{few-plain}
 use Rattle.line.specs.declared.Head.{Head}
 use Rattle.line.specs.declared.Line.{Line}
 use Rattle.line.specs.declared.Heading.{Heading}
@@ -24,7 +25,7 @@ use Rattle.line.specs.Inside.{Ranged}
 use Rattle.line.proofs.Signs.{true-ne-false}
 use Rattle.line.proofs.Checks.{or-left, or-right}
 use Rattle.line.proofs.Fine.{unless-fine, nor9, nor10, Valued, line-read, valued-small}
-use Rattle.turn.specs.Text.{headerText, letterOf, lineText}
+use Rattle.turn.specs.Text.{columns, blank, newline, headerText, letterOf, lineText}
 use Rattle.turn.proofs.Lines.{shown, entryText, headingText, Written, HeadWritten}
 
 -- ---- the fields that a line and a header are written in
@@ -53,8 +54,20 @@ shown-either : (width : ℕ) (b : Bool) (f g : Field) → shown width (cond b f 
 shown-either width true f g = refl
 shown-either width false f g = refl
 
-pub head-text : (h : Head) (n : ℕ) → headerText h n ≡ headingText (headingFor h n)
-head-text h n = simp (shown-either 2 (eqb (h .second) 0) Blank (Number (pos (h .second))), append-assoc)
+-- a number of two digits at most in four columns, and in two
+two-columns : (z : ℤ) → length (textOf z) ≤ 2 → columns 4 z ≡ blank 2 ++ columns 2 z
+two-columns z l = let e : 4 - length (textOf z) ≡ suc (suc (2 - length (textOf z))) = omega arith in rw e refl
+
+totals-text : (b : Bool) (m n : ℕ) → length (textOf (pos m)) ≤ 2
+    → cond b (columns 4 (pos m)) (columns 2 (pos n) ++ columns 2 (pos m)) ≡ shown 2 (cond b Blank (Number (pos n))) ++ columns 2 (pos m)
+totals-text true m n l = two-columns (pos m) l
+totals-text false m n l = refl
+
+pub head-text : (h : Head) (n : ℕ) → Ranged h → headerText h n ≡ headingText (headingFor h n)
+head-text h n r =
+    let few : length (textOf (pos (h .total))) ≤ 2 = few-plain (h .total) 2 (lit< tt) (omega (arith, r .total)) in
+    ap (λ (x : List ℕ). columns 4 (pos n) ++ (x ++ (columns 8 (h .lowest) ++ (columns 8 (h .highest) ++ newline)))) (totals-text (eqb (h .second) 0) (h .total) (h .second) few)
+    ∙ simp append-assoc
 
 pub line-text : (l : Line) → lineText l ≡ entryText (entryFor l)
 line-text l =

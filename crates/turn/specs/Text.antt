@@ -21,9 +21,9 @@ blank width = replicate width 32
 abbrev pub newline : List ℕ
 newline = 10 ∷ []
 
--- "5-8 the total T", which has two digits at most; a second total stands in "columns 5-6, blank so far", and the first "then has columns 7-8"
+-- "5-8 the total T"; a second total stands in "columns 5-6, blank so far", and the first "then has columns 7-8"
 abbrev pub totalsText : Head → List ℕ
-totalsText h = cond (eqb (h .second) 0) (blank 2) (columns 2 (pos (h .second))) ++ columns 2 (pos (h .total))
+totalsText h = cond (eqb (h .second) 0) (columns 4 (pos (h .total))) (columns 2 (pos (h .second)) ++ columns 2 (pos (h .total)))
 
 -- "columns 1-4 count of nodes, .. 9-16 the lowest end, 17-24 the highest end"
 abbrev pub headerText : Head → ℕ → List ℕ
@@ -37,7 +37,7 @@ letterOf k = cond (eqb k 0) 76 (cond (eqb k 1) 77 (cond (eqb k 2) 78 67))
 abbrev pub parentText : Line → List ℕ
 parentText l = cond (eqb (l .node) 0) (blank 5) (columns 5 (pos (l .parent)))
 
--- "A weight stands exactly on children of a C": the others have the weight 0, and weights are "1 to T"
+-- "A weight stands exactly on children of a C": the others have the weight 0, and weights are at least 1
 abbrev pub weightText : Line → List ℕ
 weightText l = cond (eqb (l .weight) 0) (blank 5) (columns 5 (pos (l .weight)))
 

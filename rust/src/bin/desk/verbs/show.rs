@@ -24,8 +24,8 @@ pub const VERB: Verb = Verb {
         "\
 A node is its number, its kind (M: MAX plays, N: MIN plays, C: dice, L: a leaf)
 and at a leaf its utility; a fraction before it is its chance under a C. The
-worth is in points, with the grains beside it. `T 36 and 15` are the total and the
-second total of a table that has two.
+worth is in points, with the grains beside it. `T 36 and 15` are the total and
+the second total of a table that has two.
 ",
         "\
 With --margin M the leaves that a search to this margin reads are marked `read`,
