@@ -1,5 +1,5 @@
 -- The theorems of specs/Totals.antt. Assumes nothing.
-use Prim.Native.Nat.{ℕ, zero, suc, _≤_, _<_}
+use Prim.Native.Nat.{ℕ, zero, suc, _<_}
 use mathlib.Core.Path.{_≡_, refl, sym, ap, _∙_}
 use mathlib.Core.Bool.{Bool, false, not, _||_, cond}
 use mathlib.Core.List.{List}
@@ -15,10 +15,10 @@ use Rattle.field.specs.declared.Field.the-variants.{Blank, Number}
 use Rattle.line.specs.declared.Head.{Head}
 use Rattle.line.specs.declared.Heading.{Heading}
 use Rattle.line.specs.Refusal.{fine}
-use Rattle.line.specs.Line.{isIll, isBlank, hasNumber, outside, valueOf, countOf, header, headingOf, illHeading, wideHeading, totals, among, larger}
+use Rattle.line.specs.Line.{isIll, isBlank, hasNumber, outside, valueOf, countOf, header, headingOf, illHeading, wideHeading, among}
 use Rattle.line.specs.Inside.{Ranged}
 use Rattle.line.proofs.Fine.{or-none, header-ranged}
-use Rattle.table.specs.Table.{Table, readText, count, badLength}
+use Rattle.table.specs.Table.{count, badLength}
 use Rattle.table.proofs.Top.{good-length}
 use Rattle.table.proofs.Accepted.{checked, one-total}
 use Rattle.table.proofs.Places.{eighteen-needs, eighteen-given, one-total-never}

@@ -1,9 +1,9 @@
 -- The search of the turned table: bounds negated and exchanged, the same play, the same reading sequence, and the budget spent or not as before.
 -- Document 01, 'The search', and document 02, Item 3. Assumes nothing.
-use Prim.Native.Nat.{ℕ, suc, _+_, _*_, _-_, _^_, max, _≤_}
+use Prim.Native.Nat.{ℕ, suc, _+_, _*_, _-_, _≤_}
 use mathlib.Core.Path.{_≡_, refl, sym, ap, ap₂, subst, _∙_}
 use mathlib.Core.Bool.{Bool, false}
-use mathlib.Core.List.{List, _++_}
+use mathlib.Core.List.{List}
 use native.Mathlib.Nat.{le-refl, le-trans, mul-sub}
 use native.Mathlib.Omega.{arith}
 use lib.IntN.{ℤ, pos, negsuc, negℤ, _+ℤ_, _-ℤ_, _*ℤ_}
@@ -12,12 +12,12 @@ use Rattle.numbers.proofs.Above.{is-times, lift}
 use Rattle.line.specs.declared.Head.{Head}
 use Rattle.line.specs.Refusal.{fine}
 use Rattle.line.specs.Line.{toNat, totals, larger, Within}
-use Rattle.table.specs.Tree.{Kind, MAX, MIN, CHANCE, Forest, end, leaf, inner, isChance, grainOf}
+use Rattle.table.specs.Tree.{Forest, end, leaf, inner, isChance, grainOf}
 use Rattle.table.specs.Table.{Table, tree, readText, greatest, grain}
 use Rattle.table.specs.Inside.{heightTree}
-use Rattle.table.specs.Accepted.{span, one, flat, Proper}
+use Rattle.table.specs.Accepted.{span, one, Proper}
 use Rattle.table.proofs.Heights.{above, mapForest, height-back, heights-map}
-use Rattle.table.proofs.Accepted.{accepted-flat, accepted-proper}
+use Rattle.table.proofs.Accepted.{accepted-proper}
 use Rattle.table.proofs.Ends.{top}
 use Rattle.worth.specs.Worth.{worthOf}
 use Rattle.worth.specs.Inside.Heights.{heightWorth}

@@ -1,5 +1,5 @@
 -- Sums that are totals, and the grain count from the uses of each. Document 02, Item 5. Assumes nothing.
-use Prim.Native.Nat.{ℕ, _+_, _-_, _*_, _^_, _≤_, _<_}
+use Prim.Native.Nat.{ℕ, _-_, _*_, _^_, _≤_}
 use mathlib.Core.Path.{_≡_, refl, sym, ap, subst, _∙_}
 use mathlib.Core.Bool.{Bool, true, false, not, _||_, _&&_}
 use mathlib.Core.List.{List, [], _∷_}
@@ -12,13 +12,13 @@ use Rattle.line.specs.Line.{totals, among}
 use Rattle.line.specs.Inside.{other}
 use Rattle.line.proofs.Fine.{among-either}
 use Rattle.table.specs.Tree.{Kind, Forest, isChance, weigh, nodesWhere, unbalanced, powers, uses, grainOf}
-use Rattle.table.specs.Inside.{Slices, Spans, deepest}
+use Rattle.table.specs.Inside.{Slices, Spans}
 use Rattle.table.specs.Accepted.{Balanced}
 use Rattle.table.proofs.Totals.{uses-few, grain-one}
 use Rattle.table.proofs.Accepted.{balanced}
 use Rattle.runs.specs.Inside.{scanFrom, firstOr, oddAt, Has}
 use Rattle.runs.proofs.Scan.{scan-below, spans-where, odd-tests}
-use Rattle.reading.specs.Inside.{Counted, Summed}
+use Rattle.reading.specs.Inside.{Summed}
 
 -- ---- 9
 

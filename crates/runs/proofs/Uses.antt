@@ -10,7 +10,7 @@ use Rattle.table.specs.Tree.{Kind, Forest, end, leaf, inner, codeOf, isChance, 
 use Rattle.table.specs.Inside.{Slices, Spans}
 use Rattle.table.proofs.Runs.{code-chance}
 use Rattle.table.proofs.Spans.{spans-le}
-use Rattle.runs.specs.Inside.{Has, weighAt, sumAt, useAt, UsedMost}
+use Rattle.runs.specs.Inside.{Has, sumAt, useAt, UsedMost}
 use Rattle.runs.proofs.Scan.{spans-weigh}
 
 pub one-at-most : (b : Bool) → cond b 1 0 ≤ 1

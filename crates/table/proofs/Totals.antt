@@ -1,10 +1,10 @@
 -- One argument over the totals: at every node the grain count is divided by the sums of the C on the path down to it, whichever totals these are; and
 -- where there is one total, its uses are all the C. Document 02, Item 5. Assumes nothing.
-use Prim.Native.Nat.{ℕ, suc, _+_, _*_, _-_, _^_, max, _≤_, _<_, _∣_}
+use Prim.Native.Nat.{ℕ, _+_, _*_, _-_, _^_, max, _≤_, _<_, _∣_}
 use mathlib.Core.Path.{_≡_, refl, sym, ap, _∙_}
 use mathlib.Core.Bool.{Bool, true, false, _||_, _&&_, cond}
 use mathlib.Core.List.{List, [], _∷_, _++_}
-use native.Mathlib.Nat.{dvd-trans, dvd-mul-left, dvd-refl, mul-dvd-mul, mul-assoc, mul-comm, mul-left-comm, mul-one, mul-pos, pow-zero, one-le-pow, sub-le}
+use native.Mathlib.Nat.{dvd-trans, dvd-mul-left, dvd-refl, mul-dvd-mul, mul-assoc, mul-left-comm, mul-one, mul-pos, pow-zero, one-le-pow, sub-le}
 use native.Mathlib.Omega.{arith}
 use borrow.Author.Tests.{eqb-true, eq-eqb}
 use lib.Dec.{eqb}

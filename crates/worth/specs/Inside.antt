@@ -1,6 +1,6 @@
 -- The worth by a run of lines: how the lines, and the slices beside them, hold nodes, and what the code computes with.
 pub mod Heights
-use Prim.Native.Nat.{ℕ, _+_, _-_, _*_, _≤_, _<_}
+use Prim.Native.Nat.{ℕ, _+_, _-_, _*_, _≤_}
 use mathlib.Core.Path.{_≡_}
 use mathlib.Core.Bool.{true, false}
 use mathlib.Core.List.{List, [], _∷_}
