@@ -2,3 +2,4 @@ pub mod Signs
 pub mod Checks
 pub mod Fine
 pub mod Numbers
+pub mod Columns

@@ -5,7 +5,6 @@ ghost use mathlib.Core.List.{List};
 ghost use Prim.Native.Nat.{ℕ, _+_, _<_, _≤_};
 ghost use lib.ListN.{length};
 ghost use Rattle.line.specs.Line.{isIll, isBlank, hasNumber, outside, headingOf, illHeading, badSecond, wideHeading, larger, entryOf, letterCode, climb, ancestors, chancesOf, atChance, lineSaid, placeOf, illEntry, misfilled, wideEntry, nodeLine, header as headerOf};
-ghost use Rattle.field.specs.Field.{fieldOf};
 ghost use Rattle.parsing.specs.Inside.{headShown, pathOf, aboveShown, placingShown, placingOf, Upto, Roomy, Bounded};
 use field::Field;
 use line::Entry;
@@ -71,24 +70,14 @@ fn is_outside(lo: i64, hi: i64, f: Field) -> bool
     }
 }
 
-// The first total: it has columns 7-8 where a second one stands in 5-6, else 5-8.
-fn read_total(line: &[u8], second: Field) -> Field
-    requires { ⌜ length (now line) ≡ 25 ⌝ }
-    ensures { λ r. ⌜ r ≡ cond (isBlank second) (fieldOf (now (line .entry)) 4 4) (fieldOf (now (line .entry)) 6 2) ⌝ }
-{
-    if is_blank(second) {
-        return field::read(line, 4, 4);
-    }
-    field::read(line, 6, 2)
-}
-
+// Where columns 5-6 are blank, 5-8 say what 7-8 say: the first total is read there in both cases.
 fn read_heading(line: &[u8]) -> Heading
     requires { ⌜ length (now line) ≡ 25 ⌝ }
     ensures { λ r. ⌜ r ≡ headingOf (now (line .entry)) ⌝ }
 {
     let count = field::read(line, 0, 4);
     let second = field::read(line, 4, 2);
-    let total = read_total(line, second);
+    let total = field::read(line, 6, 2);
     let lowest = field::read(line, 8, 8);
     let highest = field::read(line, 16, 8);
     Heading {

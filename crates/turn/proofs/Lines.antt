@@ -1,7 +1,7 @@
 -- The text of a line and the fields that are read of it: each gives the other. Assumes nothing.
 use Prim.Native.Nat.{ℕ, _+_, _^_, _≤_, _<_}
-use mathlib.Core.Path.{_≡_, refl, sym, ap, ap₂, _∙_}
-use mathlib.Core.Bool.{false, cond}
+use mathlib.Core.Path.{_≡_, refl, sym, ap, _∙_}
+use mathlib.Core.Bool.{false}
 use mathlib.Core.List.{List, [], _∷_, _++_}
 use native.Mathlib.Numerals.{add-one}
 use native.Mathlib.Omega.{arith}
@@ -15,8 +15,9 @@ use Rattle.field.proofs.Inverse.{number-text, blank-text}
 use Rattle.field.proofs.RoundTrip.{columns-read, blanks-read}
 use Rattle.line.specs.declared.Heading.{Heading}
 use Rattle.line.specs.declared.Entry.{Entry}
-use Rattle.line.specs.Line.{isIll, isBlank, headingOf, entryOf}
+use Rattle.line.specs.Line.{isIll, headingOf, entryOf}
 use Rattle.line.proofs.Signs.{true-ne-false}
+use Rattle.line.proofs.Columns.{total-columns}
 use Rattle.turn.specs.Text.{columns, blank, newline}
 
 -- ---- a field in its columns
@@ -140,23 +141,6 @@ text-entry e R =
     )
 
 -- ---- a header
-
--- where columns 5-6 are blank, columns 5-8 say what columns 7-8 say
-blank-total : (s : List ℕ) → 8 ≤ length s → fieldOf s 4 2 ≡ Blank → fieldOf s 4 4 ≡ fieldOf s 6 2
-unfolding strip
-blank-total s room e =
-    let two : take 2 (drop 4 s) ≡ 32 ∷ 32 ∷ [] = blank-text s 4 2 (omega arith) e in
-    let all : drop 4 s ≡ 32 ∷ 32 ∷ drop 6 s = sym (take-append-drop 2 (drop 4 s)) ∙ ap₂ _++_ two (drop-drop 2 4 s) in
-    ap (λ (x : List ℕ). signed (strip (take 4 x))) all
-
--- so the first total has columns 7-8 in both cases
-total-columns : (s : List ℕ) → 8 ≤ length s → headingOf s .total ≡ fieldOf s 6 2
-total-columns s room = go (fieldOf s 4 2) refl
-  where
-    go : (f : Field) → fieldOf s 4 2 ≡ f → cond (isBlank f) (fieldOf s 4 4) (fieldOf s 6 2) ≡ fieldOf s 6 2
-    go Blank e = blank-total s room e
-    go Ill e = refl
-    go (Number z) e = refl
 
 abbrev pub headingText : Heading → List ℕ
 headingText g = shown 4 (g .count) ++ (shown 2 (g .second) ++ (shown 2 (g .total) ++ (shown 8 (g .lowest) ++ (shown 8 (g .highest) ++ newline))))
