@@ -1,7 +1,7 @@
 -- The theorems of specs/Totals.antt. Assumes nothing.
 use Prim.Native.Nat.{ℕ, zero, suc, _<_}
 use mathlib.Core.Path.{_≡_, refl, sym, ap, _∙_}
-use mathlib.Core.Bool.{Bool, false, not, _||_, cond}
+use mathlib.Core.Bool.{Bool, false, not, _||_, cond, or-false}
 use mathlib.Core.List.{List}
 use native.Mathlib.Omega.{arith}
 use lib.Dec.{eqb, eqb·suc-zero}
@@ -17,7 +17,7 @@ use Rattle.line.specs.declared.Heading.{Heading}
 use Rattle.line.specs.Refusal.{fine}
 use Rattle.line.specs.Line.{isIll, isBlank, hasNumber, outside, valueOf, countOf, header, headingOf, illHeading, wideHeading, among}
 use Rattle.line.specs.Inside.{Ranged}
-use Rattle.line.proofs.Fine.{or-none, header-ranged}
+use Rattle.line.proofs.Fine.{header-ranged}
 use Rattle.table.specs.Table.{count, badLength}
 use Rattle.table.proofs.Top.{good-length}
 use Rattle.table.proofs.Accepted.{checked, one-total}
@@ -90,7 +90,7 @@ blank-heading : (g : Heading) → g .second ≡ Blank → (last : ℕ) → illHe
 blank-heading g e last =
     let a : Bool = not (eqb last 10) || isIll (g .count) in
     ap (λ (f : Field). a || isIll f || isIll (g .total) || isIll (g .lowest) || isIll (g .highest) || isBlank (g .count) || isBlank (g .total) || isBlank (g .lowest) || isBlank (g .highest)) e
-    ∙ ap (λ (b : Bool). b || isIll (g .total) || isIll (g .lowest) || isIll (g .highest) || isBlank (g .count) || isBlank (g .total) || isBlank (g .lowest) || isBlank (g .highest)) (or-none a)
+    ∙ ap (λ (b : Bool). b || isIll (g .total) || isIll (g .lowest) || isIll (g .highest) || isBlank (g .count) || isBlank (g .total) || isBlank (g .lowest) || isBlank (g .highest)) (or-false a)
 
 blank-wide : (g : Heading) → g .second ≡ Blank → wideHeading g ≡ formerWide g
 blank-wide g e =
@@ -108,7 +108,7 @@ one-heading s b =
 
 single : (h : Head) → h .second ≡ 0 → OneTotal h
 unfolding among
-single h z = record { weights = omega arith; sums = λ n. rw z (or-none (eqb n (h .total))); text = rw z refl }
+single h z = record { weights = omega arith; sums = λ n. rw z (or-false (eqb n (h .total))); text = rw z refl }
 
 pub as-before : AsBefore
 as-before = (

@@ -1,7 +1,7 @@
 -- What is known of a header and of a node line that was not refused. Assumes nothing.
-use Prim.Native.Nat.{ℕ, zero, suc, _≤_, _<_}
+use Prim.Native.Nat.{ℕ, suc, _≤_, _<_}
 use mathlib.Core.Path.{_≡_, refl, sym, ap, subst, _∙_}
-use mathlib.Core.Bool.{Bool, true, false, not, _||_, cond}
+use mathlib.Core.Bool.{Bool, true, false, not, _||_, cond, or-false}
 use mathlib.Core.List.{List, [], _∷_}
 use native.Mathlib.Omega.{arith}
 use native.Mathlib.Nat.{le-trans}
@@ -127,10 +127,6 @@ header-ranged n last g h e =
 
 -- ---- the totals
 
-pub or-none : (a : Bool) → (a || false) ≡ a
-or-none true = refl
-or-none false = refl
-
 -- what holds of the first total, and of the second where there is one, holds of each
 each-total : (P : ℕ → Type 0) (h : Head) → P (h .total) → ((h .second ≡ 0 → ⊥) → P (h .second)) → (n : ℕ) → among n (totals h) ≡ true → P n
 unfolding among
@@ -145,10 +141,6 @@ each-total P h p q n m = go (eqb n (h .total)) refl (eqb (h .second) 0) refl m
         last true z m = subst P (sym (eqb-true n (h .second) z)) (q (λ e. true-ne-false (sym (eq-eqb (h .second) 0 e) ∙ y)))
         last false z m = absurd (true-ne-false (sym m))
 
-some-second : (n : ℕ) → (n ≡ 0 → ⊥) → 0 < n
-some-second zero e = absurd (e refl)
-some-second (suc n) e = omega arith
-
 -- a sum is one of the totals where it is the first, or the other
 pub among-either : (h : Head) (n : ℕ) → among n (totals h) ≡ (eqb n (h .total) || eqb n (other h))
 unfolding among
@@ -157,14 +149,14 @@ among-either h n = go (eqb n (h .total)) refl (eqb (h .second) 0)
     go : (a : Bool) → eqb n (h .total) ≡ a → (b : Bool) → (a || among n (cond b [] (h .second ∷ []))) ≡ (a || eqb n (cond b (h .total) (h .second)))
     go true x b = refl
     go false x true = sym x
-    go false x false = or-none (eqb n (h .second))
+    go false x false = or-false (eqb n (h .second))
 
 pub larger-small : (h : Head) → Ranged h → larger h ≤ 64
 larger-small h r = omega (arith, r .total, r .second)
 
 -- "T 1 to 64", whichever of the totals it is
 pub total-ranged : (h : Head) → Ranged h → (n : ℕ) → among n (totals h) ≡ true → (0 < n) × (n ≤ 64)
-total-ranged h r n m = each-total (λ (x : ℕ). (0 < x) × (x ≤ 64)) h (r .some, r .total) (λ e. (some-second (h .second) e, r .second)) n m
+total-ranged h r n m = each-total (λ (x : ℕ). (0 < x) × (x ≤ 64)) h (r .some, r .total) (λ e. (omega (arith, e), r .second)) n m
 
 -- ---- a node line
 

@@ -1,11 +1,11 @@
 -- Sums that are totals, and the grain count from the uses of each. Document 02, Item 5. Assumes nothing.
 use Prim.Native.Nat.{ℕ, _-_, _*_, _^_, _≤_}
-use mathlib.Core.Path.{_≡_, refl, sym, ap, subst, _∙_}
+use mathlib.Core.Path.{_≡_, refl, sym, ap, _∙_}
 use mathlib.Core.Bool.{Bool, true, false, not, _||_, _&&_}
 use mathlib.Core.List.{List, [], _∷_}
 use native.Mathlib.Nat.{mul-one}
 use native.Mathlib.Omega.{arith}
-use borrow.Author.Tests.{eq-eqb, ne-eqb}
+use borrow.Author.Tests.{ne-eqb}
 use lib.Dec.{eqb}
 use Rattle.line.specs.declared.Head.{Head}
 use Rattle.line.specs.Line.{totals, among}
@@ -62,11 +62,7 @@ module _ (h : Head) (ks ss ws : List ℕ) (n most : ℕ) (S : Summed ks ss ws n 
   has-of = record { heights = S .counted .heights; forest = F; spans = S .counted .spans }
 
   pub grain-single : h .second ≡ 0 → h .total ^ most ≡ grainOf (totals h) F
-  grain-single z =
-      let e : totals h ≡ h .total ∷ [] = rw (eq-eqb (h .second) 0 z) refl in
-      ap (λ (k : ℕ). h .total ^ k) (S .counted .deep)
-      ∙ sym (grain-one (h .total) F (subst (λ (ts : List ℕ). Balanced ts F) e (S .balanced)))
-      ∙ ap (λ (ts : List ℕ). grainOf ts F) (sym e)
+  grain-single z = ap (λ (k : ℕ). h .total ^ k) (S .counted .deep) ∙ sym (grain-one h F z (S .balanced))
 
   pub grain-double : (h .second ≡ 0 → ⊥) → h .total ^ uses (h .total) F * h .second ^ uses (h .second) F ≡ grainOf (totals h) F
   unfolding powers

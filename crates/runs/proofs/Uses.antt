@@ -1,21 +1,18 @@
 -- The uses of a total on a path, counted from child to child. Assumes nothing.
 use Prim.Native.Nat.{ℕ, _+_, max, _≤_, _<_}
 use mathlib.Core.Path.{_≡_, refl, sym, ap, subst, _∙_}
-use mathlib.Core.Bool.{Bool, true, false, _&&_, cond}
+use mathlib.Core.Bool.{_&&_}
 use mathlib.Core.List.{List}
 use native.Mathlib.Omega.{arith}
 use lib.Dec.{eqb}
 use lib.ListN.{getD}
+use Rattle.field.proofs.Small.{one-or-none}
 use Rattle.table.specs.Tree.{Kind, Forest, end, leaf, inner, codeOf, isChance, weigh, used, uses}
 use Rattle.table.specs.Inside.{Slices, Spans}
 use Rattle.table.proofs.Runs.{code-chance}
 use Rattle.table.proofs.Spans.{spans-le}
 use Rattle.runs.specs.Inside.{Has, sumAt, useAt, UsedMost}
 use Rattle.runs.proofs.Scan.{spans-weigh}
-
-pub one-at-most : (b : Bool) → cond b 1 0 ≤ 1
-one-at-most true = omega arith
-one-at-most false = omega arith
 
 module _ (ks ss ws : List ℕ) where
   abbrev slices : List ℕ → Slices
@@ -30,7 +27,7 @@ module _ (ks ss ws : List ℕ) where
       let j : ℕ = getD ss c 0 in
       omega (
         arith,
-        one-at-most (isChance k && eqb (weigh under) T),
+        one-or-none (isChance k && eqb (weigh under) T),
         uses-small hs T (c + 1) j under (h .3),
         uses-small hs T j e rest (h .4),
         spans-le (slices hs) (c + 1) j under (h .3),

@@ -1,8 +1,8 @@
 -- What divides the heights of an accepted table, in grains. Assumes nothing.
 use Prim.Native.Nat.{ℕ, _*_, _∣_}
-use mathlib.Core.Path.{_≡_, refl, ap}
+use mathlib.Core.Path.{_≡_, ap}
 use native.Mathlib.Nat.{dvd-mul-left-of-dvd, dvd-zero}
-use Rattle.table.specs.Tree.{Kind, MAX, MIN, CHANCE, Forest, end, leaf, inner, weigh}
+use Rattle.table.specs.Tree.{Kind, Forest, end, leaf, inner, weigh}
 use Rattle.table.proofs.Totals as sums
 use Rattle.table.proofs.Totals.{Divided}
 use Rattle.search.specs.Search.{Frame, framed}
@@ -11,9 +11,7 @@ use Rattle.search.proofs.Grains.{plain, grained-weigh}
 
 -- what divides the worths of a node's children, where g divides its own
 abbrev pub grade : Frame ℕ → Kind → ℕ → ℕ
-grade e MAX g = g
-grade e MIN g = g
-grade e CHANCE g = e .total * g
+grade e k g = sums.grade k (e .total) g
 
 -- g divides both ends
 abbrev pub Even : ℕ → Frame ℕ → Type 0
@@ -29,9 +27,7 @@ Fit frame g (inner n w k under rest) =
 module _ (S G : ℕ) where
   -- a C's own sum is the total of its frame
   grade-own : (k : Kind) (g : ℕ) (f : Forest ℕ) → grade (framed 0 (S * G) (grained G f)) k g ≡ sums.grade k (weigh f) g
-  grade-own MAX g f = refl
-  grade-own MIN g f = refl
-  grade-own CHANCE g f = ap (λ (x : ℕ). x * g) (grained-weigh G f)
+  grade-own k g f = ap (λ (x : ℕ). sums.grade k x g) (grained-weigh G f)
 
   -- where the sums on each path divide the grain count
   pub fit : (g : ℕ) (f : Forest ℕ) → Divided G g f → Fit (plain (S * G)) g (grained G f)

@@ -19,7 +19,7 @@ use Rattle.line.proofs.Signs.{true-ne-false}
 use Rattle.line.proofs.Fine.{header-ranged, total-ranged}
 use Rattle.table.specs.declared.Summary.{Summary}
 use Rattle.table.specs.declared.Reading.the-variants.{Accepted, Refused}
-use Rattle.table.specs.Tree.{Kind, MAX, MIN, CHANCE, Forest, end, leaf, inner, isChance, isEnd, weigh, nodesWhere, childless, unbalanced, grainOf, leaves}
+use Rattle.table.specs.Tree.{Kind, MAX, MIN, CHANCE, Forest, end, leaf, inner, isChance, isEnd, weigh, nodesWhere, childless, unbalanced, leaves}
 use Rattle.table.specs.Table.{Table, badLength, nodeLines, tree, complete, count, readText, greatest, leafLines, grain, summary, answer}
 use Rattle.table.specs.Slices.{heightOf, kindsOf, stopsOf, weightsOf, heightsOf, fitted}
 use Rattle.table.specs.Inside.{Spans, Holds, heightTree, slicesOf, lent}
@@ -169,9 +169,7 @@ module _ (s : List ℕ) (t : Table) (h : readText s ≡ fine t) where
   -- with no second total it is "T to the power K"
   pub one-total : t .head .second ≡ 0 → grain t ≡ t .head .total ^ greatest (t .lines)
   one-total none =
-      let e : totals (t .head) ≡ t .head .total ∷ [] = rw none refl in
-      ap (λ (ts : List ℕ). grainOf ts (tree t)) e
-      ∙ grain-one (t .head .total) (tree t) (subst (λ (ts : List ℕ). Balanced ts (tree t)) e accepted-balanced)
+      grain-one (t .head) (tree t) none accepted-balanced
       ∙ ap (λ (k : ℕ). t .head .total ^ k) (sym (root-deepest (tree t)) ∙ ap greatest accepted-flat)
 
   -- what divides it

@@ -1,6 +1,6 @@
 -- A table is refused with a number up to 10 or with 18, not with 1 where the length is good, and with a line of the table; 18 only for what it is for.
 -- Assumes nothing.
-use Prim.Native.Nat.{ℕ, zero, suc, _+_, _^_, _≤_, _<_}
+use Prim.Native.Nat.{ℕ, zero, suc, _+_, _≤_, _<_}
 use mathlib.Core.Path.{_≡_, refl, sym, ap, subst, _∙_}
 use mathlib.Core.Bool.{Bool, true, false, cond}
 use mathlib.Core.List.{List, [], _∷_, _++_}
@@ -16,10 +16,10 @@ use Rattle.line.specs.declared.Refusal.the-variants.{Length, IllWritten, OutOfR
 use Rattle.line.specs.Refusal.{Verdict, refused, fine, Check, unless, unlessAt, next, numberOf, lineOf}
 use Rattle.line.specs.Line.{Step, Placed, ancestors, stepped, stepsOf, placed, letterCode, entryOf, headingOf, headOf, totals, header, headerChecks, lineChecks, nodeLine}
 use Rattle.line.proofs.Fine.{unlessAt-fine, header-ranged}
-use Rattle.table.specs.Tree.{Kind, Forest, end, leaf, inner, nodesWhere, childless, unbalanced, grainOf}
+use Rattle.table.specs.Tree.{Kind, Forest, end, leaf, inner, nodesWhere, childless, unbalanced}
 use Rattle.table.specs.Table.{Table, prefix, nodeLines, tree, grain, grainChecks, complete, badLength, count, linesOf, readText, greatest}
 use Rattle.table.specs.Inside.{deepest}
-use Rattle.table.specs.Accepted.{Balanced, Excessive}
+use Rattle.table.specs.Accepted.{Excessive}
 use Rattle.table.proofs.Runs.{size, Numbered}
 use Rattle.table.proofs.Top.{good-length, read-length, read-header}
 use Rattle.table.proofs.Totals.{root-deepest, grain-one}
@@ -59,36 +59,45 @@ prefix-upto : (P : Refusal → Type 0) (done : List Line) (v : Verdict (List Lin
 prefix-upto P done (refused r) h = h
 prefix-upto P done (fine ls) h = tt
 
--- P of each refusal of a header, and of the line of node i
-pub record OfHeader (P : Refusal → Type 0) : Type 0 where
-  pub ill : P (IllWritten 0)
-  pub wide : P (OutOfRange 0)
-  pub count : P (Misnumbered 0)
+-- P of every refusal of a table that has a line, up to line m, and of those of the header
+abbrev pub Lined : (Refusal → Type 0) → ℕ → Type 0
+Lined P m = (r : Refusal) → 2 ≤ numberOf r → numberOf r ≤ 10 → lineOf r ≤ m → P r
 
-pub record OfLine (P : Refusal → Type 0) (i : ℕ) : Type 0 where
-  pub ill : P (IllWritten (i + 1))
-  pub number : P (Misnumbered (i + 1))
-  pub kind : P (UnknownKind (i + 1))
-  pub parent : P (WrongParent (i + 1))
-  pub deep : P (TooDeep (i + 1))
-  pub filled : P (Misfilled (i + 1))
-  pub wide : P (OutOfRange (i + 1))
+header-upto : (P : Refusal → Type 0) (m : ℕ) → Lined P m → (n : ℕ) (s : List ℕ) → Upto P (header n s)
+header-upto P m o n s =
+    unless-upto P (headerChecks n (getD s 24 0) (headingOf s)) (headOf (headingOf s))
+    (o (IllWritten 0) (omega arith) (omega arith) (omega arith), (o (OutOfRange 0) (omega arith) (omega arith) (omega arith), (o (Misnumbered 0) (omega arith) (omega arith) (omega arith), tt)))
 
-pub header-upto : (P : Refusal → Type 0) → OfHeader P → (n : ℕ) (s : List ℕ) → Upto P (header n s)
-header-upto P o n s = unless-upto P (headerChecks n (getD s 24 0) (headingOf s)) (headOf (headingOf s)) (o .ill, (o .wide, (o .count, tt)))
-
-module _ (P : Refusal → Type 0) (h : Head) (m : ℕ) (of-line : (i : ℕ) → i + 1 ≤ m → OfLine P i) where
-  pub lines-upto : (n i : ℕ) (Q : List Step) (s : List ℕ) → i + n ≤ m → Upto P (nodeLines h n i Q s)
+module _ (P : Refusal → Type 0) (h : Head) (m : ℕ) (of-line : Lined P m) where
+  lines-upto : (n i : ℕ) (Q : List Step) (s : List ℕ) → i + n ≤ m → Upto P (nodeLines h n i Q s)
   unfolding nodeLines
   lines-upto zero i Q s l = tt
   lines-upto (suc n) i Q s l =
       let e = entryOf (take 25 s) in
       let a = ancestors (e .parent) Q in
       let k : ℕ = letterCode (e .letter) in
-      let o = of-line i (omega arith) in
+      let here : i + 1 ≤ m = omega arith in
+      let o : (r : Refusal) → 2 ≤ numberOf r → numberOf r ≤ 10 → lineOf r ≡ i + 1 → P r = λ r a b c. of-line r a b (omega arith) in
       next-upto P (nodeLine h i Q (take 25 s)) (λ (p : Placed). prefix (p .line ∷ []) (nodeLines h n (suc i) (p .steps) (drop 25 s)))
-      (unless-upto P (lineChecks h i e (getD (take 25 s) 4 0) (getD (take 25 s) 24 0) a) (placed i k e (stepped i k (stepsOf a)))
-      (o .ill, (o .number, (o .kind, (o .parent, (o .deep, (o .filled, (o .wide, tt))))))))
+      (unless-upto P (lineChecks h i e (getD (take 25 s) 4 0) (getD (take 25 s) 24 0) a) (placed i k e (stepped i k (stepsOf a))) (
+        o (IllWritten (i + 1)) (omega arith) (omega arith) refl,
+        (
+          o (Misnumbered (i + 1)) (omega arith) (omega arith) refl,
+          (
+            o (UnknownKind (i + 1)) (omega arith) (omega arith) refl,
+            (
+              o (WrongParent (i + 1)) (omega arith) (omega arith) refl,
+              (
+                o (TooDeep (i + 1)) (omega arith) (omega arith) refl,
+                (
+                  o (Misfilled (i + 1)) (omega arith) (omega arith) refl,
+                  (o (OutOfRange (i + 1)) (omega arith) (omega arith) refl, tt),
+                ),
+              ),
+            ),
+          ),
+        ),
+      ))
       (λ p q. prefix-upto P (p .line ∷ []) (nodeLines h n (suc i) (p .steps) (drop 25 s)) (lines-upto n (suc i) (p .steps) (drop 25 s) (omega arith)))
 
 -- ---- nodes
@@ -120,7 +129,7 @@ unless-at P m gives [] a g b = tt
 unless-at P m gives (x ∷ xs) a g b = g x (b .0)
 
 -- 8, 9 and 18: what is known where the last is given
-module _ (P : Refusal → Type 0) (m : ℕ) (t : Table) (bare : (n : ℕ) → n < m → P (Childless (n + 1))) (odd : (n : ℕ) → n < m → P (WrongSum (n + 1)))
+module _ (P : Refusal → Type 0) (m : ℕ) (t : Table) (of-line : Lined P m)
     (many : childless (tree t) ≡ [] → unbalanced (totals (t .head)) (tree t) ≡ [] → ltb 16777216 (grain t) ≡ true → P TooManyGrains) where
   grains-upto : childless (tree t) ≡ [] → unbalanced (totals (t .head)) (tree t) ≡ [] → Upto P (unless (grainChecks t) t)
   unfolding unless
@@ -134,7 +143,7 @@ module _ (P : Refusal → Type 0) (m : ℕ) (t : Table) (bare : (n : ℕ) → n 
       → Upto P (next (unlessAt (λ (n : ℕ). WrongSum (n + 1)) (unbalanced (totals (t .head)) (tree t)) t) (λ (t : Table). unless (grainChecks t) t))
   sums-upto c N l =
       next-upto P (unlessAt (λ (n : ℕ). WrongSum (n + 1)) (unbalanced (totals (t .head)) (tree t)) t) (λ (t : Table). unless (grainChecks t) t)
-      (unless-at P m (λ (n : ℕ). WrongSum (n + 1)) (unbalanced (totals (t .head)) (tree t)) t odd (where-below _ m 0 (tree t) N (omega arith)))
+      (unless-at P m (λ (n : ℕ). WrongSum (n + 1)) (unbalanced (totals (t .head)) (tree t)) t (λ n l. of-line (WrongSum (n + 1)) (omega arith) (omega arith) (omega arith)) (where-below _ m 0 (tree t) N (omega arith)))
       (λ y e.
       let (u, z) = unlessAt-fine (λ (n : ℕ). WrongSum (n + 1)) (unbalanced (totals (t .head)) (tree t)) t y e in
       subst (λ (y : Table). Upto P (unless (grainChecks y) y)) z (grains-upto c u))
@@ -144,7 +153,7 @@ module _ (P : Refusal → Type 0) (m : ℕ) (t : Table) (bare : (n : ℕ) → n 
   complete-upto N l =
       next-upto P (unlessAt (λ (n : ℕ). Childless (n + 1)) (childless (tree t)) t)
       (λ (t : Table). next (unlessAt (λ (n : ℕ). WrongSum (n + 1)) (unbalanced (totals (t .head)) (tree t)) t) (λ (t : Table). unless (grainChecks t) t))
-      (unless-at P m (λ (n : ℕ). Childless (n + 1)) (childless (tree t)) t bare (where-below _ m 0 (tree t) N (omega arith)))
+      (unless-at P m (λ (n : ℕ). Childless (n + 1)) (childless (tree t)) t (λ n l. of-line (Childless (n + 1)) (omega arith) (omega arith) (omega arith)) (where-below _ m 0 (tree t) N (omega arith)))
       (λ y e.
       let (c, z) = unlessAt-fine (λ (n : ℕ). Childless (n + 1)) (childless (tree t)) t y e in
       subst (λ (y : Table). Upto P (next (unlessAt (λ (n : ℕ). WrongSum (n + 1)) (unbalanced (totals (y .head)) (tree y)) y) (λ (t : Table). unless (grainChecks t) t))) z
@@ -152,50 +161,24 @@ module _ (P : Refusal → Type 0) (m : ℕ) (t : Table) (bare : (n : ℕ) → n 
 
 -- ---- the whole text
 
--- P of every refusal that a text of a good length may get: those of the header, of a line up to 1,024, 8 and 9 there, and 18 for what it is for
-pub record OfText (P : Refusal → Type 0) (s : List ℕ) : Type 0 where
-  pub of-header : OfHeader P
-  pub of-line : (i : ℕ) → i + 1 ≤ 1024 → OfLine P i
-  pub bare : (n : ℕ) → n < 1024 → P (Childless (n + 1))
-  pub odd : (n : ℕ) → n < 1024 → P (WrongSum (n + 1))
-  pub many : Excessive s → P TooManyGrains
-
-pub text-upto : (P : Refusal → Type 0) (s : List ℕ) → badLength (length s) ≡ false → OfText P s → Upto P (readText s)
-text-upto P s e o =
+-- and of 18 where it is for the text: then P of whatever a text of a good length is refused with
+pub text-upto : (P : Refusal → Type 0) (s : List ℕ) → badLength (length s) ≡ false → Lined P 1024 → (Excessive s → P TooManyGrains) → Upto P (readText s)
+text-upto P s e of-line many =
     let g = good-length (length s) e in
     let n : ℕ = count s in
     rw (read-header s e)
-    (next-upto P (header n (take 25 s)) (λ (h : Head). linesOf h n (drop 25 s)) (header-upto P (o .of-header) n (take 25 s))
+    (next-upto P (header n (take 25 s)) (λ (h : Head). linesOf h n (drop 25 s)) (header-upto P 1024 of-line n (take 25 s))
     (λ h p.
     next-upto P (nodeLines h n 0 [] (drop 25 s)) (λ (ls : List Line). complete (record { head = h; lines = ls }))
-    (lines-upto P h 1024 (o .of-line) n 0 [] (drop 25 s) (omega (arith, g .2)))
+    (lines-upto P h 1024 of-line n 0 [] (drop 25 s) (omega (arith, g .2)))
     (λ ls q.
     let t : Table = record { head = h; lines = ls } in
-    complete-upto P 1024 t (o .bare) (o .odd)
-    (λ c u x. o .many (record { table = t; long = e; head = p; lines = q; no-childless = c; no-unbalanced = u; grains = ltb-true 16777216 (grain t) x }))
+    complete-upto P 1024 t of-line
+    (λ c u x. many (record { table = t; long = e; head = p; lines = q; no-childless = c; no-unbalanced = u; grains = ltb-true 16777216 (grain t) x }))
     (read-numbered t n (drop 25 s) q (g .1)) (omega (arith, read-size t n (drop 25 s) q (g .1), g .2)))))
 
 read-upto : (s : List ℕ) → badLength (length s) ≡ false → Upto (OfTable 1024) (readText s)
-read-upto s e =
-    text-upto (OfTable 1024) s e (record {
-      of-header = record {
-        ill = (omega arith, (λ l. omega arith), omega arith);
-        wide = (omega arith, (λ l. omega arith), omega arith);
-        count = (omega arith, (λ l. omega arith), omega arith);
-      };
-      of-line = λ i h. record {
-        ill = (omega arith, (λ l. omega arith), h);
-        number = (omega arith, (λ l. omega arith), h);
-        kind = (omega arith, (λ l. omega arith), h);
-        parent = (omega arith, (λ l. omega arith), h);
-        deep = (omega arith, (λ l. omega arith), h);
-        filled = (omega arith, (λ l. omega arith), h);
-        wide = (omega arith, (λ l. omega arith), h);
-      };
-      bare = λ n h. (omega arith, (λ l. omega arith), omega arith);
-      odd = λ n h. (omega arith, (λ l. omega arith), omega arith);
-      many = λ x. (omega arith, (λ l. omega arith), omega arith);
-    })
+read-upto s e = text-upto (OfTable 1024) s e (λ r a b c. (a, (λ l. absurd (omega arith)), c)) (λ x. (omega arith, (λ l. omega arith), omega arith))
 
 pub refused-named : (s : List ℕ) (r : Refusal) → badLength (length s) ≡ false → readText s ≡ refused r → OfTable 1024 r
 refused-named s r g e = subst (Upto (OfTable 1024)) e (read-upto s g)
@@ -219,37 +202,14 @@ refused-line s r e = at-most s r e .1
 
 -- ---- 18
 
--- another refusal
-other : (s : List ℕ) (r : Refusal) → (numberOf r ≡ 18 → ⊥) → r ≡ TooManyGrains → Excessive s
-other s r h e = absurd (h (ap numberOf e))
-
 pub eighteen-needs : (s : List ℕ) → readText s ≡ refused TooManyGrains → Excessive s
 eighteen-needs s e = go (badLength (length s)) refl
   where
     go : (b : Bool) → badLength (length s) ≡ b → Excessive s
-    go true l = let z : Length ≡ TooManyGrains = cc (sym (read-length s l) ∙ e) in other s Length (λ q. omega arith) z
+    go true l = let z : Length ≡ TooManyGrains = cc (sym (read-length s l) ∙ e) in let n : _≡_ {A = ℕ} 1 18 = ap numberOf z in absurd (omega arith)
     go false l =
         subst (Upto (λ (r : Refusal). r ≡ TooManyGrains → Excessive s)) e
-        (text-upto (λ (r : Refusal). r ≡ TooManyGrains → Excessive s) s l (record {
-          of-header = record {
-            ill = other s (IllWritten 0) (λ q. omega arith);
-            wide = other s (OutOfRange 0) (λ q. omega arith);
-            count = other s (Misnumbered 0) (λ q. omega arith);
-          };
-          of-line = λ i h. record {
-            ill = other s (IllWritten (i + 1)) (λ q. omega arith);
-            number = other s (Misnumbered (i + 1)) (λ q. omega arith);
-            kind = other s (UnknownKind (i + 1)) (λ q. omega arith);
-            parent = other s (WrongParent (i + 1)) (λ q. omega arith);
-            deep = other s (TooDeep (i + 1)) (λ q. omega arith);
-            filled = other s (Misfilled (i + 1)) (λ q. omega arith);
-            wide = other s (OutOfRange (i + 1)) (λ q. omega arith);
-          };
-          bare = λ n h. other s (Childless (n + 1)) (λ q. omega arith);
-          odd = λ n h. other s (WrongSum (n + 1)) (λ q. omega arith);
-          many = λ x z. x;
-        }))
-        refl
+        (text-upto (λ (r : Refusal). r ≡ TooManyGrains → Excessive s) s l (λ r a b c z. absurd (omega (arith, ap numberOf z))) (λ x z. x)) refl
 
 pub eighteen-given : (s : List ℕ) → Excessive s → readText s ≡ refused TooManyGrains
 unfolding readText complete unless unlessAt
@@ -260,10 +220,7 @@ pub one-total-never : (s : List ℕ) (x : Excessive s) → x .table .head .secon
 one-total-never s x none =
     let t : Table = x .table in
     let g = good-length (length s) (x .long) in
-    let T : ℕ = t .head .total in
-    let e : totals (t .head) ≡ T ∷ [] = rw none refl in
-    let b : Balanced (T ∷ []) (tree t) = subst (λ (ts : List ℕ). Balanced ts (tree t)) e (balanced (totals (t .head)) (tree t) (x .no-unbalanced)) in
     let d : deepest (tree t) ≡ greatest (t .lines) = sym (root-deepest (tree t)) ∙ ap greatest (read-flat t (count s) (drop 25 s) (x .lines) (g .1)) in
     let r = header-ranged (count s) (getD (take 25 s) 24 0) (headingOf (take 25 s)) (t .head) (x .head) in
-    let q : grain t ≡ T ^ deepest (tree t) = ap (λ (ts : List ℕ). grainOf ts (tree t)) e ∙ grain-one T (tree t) b in
-    omega (arith, x .grains, q, power-small T (deepest (tree t)) (r .total) (omega (arith, d, read-few t (count s) (drop 25 s) (x .lines))))
+    let q = grain-one (t .head) (tree t) none (balanced (totals (t .head)) (tree t) (x .no-unbalanced)) in
+    omega (arith, x .grains, q, power-small (t .head .total) (deepest (tree t)) (r .total) (omega (arith, d, read-few t (count s) (drop 25 s) (x .lines))))

@@ -1,7 +1,7 @@
 -- One argument over the totals: at every node the grain count is divided by the sums of the C on the path down to it, whichever totals these are; and
 -- where there is one total, its uses are all the C. Document 02, Item 5. Assumes nothing.
 use Prim.Native.Nat.{ℕ, _+_, _*_, _-_, _^_, max, _≤_, _<_, _∣_}
-use mathlib.Core.Path.{_≡_, refl, sym, ap, _∙_}
+use mathlib.Core.Path.{_≡_, refl, sym, ap, subst, _∙_}
 use mathlib.Core.Bool.{Bool, true, false, _||_, _&&_, cond}
 use mathlib.Core.List.{List, [], _∷_, _++_}
 use native.Mathlib.Nat.{dvd-trans, dvd-mul-left, dvd-refl, mul-dvd-mul, mul-assoc, mul-left-comm, mul-one, mul-pos, pow-zero, one-le-pow, sub-le}
@@ -10,8 +10,9 @@ use borrow.Author.Tests.{eqb-true, eq-eqb}
 use lib.Dec.{eqb}
 use lib.IntN.{ℤ}
 use Rattle.numbers.proofs.Powers.{power-dvd, power-more}
+use Rattle.line.specs.declared.Head.{Head}
 use Rattle.line.specs.declared.Line.{Line}
-use Rattle.line.specs.Line.{among}
+use Rattle.line.specs.Line.{totals, among}
 use Rattle.line.proofs.Signs.{true-ne-false}
 use Rattle.table.specs.Tree.{Kind, MAX, MIN, CHANCE, Forest, end, leaf, inner, isChance, weigh, powers, used, uses, grainOf}
 use Rattle.table.specs.Table.{greatest}
@@ -98,26 +99,30 @@ under-chance ts K T g G m h d =
     let e : P * (T * g) ≡ T * P * g = omega arith in
     rw e (dvd-trans (T * P * g) (mul-dvd-mul (T * P) g (powers-step ts K T m h) (dvd-refl g)) d)
 
+-- what is left of the powers under a node, and enough for the uses there
+record Left {A : Type 0} (ts : List ℕ) (G g : ℕ) (under : Forest A) : Type 0 where
+  often : ℕ → ℕ
+  enough : (t : ℕ) → uses t under ≤ often t
+  divides : powers ts often * g ∣ G
+
 module _ {A : Type 0} (ts : List ℕ) (G : ℕ) where
+  left-under : (k : Kind) (under : Forest A) (K : ℕ → ℕ) (g : ℕ) → (isChance k ≡ true → among (weigh under) ts ≡ true) → ((t : ℕ) → used t k under + uses t under ≤ K t)
+      → powers ts K * g ∣ G → Left ts G (grade k (weigh under) g) under
+  left-under MAX under K g b u d = record { often = K; enough = λ t. omega (arith, u t); divides = d }
+  left-under MIN under K g b u d = record { often = K; enough = λ t. omega (arith, u t); divides = d }
+  left-under CHANCE under K g b u d =
+      let T : ℕ = weigh under in
+      record { often = less K T; enough = λ t. omega (arith, u t); divides = under-chance ts K T g G (b refl) (omega (arith, u T, one-use T)) d }
+
   divided-by : (f : Forest A) (K : ℕ → ℕ) (g : ℕ) → Balanced ts f → ((t : ℕ) → uses t f ≤ K t) → powers ts K * g ∣ G → Divided G g f
   unfolding uses
   divided-by end K g b u d = tt
   divided-by (leaf n w v rest) K g b u d = (dvd-trans g (dvd-mul-left g (powers ts K)) d, divided-by rest K g b u d)
-  divided-by (inner n w MAX under rest) K g b u d = (
-    dvd-trans g (dvd-mul-left g (powers ts K)) d,
-    divided-by under K g (b .1) (λ t. omega (arith, u t)) d,
-    divided-by rest K g (b .2) (λ t. omega (arith, u t)) d,
-  )
-  divided-by (inner n w MIN under rest) K g b u d = (
-    dvd-trans g (dvd-mul-left g (powers ts K)) d,
-    divided-by under K g (b .1) (λ t. omega (arith, u t)) d,
-    divided-by rest K g (b .2) (λ t. omega (arith, u t)) d,
-  )
-  divided-by (inner n w CHANCE under rest) K g b u d =
-      let T : ℕ = weigh under in
-      let below : powers ts (less K T) * (T * g) ∣ G = under-chance ts K T g G (b .0 refl) (omega (arith, u T, one-use T)) d in (
-        dvd-trans (T * g) (dvd-mul-left (T * g) (powers ts (less K T))) below,
-        divided-by under (less K T) (T * g) (b .1) (λ t. omega (arith, u t)) below,
+  divided-by (inner n w k under rest) K g b u d =
+      let j : ℕ = grade k (weigh under) g in
+      let L : Left ts G j under = left-under k under K g (b .0) (λ t. omega (arith, u t)) d in (
+        dvd-trans j (dvd-mul-left j (powers ts (L .often))) (L .divides),
+        divided-by under (L .often) j (b .1) (L .enough) (L .divides),
         divided-by rest K g (b .2) (λ t. omega (arith, u t)) d,
       )
 
@@ -188,6 +193,12 @@ uses-one T end b = refl
 uses-one T (leaf n w v rest) b = uses-one T rest b
 uses-one T (inner n w k under rest) b = rw (used-one T k under (b .0), uses-one T under (b .1), uses-one T rest (b .2))
 
-pub grain-one : {A : Type 0} (T : ℕ) (f : Forest A) → Balanced (T ∷ []) f → grainOf (T ∷ []) f ≡ T ^ deepest f
+-- so the grain count is "T to the power K"
+pub grain-one : {A : Type 0} (h : Head) (f : Forest A) → h .second ≡ 0 → Balanced (totals h) f → grainOf (totals h) f ≡ h .total ^ deepest f
 unfolding powers
-grain-one T f b = ap (λ (j : ℕ). T ^ j * 1) (uses-one T f b) ∙ mul-one (T ^ deepest f)
+grain-one h f none b =
+    let T : ℕ = h .total in
+    let e : totals h ≡ T ∷ [] = rw none refl in
+    ap (λ (ts : List ℕ). grainOf ts f) e
+    ∙ ap (λ (j : ℕ). T ^ j * 1) (uses-one T f (subst (λ (ts : List ℕ). Balanced ts f) e b))
+    ∙ mul-one (T ^ deepest f)

@@ -50,7 +50,8 @@ module _ {A : Type 0} where
   abbrev pub Balanced : List ℕ → Forest A → Type 0
   Balanced ts f = Totals (λ (n : ℕ). among n ts ≡ true) f
 
-  -- Weights up to T, the larger total, leaf values, "at most 64 nodes" and at most K C on a path: d nodes and c C stand above, and u says whether the parent is a C.
+  -- Weights up to T, the larger total, leaf values, "at most 64 nodes" and at most K C on a path: d nodes and c C stand above, and u says whether the
+  -- parent is a C.
   module _ (T K : ℕ) (ok : A → Type 0) where
     abbrev pub Proper : ℕ → ℕ → Bool → Forest A → Type 0
     Proper d c u end = Unit {0}

@@ -1,11 +1,11 @@
 -- The tree in the slices, and equation (1) over heights: what the code works on. No promise of a public call names these.
 use Prim.Native.Nat.{ℕ, _+_, _*_, _/_, min, max, _≤_}
-use mathlib.Core.Bool.{cond}
 use mathlib.Core.List.{List}
 use mathlib.Core.Path.{_≡_}
 use lib.ListN.{length, getD}
-use Rattle.table.specs.Tree.{Kind, MAX, MIN, CHANCE, Forest, end, leaf, inner, codeOf, isChance, forest}
+use Rattle.table.specs.Tree.{Kind, MAX, MIN, CHANCE, Forest, end, leaf, inner, codeOf, forest}
 use Rattle.table.specs.Table.{Table}
+use Rattle.table.specs.Accepted.{one}
 use Rattle.table.specs.Slices.{heightOf, kindsOf, stopsOf, weightsOf, heightsOf, fitted}
 
 -- ---- the tree in the slices
@@ -59,7 +59,7 @@ lent t K S W H = slices (fitted (kindsOf t) K) (fitted (stopsOf t) S) (fitted (w
 unfoldable pub deepest : {A : Type 0} → Forest A → ℕ
 deepest end = 0
 deepest (leaf n w v rest) = deepest rest
-deepest (inner n w k under rest) = max (cond (isChance k) 1 0 + deepest under) (deepest rest)
+deepest (inner n w k under rest) = max (one k + deepest under) (deepest rest)
 
 -- ---- equation (1) over heights, child by child, as the worth and the search are computed
 

@@ -7,10 +7,11 @@ use lib.Dec.{eqb}
 use lib.ListN.{getD}
 use borrow.Fn.Kinds.{In}
 use borrow.Fn.PlainCycle.{Measures, is, falls, and}
+use Rattle.field.proofs.Small.{one-or-none}
 use Rattle.numbers.proofs.index.Reads as index-reads
 use Rattle.numbers.proofs.max_of.Reads as max-of-reads
 use Rattle.runs.specs.Inside.{Has, sumAt}
-use Rattle.runs.proofs.Uses.{one-at-most, uses-small, GoingAll, First, going-start, next-of, has-under, going-on, going-end}
+use Rattle.runs.proofs.Uses.{uses-small, GoingAll, First, going-start, next-of, has-under, going-on, going-end}
 use Rattle.runs.proofs.most_uses.Reads as most-uses
 use Rattle.runs.proofs.most_uses.Kinds as most-uses-kinds
 use Rattle.runs.proofs.+most_uses.Lts-most_uses as most-uses-lts
@@ -115,7 +116,7 @@ most-uses-add-max-of t c =
       c .most-uses .ensures U,
       uses-small (a .kind .now) (a .stop .now) (a .weight .now) (U .heights) (a .total) (i .before .before .before .loop .i + 1) (i .index .result) (U .forest) (U .spans),
       c .before .use-at .ensures,
-      one-at-most (eqb (getD (a .kind .now) (i .before .before .before .loop .i) 0) 3 && eqb (sumAt (a .stop .now) (a .weight .now) (i .before .before .before .loop .i)) (a .total)),
+      one-or-none (eqb (getD (a .kind .now) (i .before .before .before .loop .i) 0) 3 && eqb (sumAt (a .stop .now) (a .weight .now) (i .before .before .before .loop .i)) (a .total)),
       N .within,
       i .index .ensures,
       q .3,
