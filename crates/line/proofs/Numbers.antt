@@ -1,11 +1,11 @@
--- A refusal's number is 1 to 20. Assumes nothing.
+-- A refusal's number is 1 to 22. Assumes nothing.
 use Prim.Native.Nat.{_≤_}
 use native.Mathlib.Omega.{arith}
 use Rattle.line.specs.declared.Refusal.{Refusal}
-use Rattle.line.specs.declared.Refusal.the-variants.{Length, IllWritten, OutOfRange, Misnumbered, UnknownKind, WrongParent, Misfilled, Childless, WrongSum, TooDeep, NoRoom, BadMargin, HasChance, NoChild, TooMany, NoPosition, BadBudget, TooManyGrains, BadScale}
+use Rattle.line.specs.declared.Refusal.the-variants.{Length, IllWritten, OutOfRange, Misnumbered, UnknownKind, WrongParent, Misfilled, Childless, WrongSum, TooDeep, NoRoom, BadMargin, HasChance, NoChild, TooMany, NoPosition, BadBudget, TooManyGrains, BadScale, BadIndex}
 use Rattle.line.specs.Refusal.{numberOf}
 
-range : (r : Refusal) → (1 ≤ numberOf r) × (numberOf r ≤ 20)
+range : (r : Refusal) → (1 ≤ numberOf r) × (numberOf r ≤ 22)
 range Length = (omega arith, omega arith)
 range (IllWritten n) = (omega arith, omega arith)
 range (OutOfRange n) = (omega arith, omega arith)
@@ -25,9 +25,10 @@ range NoPosition = (omega arith, omega arith)
 range BadBudget = (omega arith, omega arith)
 range TooManyGrains = (omega arith, omega arith)
 range BadScale = (omega arith, omega arith)
+range BadIndex = (omega arith, omega arith)
 
 pub number-some : (r : Refusal) → 1 ≤ numberOf r
 number-some r = range r .0
 
-pub number-small : (r : Refusal) → numberOf r ≤ 20
+pub number-small : (r : Refusal) → numberOf r ≤ 22
 number-small r = range r .1

@@ -29,6 +29,7 @@ pub enum Refusal {
     BadBudget,
     TooManyGrains,
     BadScale,
+    BadIndex,
 }
 
 // The header's fields, and what they say. A second total of 0 stands for none.
@@ -90,6 +91,7 @@ pub fn refusal_number(r: Refusal) -> u64
         Refusal::BadBudget => 17,
         Refusal::TooManyGrains => 18,
         Refusal::BadScale => 20,
+        Refusal::BadIndex => 22,
     }
 }
 
@@ -117,6 +119,7 @@ pub fn refusal_line(r: Refusal) -> usize
         Refusal::BadBudget => 0,
         Refusal::TooManyGrains => 0,
         Refusal::BadScale => 0,
+        Refusal::BadIndex => 0,
     }
 }
 

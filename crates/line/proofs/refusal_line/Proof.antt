@@ -62,6 +62,9 @@ enum-told-9 c = search needs
 enum-told-10 : tie.Need-enum-told-10
 enum-told-10 c = search needs
 
+enum-told-11 : tie.Need-enum-told-11
+enum-told-11 c = search needs
+
 returns : tie.Need-returns
 returns c = sym (ap lineOf (c .enum-told .given .1))
 
@@ -119,6 +122,9 @@ returns-18 c = sym (ap lineOf (c .enum-told9 .given .1))
 returns-19 : tie.Need-returns-19
 returns-19 c = sym (ap lineOf (c .enum-told10 .given .1))
 
+returns-20 : tie.Need-returns-20
+returns-20 c = sym (ap lineOf (c .enum-told11 .given .1))
+
 pub refusal-line-spec : {M : Type 1} → statement M
 refusal-line-spec =
     tie.close
@@ -142,6 +148,7 @@ refusal-line-spec =
     enum-told-8
     enum-told-9
     enum-told-10
+    enum-told-11
     returns
     returns-2
     returns-3
@@ -160,4 +167,5 @@ refusal-line-spec =
     returns-16
     returns-17
     returns-18
-    returns-19)
+    returns-19
+    returns-20)

@@ -62,6 +62,9 @@ enum-told-18 c = search needs
 enum-told-19 : tie.Need-enum-told-19
 enum-told-19 c = search needs
 
+enum-told-20 : tie.Need-enum-told-20
+enum-told-20 c = search needs
+
 returns : tie.Need-returns
 returns c = sym (ap numberOf (c .enum-told .given .1))
 
@@ -119,6 +122,9 @@ returns-18 c = sym (ap numberOf (c .enum-told18 .given .1))
 returns-19 : tie.Need-returns-19
 returns-19 c = sym (ap numberOf (c .enum-told19 .given .1))
 
+returns-20 : tie.Need-returns-20
+returns-20 c = sym (ap numberOf (c .enum-told20 .given .1))
+
 pub refusal-number-spec : {M : Type 1} → statement M
 refusal-number-spec =
     tie.close
@@ -142,6 +148,7 @@ refusal-number-spec =
     enum-told-17
     enum-told-18
     enum-told-19
+    enum-told-20
     returns
     returns-2
     returns-3
@@ -160,4 +167,5 @@ refusal-number-spec =
     returns-16
     returns-17
     returns-18
-    returns-19)
+    returns-19
+    returns-20)
