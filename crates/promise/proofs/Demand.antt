@@ -13,25 +13,26 @@ use Rattle.line.specs.Line.{larger}
 use Rattle.table.specs.Tree.{Forest, isEnd}
 use Rattle.table.specs.Table.{Table, tree, readText, greatest, grain}
 use Rattle.table.specs.Inside.{Spans, heightTree, slicesOf}
-use Rattle.table.specs.Accepted.{span, OkTotal, Filled, Totals, Proper, Rooted}
+use Rattle.table.specs.Accepted.{span}
 use Rattle.table.specs.Root.{Side, AtM, AtN, Root, nobody, toPlay, children, rootOf}
 use Rattle.table.proofs.Heights.{above, mapForest, heights-map}
-use Rattle.table.proofs.Totals.{Divided}
-use Rattle.table.proofs.Accepted.{accepted-proper, accepted-filled, accepted-spans, heights-rooted, heights-proper, heights-filled, heights-totals, heights-divided}
+use Rattle.table.proofs.Accepted.{accepted-proper, accepted-filled, accepted-spans, heights-rooted, heights-proper, heights-filled, heights-totals}
 use Rattle.worth.specs.Worth.{worthOf}
 use Rattle.worth.specs.Inside.Heights.{heightWorth, SmallWorths}
 use Rattle.worth.proofs.Worth.{heights-small, divides, shift as worth-shift}
-use Rattle.search.specs.Search.{Seen, unlimited, nodeOf}
-use Rattle.search.specs.Inside.{grained, heightSearched}
+use Rattle.search.specs.Search.{Frame, Seen, unlimited, nodeOf}
+use Rattle.search.specs.Inside.{grained, heightRules, heightSearched}
 use Rattle.search.specs.Whole.{whole, inGrains, rules, searched, searchedUntil}
 use Rattle.search.proofs.Grains.{plain, grains-filled}
-use Rattle.search.proofs.Table.{shifted}
+use Rattle.search.proofs.Heights.{Within}
+use Rattle.search.proofs.Fit.{Fit}
+use Rattle.search.proofs.Table.{tree-within, tree-fit, shifted}
 use Rattle.promise.specs.Play.{playWorth}
 use Rattle.promise.specs.Entered.{Entered, worse, FirstBest, enteredOf}
 use Rattle.promise.proofs.Play.{Child}
 use Rattle.promise.proofs.Order.{worse-strict, strict-whole}
 use Rattle.promise.proofs.Named.{Held, Chosen, root-held, root-named, root-unread, root-entered, asks-whole, grains-root, grains-children}
-use Rattle.promise.proofs.Root.{OnSide, Played, near, holds, narrow, plays}
+use Rattle.promise.proofs.Root.{OnSide, Played, Tree, near, holds, narrow, plays}
 use Rattle.promise.proofs.Children.{play-worth, root-same}
 
 -- ε more
@@ -48,12 +49,11 @@ module _ (s : List ℕ) (t : Table) (r : readText s ≡ fine t) where
   abbrev top-height : ℕ
   top-height = span (t .head) * G
 
-  abbrev Tree : Forest ℕ → Type 0
-  Tree f =
-      Proper (larger (t .head)) (greatest (t .lines)) (λ (x : ℕ). x ≤ span (t .head)) 0 0 false f × Filled f × Totals OkTotal f × Rooted f × Divided G 1 f
-
-  tree-fine : Tree (heightTree t)
-  tree-fine = (heights-proper s t r, heights-filled s t r, heights-totals s t r, heights-rooted s t r, heights-divided s t r)
+  -- the tree of heights, with frames that nest and that G divides
+  pub tree-fine : (frame : ℕ → Forest ℕ → Frame ℕ)
+      → Within frame (record { bottom = 0; top = span (t .head) * grain t; total = 0 }) (grained (grain t) (heightTree t)) → Fit frame 1 (grained (grain t) (heightTree t))
+      → Tree (larger (t .head)) (greatest (t .lines)) (grain t) (span (t .head)) frame (heightTree t)
+  tree-fine frame i x = (heights-proper s t r, heights-filled s t r, heights-totals s t r, heights-rooted s t r, i, x)
 
   -- ---- the root and its children
 
@@ -74,28 +74,71 @@ module _ (s : List ℕ) (t : Table) (r : readText s ≡ fine t) where
       (divides s t r) lowered-small (slicesOf t) (length (t .lines)) lowered-spans m v
       (subst (λ (f : Forest ℕ). Child (plain top-height) m v (children (grained G f))) (heights-map t) c)
 
+  -- ---- what a search over heights found, H, and over the integers, Z
+
+  module _ (H : Seen ℕ) (Z : Seen ℤ) (low-is : Z .low ≡ base +ℤ pos (H .low)) (high-is : Z .high ≡ base +ℤ pos (H .high))
+      (play-is : nodeOf (Z .play) ≡ nodeOf (H .play)) (low : H .low ≤ heightWorth t) (high : heightWorth t ≤ H .high)
+      (played : (m : ℕ) → nodeOf (H .play) ≡ some m → Played top-height (grained G (heightTree t)) (H .low) (H .high) (heightWorth t) m) where
+    pub found-contains : (leZ (Z .low) (worthOf t) ≡ true) × (leZ (worthOf t) (Z .high) ≡ true)
+    found-contains = (
+      ap₂ leZ low-is (worth-shift s t r) ∙ le-above base (H .low) (heightWorth t) low,
+      ap₂ leZ (worth-shift s t r) high-is ∙ le-above base (heightWorth t) (H .high) high,
+    )
+
+    pub found-side : (m : ℕ) → nodeOf (Z .play) ≡ some m
+        → (v : ℤ) × (playWorth t m ≡ some v)
+        × (rootOf (tree t) ≡ toPlay AtM → leZ (Z .low) v ≡ true)
+        × (rootOf (tree t) ≡ toPlay AtN → leZ v (Z .high) ≡ true)
+    found-side m e =
+        let p = played m (sym play-is ∙ e) in (
+          base +ℤ pos (p .value),
+          child-is m (p .value) (p .named),
+          λ d. ap (λ (z : ℤ). leZ z (base +ℤ pos (p .value))) low-is ∙ le-above base (H .low) (p .value)
+              (subst (λ (q : Root). OnSide q (H .low) (H .high) (heightWorth t) (p .value)) (root-is ∙ d) (p .side) .0),
+          λ d. ap (leZ (base +ℤ pos (p .value))) high-is ∙ le-above base (p .value) (H .high)
+              (subst (λ (q : Root). OnSide q (H .low) (H .high) (heightWorth t) (p .value)) (root-is ∙ d) (p .side) .0),
+        )
+
+    module _ (ε : ℕ) (close : H .high ≤ H .low + ε) where
+      pub found-width : leZ (Z .high) (Z .low +ℤ pos ε) ≡ true
+      found-width = ap₂ leZ high-is (ap (λ (z : ℤ). z +ℤ pos ε) low-is) ∙ le-margin base (H .high) (H .low) ε close
+
+      pub found-near : (m : ℕ) → nodeOf (Z .play) ≡ some m
+          → (v : ℤ) × (playWorth t m ≡ some v) × (leZ v (worthOf t +ℤ pos ε) ≡ true) × (leZ (worthOf t) (v +ℤ pos ε) ≡ true)
+      found-near m e =
+          let p = played m (sym play-is ∙ e) in
+          let n = near (rootOf (grained G (heightTree t))) (H .low) (H .high) (heightWorth t) (p .value) ε low high close (p .side) in (
+            base +ℤ pos (p .value),
+            child-is m (p .value) (p .named),
+            ap (λ (z : ℤ). leZ (base +ℤ pos (p .value)) (z +ℤ pos ε)) (worth-shift s t r) ∙ le-margin base (p .value) (heightWorth t) ε (n .0),
+            ap (λ (z : ℤ). leZ z (base +ℤ pos (p .value) +ℤ pos ε)) (worth-shift s t r) ∙ le-margin base (heightWorth t) (p .value) ε (n .1),
+          )
+
   -- ---- whatever the budget is
 
   module _ (ε : ℕ) (full : List ℕ → Bool) where
     abbrev heights : Seen ℕ
     heights = heightSearched t ε full
 
+    abbrev plain-tree : Tree (larger (t .head)) (greatest (t .lines)) (grain t) (span (t .head)) (plain top-height) (heightTree t)
+    plain-tree = tree-fine (plain top-height) (tree-within s t r) (tree-fit s t r)
+
     -- the bounds over heights hold the worth, and lie between the ends
     pub heights-hold : (heights .low ≤ heightWorth t) × (heightWorth t ≤ heights .high) × (heights .high ≤ span (t .head) * grain t)
-    heights-hold = holds (larger (t .head)) (greatest (t .lines)) G (span (t .head)) ε full (heightTree t) tree-fine
+    heights-hold =
+        holds (larger (t .head)) (greatest (t .lines)) G (span (t .head)) (heightRules 0 top-height ε full) (λ n f. refl) (λ _ n. (refl, refl)) (heightTree t) plain-tree
 
-    low-is : searchedUntil t ε full .low ≡ base +ℤ pos (heights .low)
-    low-is = shifted s t r ε full .0
+    played : (m : ℕ) → nodeOf (heights .play) ≡ some m → Played top-height (grained G (heightTree t)) (heights .low) (heights .high) (heightWorth t) m
+    played =
+        plays (larger (t .head)) (greatest (t .lines)) G (span (t .head)) (heightRules 0 top-height ε full) (λ n f. refl) (λ _ n. (refl, refl)) (heightTree t) plain-tree
 
-    high-is : searchedUntil t ε full .high ≡ base +ℤ pos (heights .high)
-    high-is = shifted s t r ε full .1
+    abbrev is : (searchedUntil t ε full .low ≡ base +ℤ pos (heights .low)) × (searchedUntil t ε full .high ≡ base +ℤ pos (heights .high))
+        × (nodeOf (searchedUntil t ε full .play) ≡ nodeOf (heights .play))
+    is = (shifted s t r ε full .0, shifted s t r ε full .1, shifted s t r ε full .2)
 
     -- the exact worth "lies within those same bounds"
     pub contains : (leZ (searchedUntil t ε full .low) (worthOf t) ≡ true) × (leZ (worthOf t) (searchedUntil t ε full .high) ≡ true)
-    contains = (
-      ap₂ leZ low-is (worth-shift s t r) ∙ le-above base (heights .low) (heightWorth t) (heights-hold .0),
-      ap₂ leZ (worth-shift s t r) high-is ∙ le-above base (heightWorth t) (heights .high) (heights-hold .1),
-    )
+    contains = found-contains heights (searchedUntil t ε full) (is .0) (is .1) (is .2) (heights-hold .0) (heights-hold .1) played
 
     -- ---- the play
 
@@ -120,50 +163,32 @@ module _ (s : List ℕ) (t : Table) (r : readText s ≡ fine t) where
     pub child-entered : full [] ≡ false → isEnd (children (tree t)) ≡ false → enteredOf t ε full ≡ [] → ⊥
     child-entered z x = root-entered whole (rules t ε full) (inGrains G (tree t)) z (grains-children G (tree t) ∙ x)
 
-    played : (m : ℕ) → nodeOf (searchedUntil t ε full .play) ≡ some m
-        → Played top-height (grained G (heightTree t)) (heights .low) (heights .high) (heightWorth t) m
-    played m e =
-        plays (larger (t .head)) (greatest (t .lines)) G (span (t .head)) ε full (heightTree t) tree-fine m
-        (sym (shifted s t r ε full .2) ∙ e)
-
     -- "a named play is worth at least low at M and at most high at N"
     pub play-side : (m : ℕ) → nodeOf (searchedUntil t ε full .play) ≡ some m
         → (v : ℤ) × (playWorth t m ≡ some v)
         × (rootOf (tree t) ≡ toPlay AtM → leZ (searchedUntil t ε full .low) v ≡ true)
         × (rootOf (tree t) ≡ toPlay AtN → leZ v (searchedUntil t ε full .high) ≡ true)
-    play-side m e =
-        let p = played m e in (
-          base +ℤ pos (p .value),
-          child-is m (p .value) (p .named),
-          λ d. ap (λ (z : ℤ). leZ z (base +ℤ pos (p .value))) low-is ∙ le-above base (heights .low) (p .value)
-              (subst (λ (q : Root). OnSide q (heights .low) (heights .high) (heightWorth t) (p .value)) (root-is ∙ d) (p .side) .0),
-          λ d. ap (leZ (base +ℤ pos (p .value))) high-is ∙ le-above base (p .value) (heights .high)
-              (subst (λ (q : Root). OnSide q (heights .low) (heights .high) (heightWorth t) (p .value)) (root-is ∙ d) (p .side) .0),
-        )
+    play-side = found-side heights (searchedUntil t ε full) (is .0) (is .1) (is .2) (heights-hold .0) (heights-hold .1) played
 
   -- ---- without a budget
 
   module _ (ε : ℕ) where
     pub heights-width : heightSearched t ε unlimited .high ≤ heightSearched t ε unlimited .low + ε
     heights-width =
-        narrow (larger (t .head)) (greatest (t .lines)) G (span (t .head)) ε unlimited (λ _. refl) (heightTree t) tree-fine
+        narrow (larger (t .head)) (greatest (t .lines)) G (span (t .head)) (heightRules 0 top-height ε unlimited) (λ n f. refl) (λ _ n. (refl, refl)) (λ _. refl)
+        (heightTree t) (plain-tree ε unlimited)
 
     -- "demand 3's width": the bounds are at most the margin apart
     pub width : leZ (searched t ε .high) (searched t ε .low +ℤ pos ε) ≡ true
     width =
-        ap₂ leZ (high-is ε unlimited) (ap (λ (z : ℤ). z +ℤ pos ε) (low-is ε unlimited))
-        ∙ le-margin base (heights ε unlimited .high) (heights ε unlimited .low) ε heights-width
+        let x = is ε unlimited in
+        let h = heights-hold ε unlimited in
+        found-width (heightSearched t ε unlimited) (searched t ε) (x .0) (x .1) (x .2) (h .0) (h .1) (played ε unlimited) ε heights-width
 
     -- "the play's worth .. is within the margin of it"
     pub play-near : (m : ℕ) → nodeOf (searched t ε .play) ≡ some m
         → (v : ℤ) × (playWorth t m ≡ some v) × (leZ v (worthOf t +ℤ pos ε) ≡ true) × (leZ (worthOf t) (v +ℤ pos ε) ≡ true)
-    play-near m e =
-        let p = played ε unlimited m e in
+    play-near =
+        let x = is ε unlimited in
         let h = heights-hold ε unlimited in
-        let n = near (rootOf (grained G (heightTree t))) (heights ε unlimited .low) (heights ε unlimited .high) (heightWorth t) (p .value) ε (h .0) (h .1)
-        heights-width (p .side) in (
-          base +ℤ pos (p .value),
-          child-is m (p .value) (p .named),
-          ap (λ (z : ℤ). leZ (base +ℤ pos (p .value)) (z +ℤ pos ε)) (worth-shift s t r) ∙ le-margin base (p .value) (heightWorth t) ε (n .0),
-          ap (λ (z : ℤ). leZ z (base +ℤ pos (p .value) +ℤ pos ε)) (worth-shift s t r) ∙ le-margin base (heightWorth t) (p .value) ε (n .1),
-        )
+        found-near (heightSearched t ε unlimited) (searched t ε) (x .0) (x .1) (x .2) (h .0) (h .1) (played ε unlimited) ε heights-width

@@ -7,6 +7,7 @@ pub mod Unread
 pub mod Root
 pub mod Children
 pub mod Demand
+pub mod Own
 pub mod Changed
 pub mod Turn
 pub mod Turned

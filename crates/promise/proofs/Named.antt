@@ -156,7 +156,7 @@ module _ {A : Type 0} (O : Arith A) (behind : Side → Entered A → Entered A �
         let j = update-held e k n w s r xs h in
         after-held e k rest t xs (asEntered n r) j (scan-held e k rest t (xs ++ (asEntered n r ∷ [])) j)
     scan-held e k (inner n w c under rest) s xs h =
-        let r : Seen A = met R e (s .read) (seenUnder O R e k n w c under s) in
+        let r : Seen A = met R (R .frame n under) (s .read) (seenUnder O R e k n w c under s) in
         let t : State A = update O e k n w s r in
         let j = update-held e k n w s r xs h in
         after-held e k rest t xs (asEntered n r) j (scan-held e k rest t (xs ++ (asEntered n r ∷ [])) j)

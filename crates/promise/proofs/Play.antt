@@ -103,9 +103,9 @@ module _ (R : Rules ℕ) (g : Forest ℕ) where
   mark e k (inner n w c under rest) s i up j =
       let d : Frame ℕ = R .frame n under in
       let r : Seen ℕ = seenUnder natural R e k n w c under s in
-      let u = hold-under e d _ r (i .0) (i .1) (contained R d c under (lower natural e k w s) (upper natural e k w s) (s .read) (i .2) (i .3)) in
-      let t : State ℕ = update natural e k n w s (met R e (s .read) r) in
-      let j2 = mark-update e k n w s (met R e (s .read) r) _ (up n _ (here-inner refl)) (hold-met R e (s .read) _ r u) j in
+      let u = hold-met R d (s .read) _ r (contained R d c under (lower natural e k w s) (upper natural e k w s) (s .read) (i .2) (i .3)) in
+      let t : State ℕ = update natural e k n w s (met R d (s .read) r) in
+      let j2 = mark-update e k n w s (met R d (s .read) r) _ (up n _ (here-inner refl)) (hold-under e d _ (met R d (s .read) r) (i .0) (i .1) u) j in
       mark-after e k rest t j2 (mark e k rest t (i .4) (λ m v c. up m v (next-inner c)) j2)
 
 module _ (frame : ℕ → Forest ℕ → Frame ℕ) where

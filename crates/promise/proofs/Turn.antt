@@ -202,7 +202,7 @@ module _ (S : ℕ) where
         let la : ℕ = lower natural e k w s in
         let ub : ℕ = upper natural e k w s in
         let r : Seen ℕ = seenUnder natural R e k n w c under s in
-        let u = hold-under e d _ r (i .0) (i .1) (contained R d c under la ub (s .read) (i .2) (i .3)) in
+        let u = hold-under e d _ (met R d (s .read) r) (i .0) (i .1) (hold-met R d (s .read) _ r (contained R d c under la ub (s .read) (i .2) (i .3))) in
         let b : e .bottom ≤ S = le-trans o t in
         let x : seenUnder natural R2 (turnFrame S e) (turnKind k) n w (turnKind c) (turn S under) (turnState s) ≡ turnSeen S r
         = ap
@@ -212,8 +212,8 @@ module _ (S : ℕ) where
         (ap (scan natural R2 (turnFrame S d) (turnKind c) (turn S under)) (ap₂ (λ x y. begin (turnFrame S d) (turnKind c) x y (s .read)) (lower-turn e k w _ s j) (upper-turn e k w _ s t j) ∙ begin-turn d c la ub (s .read))
         ∙ turned d c under (begin d c la ub (s .read)) (i .2 .ends) (le-trans (i .1) t) (i .3)
         (safe-begin S d c under la ub (s .read) (i .2) (le-trans (i .1) t) (safe-lower S e k w _ s b t j) (safe-upper S e k w _ s t j))) in
-        step-turn e k n w rest s (met R e (s .read) r) _ _ t (hold-met R e (s .read) _ r u) j
-        (ap (met R2 (turnFrame S e) (s .read)) x ∙ met-turn e (s .read) r) (λ z y. turned e k rest z o t (i .4) y)
+        step-turn e k n w rest s (met R d (s .read) r) _ _ t u j
+        (ap₂ (λ (m : Frame ℕ) (y : Seen ℕ). met R2 m (s .read) y) (frames n under) x ∙ met-turn d (s .read) r) (λ z y. turned e k rest z o t (i .4) y)
 
     pub turned-search : (e : Frame ℕ) (k : Kind) (f : Forest ℕ) → e .top ≤ S → Sound e k f → Within (R .frame) e f
         → search natural R2 (turnFrame S e) (turnKind k) (turn S f) ≡ turnSeen S (search natural R e k f)

@@ -1,13 +1,15 @@
--- The search of the turned table: bounds negated and exchanged, the same play, the same reading sequence, and the budget spent or not as before.
--- Document 01, 'The search', and document 02, Item 3. Assumes nothing.
-use Prim.Native.Nat.{ℕ, suc, _+_, _*_, _-_, _≤_}
+-- The search of the turned table: bounds negated and exchanged, the same play, the same reading sequence, and the budget spent or not as before; and so with
+-- its own index, which is the table's negated and exchanged. Document 01, 'The search', and document 02, Items 3 and 14. Assumes nothing.
+use Prim.Native.Nat.{ℕ, suc, _+_, _*_, _-_, min, max, _≤_}
 use mathlib.Core.Path.{_≡_, refl, sym, ap, ap₂, subst, _∙_}
 use mathlib.Core.Bool.{Bool, false}
-use mathlib.Core.List.{List}
+use mathlib.Core.List.{List, [], _∷_, _++_, map, map-append}
+use mathlib.Core.Option.{Option, none, some}
 use native.Mathlib.Nat.{le-refl, le-trans, mul-sub}
 use native.Mathlib.Omega.{arith}
 use lib.IntN.{ℤ, pos, negsuc, negℤ, _+ℤ_, _-ℤ_, _*ℤ_}
-use Rattle.numbers.proofs.Signs.{Is, plus, minus, parts, is-unique, is-eq, is-neg, is-minus}
+use Rattle.numbers.specs.Integers.{maxZ, minZ}
+use Rattle.numbers.proofs.Signs.{Is, plus, minus, parts, is-unique, is-eq, is-neg, is-minus, is-max, is-min}
 use Rattle.numbers.proofs.Above.{is-times, lift}
 use Rattle.line.specs.declared.Head.{Head}
 use Rattle.line.specs.Refusal.{fine}
@@ -19,17 +21,20 @@ use Rattle.table.specs.Accepted.{span, one, Proper}
 use Rattle.table.proofs.Heights.{above, mapForest, height-back, heights-map}
 use Rattle.table.proofs.Accepted.{accepted-proper}
 use Rattle.table.proofs.Ends.{top}
+use Rattle.index.specs.Index.{valuesOf, lowestOf, highestOf, Ends, entries, indexOf}
+use Rattle.index.specs.Inside.{leastOf, greatestOf}
 use Rattle.worth.specs.Worth.{worthOf}
 use Rattle.worth.specs.Inside.Heights.{heightWorth}
 use Rattle.worth.proofs.Worth.{shift as worth-shift}
 use Rattle.turn.specs.Turn.{turnKind, turnHead, turnTree}
 use Rattle.turn.proofs.Tree.{tree-grain-turned}
-use Rattle.search.specs.Search.{Play, noPlay, child, Seen, unlimited, framed, searchRoot, nodeOf}
-use Rattle.search.specs.Whole.{searched, searchedUntil}
-use Rattle.search.specs.Inside.{natural, grained, heightRules, heightSearched}
+use Rattle.search.specs.Search.{Play, noPlay, child, Seen, unlimited, searchRoot, nodeOf}
+use Rattle.search.specs.Whole.{searched, searchedUntil, searchedOwn}
+use Rattle.search.specs.Inside.{natural, grained, heightRules, heightSearched, ownHeightRules, heightOwn}
 use Rattle.search.proofs.Grains.{plain}
 use Rattle.search.proofs.Table.{tree-within, heights-order, shifted}
-use Rattle.promise.specs.Turned.{Turns}
+use Rattle.search.proofs.Own.{own, own-within, own-order, own-shifted}
+use Rattle.promise.specs.Turned.{Turns, turnEntry}
 use Rattle.promise.proofs.Turn.{turn, turn-weigh, turnFrame, turnPlay, turnSeen, turned-root}
 use Rattle.promise.proofs.Demand.{heights-hold, heights-width}
 
@@ -99,72 +104,182 @@ turn-node : (S : ℕ) (u : Play ℕ) → nodeOf (turnPlay S u) ≡ nodeOf u
 turn-node S noPlay = refl
 turn-node S (child m l h) = refl
 
+-- ---- the table's ends from the other side, and a line's own
+
+frame-turn : (S n : ℕ) (f : Forest ℕ) → plain S n (turn S f) ≡ turnFrame S (plain S n f)
+frame-turn S n f = let x : 0 ≡ S - S = omega arith in let y : S ≡ S - 0 = omega arith in λ i. record { bottom = x i; top = y i; total = turn-weigh S f i }
+
+least-turn : (S : ℕ) (f : Forest ℕ) → leastOf S (turn S f) ≡ S - greatestOf f
+unfolding leastOf greatestOf turn
+least-turn S end = omega arith
+least-turn S (leaf n w h rest) = omega (arith, least-turn S rest)
+least-turn S (inner n w k under rest) = omega (arith, least-turn S under, least-turn S rest)
+
+greatest-turn : (S : ℕ) (f : Forest ℕ) → greatestOf (turn S f) ≡ S - leastOf S f
+unfolding leastOf greatestOf turn
+greatest-turn S end = omega arith
+greatest-turn S (leaf n w h rest) = omega (arith, greatest-turn S rest)
+greatest-turn S (inner n w k under rest) = omega (arith, greatest-turn S under, greatest-turn S rest)
+
+own-frame-turn : (S n : ℕ) (f : Forest ℕ) → own S n (turn S f) ≡ turnFrame S (own S n f)
+own-frame-turn S n f = λ i. record { bottom = least-turn S f i; top = greatest-turn S f i; total = turn-weigh S f i }
+
 -- ---- the table u is t turned
 
-module _ (a b : List ℕ) (t u : Table) (p : readText a ≡ fine t) (q : readText b ≡ fine u) (ε : ℕ) (full : List ℕ → Bool) (turns : Turns t u) where
+-- a search found H over heights, and Z over the integers
+abbrev Found : ℤ → Seen ℕ → Seen ℤ → Type 0
+Found base H Z =
+    (Z .low ≡ base +ℤ pos (H .low)) × (Z .high ≡ base +ℤ pos (H .high)) × (nodeOf (Z .play) ≡ nodeOf (H .play)) × (Z .read ≡ H .read) × (Z .spent ≡ H .spent)
+
+-- "its low is minus the old high", "its high is minus the old low", "its play is the same child or again none" "and its reading sequence is equal entry by
+-- entry"
+abbrev pub Mirrored : (old new : Seen ℤ) → Type 0
+Mirrored old new =
+    (new .low ≡ negℤ (old .high)) × (new .high ≡ negℤ (old .low)) × (nodeOf (new .play) ≡ nodeOf (old .play)) × (new .read ≡ old .read)
+    × (new .spent ≡ old .spent)
+
+module _ (a b : List ℕ) (t u : Table) (p : readText a ≡ fine t) (q : readText b ≡ fine u) (turns : Turns t u) where
   abbrev G : ℕ
   G = grain t
 
   abbrev S : ℕ
   S = span (t .head) * G
 
-  pub same-grain : grain u ≡ grain t
-  same-grain = ap₂ (λ (h : Head) (f : Forest ℤ). grainOf (totals h) f) (turns .head) (turns .nodes) ∙ tree-grain-turned (totals (t .head)) (tree t)
+  grain-turn : grain u ≡ grain t
+  grain-turn = ap₂ (λ (h : Head) (f : Forest ℤ). grainOf (totals h) f) (turns .head) (turns .nodes) ∙ tree-grain-turned (totals (t .head)) (tree t)
 
   heights-turn : grained (grain u) (heightTree u) ≡ turn S (grained G (heightTree t))
   heights-turn =
-      ap₂ grained same-grain (heights-map u ∙ ap₂ (λ (h : Head) (f : Forest ℤ). mapForest (above (h .lowest)) f) (turns .head) (turns .nodes))
+      ap₂ grained grain-turn (heights-map u ∙ ap₂ (λ (h : Head) (f : Forest ℤ). mapForest (above (h .lowest)) f) (turns .head) (turns .nodes))
       ∙ turned-heights (t .head) (larger (t .head)) (greatest (t .lines)) G 0 0 false (tree t) (accepted-proper a t p)
       ∙ ap (λ (f : Forest ℕ). turn S (grained G f)) (sym (heights-map t))
 
   same-top : span (u .head) * grain u ≡ S
-  same-top = ap₂ _*_ (ap span (turns .head) ∙ span-turn (t .head)) same-grain
-
-  frame-turn : (f : Forest ℕ) → framed 0 S (turn S f) ≡ turnFrame S (framed 0 S f)
-  frame-turn f = let x : 0 ≡ S - S = omega arith in let y : S ≡ S - 0 = omega arith in λ i. record { bottom = x i; top = y i; total = turn-weigh S f i }
-
-  seen-turn : heightSearched u ε full ≡ turnSeen S (heightSearched t ε full)
-  seen-turn =
-      ap (λ (M : ℕ). searchRoot natural (heightRules 0 M ε full) (grained (grain u) (heightTree u))) same-top
-      ∙ ap (searchRoot natural (heightRules 0 S ε full)) heights-turn
-      ∙ turned-root S (heightRules 0 S ε full) (plain S) (λ n f. frame-turn f) (record { bottom = 0; top = S; total = 0 }) (grained G (heightTree t))
-      (le-refl S) (tree-within a t p)
+  same-top = ap₂ _*_ (ap span (turns .head) ∙ span-turn (t .head)) grain-turn
 
   -- the turned table's lowest end in grains
   base-turn : u .head .lowest *ℤ pos (grain u) ≡ negℤ (t .head .lowest *ℤ pos G +ℤ pos S)
   base-turn =
-      ap₂ (λ (h : Head) (g : ℕ). h .lowest *ℤ pos g) (turns .head) same-grain ∙ times-neg (t .head .highest) G ∙ ap negℤ (top a t p)
+      ap₂ (λ (h : Head) (g : ℕ). h .lowest *ℤ pos g) (turns .head) grain-turn ∙ times-neg (t .head .highest) G ∙ ap negℤ (top a t p)
 
   bound-turn : (x y : ℕ) → x ≡ S - y → y ≤ S → u .head .lowest *ℤ pos (grain u) +ℤ pos x ≡ negℤ (t .head .lowest *ℤ pos G +ℤ pos y)
   bound-turn x y e h = ap₂ (λ (z : ℤ) (k : ℕ). z +ℤ pos k) base-turn e ∙ turn-back (t .head .lowest *ℤ pos G) S y h
 
+  -- where what is found over heights is turned, so is what is found over the integers
+  mirrored : (old new : Seen ℕ) (Z Y : Seen ℤ) → Found (t .head .lowest *ℤ pos G) old Z → Found (u .head .lowest *ℤ pos (grain u)) new Y → new ≡ turnSeen S old
+      → (old .low ≤ old .high) × (old .high ≤ S) → Mirrored Z Y
+  mirrored old new Z Y i j e o = (
+    j .0 ∙ bound-turn (new .low) (old .high) (ap (λ (r : Seen ℕ). r .low) e) (o .1) ∙ ap negℤ (sym (i .1)),
+    j .1 ∙ bound-turn (new .high) (old .low) (ap (λ (r : Seen ℕ). r .high) e) (le-trans (o .0) (o .1)) ∙ ap negℤ (sym (i .0)),
+    j .2 ∙ ap (λ (r : Seen ℕ). nodeOf (r .play)) e ∙ turn-node S (old .play) ∙ sym (i .2),
+    j .3 ∙ ap (λ (r : Seen ℕ). r .read) e ∙ sym (i .3),
+    j .4 ∙ ap (λ (r : Seen ℕ). r .spent) e ∙ sym (i .4),
+  )
+
+  -- the turned table's search with its own index
+  module _ (ε : ℕ) where
+    own-seen-turn : heightOwn u ε unlimited ≡ turnSeen S (heightOwn t ε unlimited)
+    own-seen-turn =
+        ap (λ (M : ℕ). searchRoot natural (ownHeightRules M ε unlimited) (grained (grain u) (heightTree u))) same-top
+        ∙ ap (searchRoot natural (ownHeightRules S ε unlimited)) heights-turn
+        ∙ turned-root S (ownHeightRules S ε unlimited) (own S) (own-frame-turn S) (record { bottom = 0; top = S; total = 0 }) (grained G (heightTree t))
+        (le-refl S) (own-within a t p)
+
+    -- "The turned table is searched with its own index, and what demand 3 says of turning then holds here too"
+    pub own-turned : Mirrored (searchedOwn t ε) (searchedOwn u ε)
+    own-turned =
+        mirrored (heightOwn t ε unlimited) (heightOwn u ε unlimited) (searchedOwn t ε) (searchedOwn u ε) (own-shifted a t p ε) (own-shifted b u q ε) own-seen-turn
+        (own-order a t p ε unlimited refl)
+
+module _ (a b : List ℕ) (t u : Table) (p : readText a ≡ fine t) (q : readText b ≡ fine u) (ε : ℕ) (full : List ℕ → Bool) (turns : Turns t u) where
+  pub same-grain : grain u ≡ grain t
+  same-grain = grain-turn a b t u p q turns
+
+  seen-turn : heightSearched u ε full ≡ turnSeen (span (t .head) * grain t) (heightSearched t ε full)
+  seen-turn =
+      let S : ℕ = span (t .head) * grain t in
+      ap (λ (M : ℕ). searchRoot natural (heightRules 0 M ε full) (grained (grain u) (heightTree u))) (same-top a b t u p q turns)
+      ∙ ap (searchRoot natural (heightRules 0 S ε full)) (heights-turn a b t u p q turns)
+      ∙ turned-root S (heightRules 0 S ε full) (plain S) (frame-turn S) (record { bottom = 0; top = S; total = 0 }) (grained (grain t) (heightTree t))
+      (le-refl S) (tree-within a t p)
+
+  turned : Mirrored (searchedUntil t ε full) (searchedUntil u ε full)
+  turned =
+      mirrored a b t u p q turns (heightSearched t ε full) (heightSearched u ε full) (searchedUntil t ε full) (searchedUntil u ε full) (shifted a t p ε full)
+      (shifted b u q ε full) seen-turn (heights-order a t p ε full)
+
   -- "its low is minus the old high"
   pub turned-low : searchedUntil u ε full .low ≡ negℤ (searchedUntil t ε full .high)
-  turned-low =
-      shifted b u q ε full .0
-      ∙ bound-turn (heightSearched u ε full .low) (heightSearched t ε full .high) (ap (λ (r : Seen ℕ). r .low) seen-turn) (heights-order a t p ε full .1)
-      ∙ ap negℤ (sym (shifted a t p ε full .1))
+  turned-low = turned .0
 
   -- "its high is minus the old low"
   pub turned-high : searchedUntil u ε full .high ≡ negℤ (searchedUntil t ε full .low)
-  turned-high =
-      shifted b u q ε full .1
-      ∙ bound-turn (heightSearched u ε full .high) (heightSearched t ε full .low) (ap (λ (r : Seen ℕ). r .high) seen-turn)
-      (le-trans (heights-order a t p ε full .0) (heights-order a t p ε full .1))
-      ∙ ap negℤ (sym (shifted a t p ε full .0))
+  turned-high = turned .1
 
   -- "its play is the same child or again none"
   pub turned-play : nodeOf (searchedUntil u ε full .play) ≡ nodeOf (searchedUntil t ε full .play)
-  turned-play =
-      shifted b u q ε full .2 ∙ ap (λ (r : Seen ℕ). nodeOf (r .play)) seen-turn ∙ turn-node S (heightSearched t ε full .play) ∙ sym (shifted a t p ε full .2)
+  turned-play = turned .2
 
   -- "and its reading sequence is equal entry by entry"
   pub turned-read : searchedUntil u ε full .read ≡ searchedUntil t ε full .read
-  turned-read = shifted b u q ε full .3 ∙ ap (λ (r : Seen ℕ). r .read) seen-turn ∙ sym (shifted a t p ε full .3)
+  turned-read = turned .3
 
   -- "whether the budget was spent"
   pub turned-spent : searchedUntil u ε full .spent ≡ searchedUntil t ε full .spent
-  turned-spent = shifted b u q ε full .4 ∙ ap (λ (r : Seen ℕ). r .spent) seen-turn ∙ sym (shifted a t p ε full .4)
+  turned-spent = turned .4
+
+-- ---- the turned table's index
+
+neg-least : (y z : ℤ) → minZ (negℤ y) (negℤ z) ≡ negℤ (maxZ y z)
+neg-least y z =
+    let a : ℕ = plus y in
+    let b : ℕ = minus y in
+    let c : ℕ = plus z in
+    let d : ℕ = minus z in
+    is-unique (minZ (negℤ y) (negℤ z)) (negℤ (maxZ y z)) (b + d) (max (a + d) (c + b))
+    (is-eq (minZ (negℤ y) (negℤ z)) (min (b + c) (d + a)) (a + c) _ _ (is-min (negℤ y) (negℤ z) b a d c (is-neg y a b (parts y)) (is-neg z c d (parts z))) (omega arith))
+    (is-neg (maxZ y z) (max (a + d) (c + b)) (b + d) (is-max y z a b c d (parts y) (parts z)))
+
+neg-greatest : (y z : ℤ) → maxZ (negℤ y) (negℤ z) ≡ negℤ (minZ y z)
+neg-greatest y z =
+    let a : ℕ = plus y in
+    let b : ℕ = minus y in
+    let c : ℕ = plus z in
+    let d : ℕ = minus z in
+    is-unique (maxZ (negℤ y) (negℤ z)) (negℤ (minZ y z)) (b + d) (min (a + d) (c + b))
+    (is-eq (maxZ (negℤ y) (negℤ z)) (max (b + c) (d + a)) (a + c) _ _ (is-max (negℤ y) (negℤ z) b a d c (is-neg y a b (parts y)) (is-neg z c d (parts z))) (omega arith))
+    (is-neg (minZ y z) (min (a + d) (c + b)) (b + d) (is-min y z a b c d (parts y) (parts z)))
+
+lowest-turn : (l : List ℤ) → lowestOf (map negℤ l) ≡ negℤ (highestOf l)
+unfolding lowestOf highestOf
+lowest-turn [] = refl
+lowest-turn (x ∷ []) = refl
+lowest-turn (x ∷ y ∷ ys) = ap (minZ (negℤ x)) (lowest-turn (y ∷ ys)) ∙ neg-least x (highestOf (y ∷ ys))
+
+highest-turn : (l : List ℤ) → highestOf (map negℤ l) ≡ negℤ (lowestOf l)
+unfolding lowestOf highestOf
+highest-turn [] = refl
+highest-turn (x ∷ []) = refl
+highest-turn (x ∷ y ∷ ys) = ap (maxZ (negℤ x)) (highest-turn (y ∷ ys)) ∙ neg-greatest x (lowestOf (y ∷ ys))
+
+values-turn : (f : Forest ℤ) → valuesOf (turnTree f) ≡ map negℤ (valuesOf f)
+unfolding valuesOf turnTree
+values-turn end = refl
+values-turn (leaf n w v rest) = ap (λ l. negℤ v ∷ l) (values-turn rest)
+values-turn (inner n w k under rest) = ap₂ _++_ (values-turn under) (values-turn rest) ∙ sym (map-append negℤ (valuesOf under) (valuesOf rest))
+
+entries-turn : (f : Forest ℤ) → entries (turnTree f) ≡ map turnEntry (entries f)
+unfolding entries turnTree
+entries-turn end = refl
+entries-turn (leaf n w v rest) = ap (λ l. none ∷ l) (entries-turn rest)
+entries-turn (inner n w k under rest) =
+    ap₂ (λ (e : Ends) (l : List (Option Ends)). some e ∷ l)
+    (ap₂ (λ (x y : ℤ). record { low = x; high = y }) (ap lowestOf (values-turn under) ∙ lowest-turn (valuesOf under))
+    (ap highestOf (values-turn under) ∙ highest-turn (valuesOf under)))
+    (ap₂ _++_ (entries-turn under) (entries-turn rest) ∙ sym (map-append turnEntry (entries under) (entries rest)))
+
+pub turned-index : (t u : Table) → Turns t u → indexOf u ≡ map turnEntry (indexOf t)
+turned-index t u turns = ap entries (turns .nodes) ∙ entries-turn (tree t)
 
 -- ---- the exact worth
 

@@ -26,6 +26,23 @@ same-cond : {A : Type 0} (x : A) {y z : A} (Q : A → Type 0) (b : Bool) → (Q 
 same-cond x Q true f q = refl
 same-cond x Q false f q = f q
 
+module _ {A : Type 0} (frame : ℕ → Forest A → Frame A) where
+  -- two trees with the same nodes whose inner nodes have the same frames, pair by pair
+  abbrev pub SameFrames : Forest A → Forest A → Type 0
+  SameFrames end g = Unit {0}
+  SameFrames (leaf n w v rest) end = Unit {0}
+  SameFrames (leaf n w v rest) (leaf m x u others) = SameFrames rest others
+  SameFrames (leaf n w v rest) (inner m x c below others) = Unit {0}
+  SameFrames (inner n w k under rest) end = Unit {0}
+  SameFrames (inner n w k under rest) (leaf m x u others) = Unit {0}
+  SameFrames (inner n w k under rest) (inner m x c below others) = (frame n under ≡ frame m below) × SameFrames under below × SameFrames rest others
+
+  -- they have, where a frame does not depend on what may differ
+  pub frames-alike : {P : ℕ → Type 0} → ((n : ℕ) (x y : Forest A) → Alike P x y → frame n x ≡ frame n y) → {f g : Forest A} → Alike P f g → SameFrames f g
+  frames-alike h alike-end = tt
+  frames-alike h (alike-leaf q a) = frames-alike h a
+  frames-alike h (alike-inner {n = n} {under = under} {under2 = under2} u a) = (h n under under2 u, frames-alike h u, frames-alike h a)
+
 module _ {A : Type 0} (O : Arith A) (R : Rules A) (P : ℕ → Type 0) where
   update-read : (e : Frame A) (k : Kind) (n w : ℕ) (s : State A) (r : Seen A) → (update O e k n w s r) .read ≡ r .read
   unfolding update
@@ -75,7 +92,7 @@ module _ {A : Type 0} (O : Arith A) (R : Rules A) (P : ℕ → Type 0) where
       back-met e (s .read) (point n h (s .read)) (λ y. back-point n h (s .read) y .0) (rw update-read at (back-after e k rest _ (back e k rest _) x))
   back e k (inner n w c under rest) s x =
       let d : Frame A = R .frame n under in
-      back-met e (s .read) (seenUnder O R e k n w c under s)
+      back-met d (s .read) (seenUnder O R e k n w c under s)
       (λ y. rw begin-read at (back d c under (begin d c (lower O e k w s) (upper O e k w s) (s .read)) y))
       (rw update-read at (back-after e k rest _ (back e k rest _) x))
 
@@ -83,26 +100,27 @@ module _ {A : Type 0} (O : Arith A) (R : Rules A) (P : ℕ → Type 0) where
       → All (seenAfter O R e k f t) → seenAfter O R e k f t ≡ seenAfter O R e k g t
   same-after e k {f} {g} t a ih x = rw (← stop-alike f g t a) (same-cond (cut e k t) All (stop O (R .margin) f t) ih x)
 
-  module _ (frames : (n : ℕ) (f g : Forest A) → Alike P f g → R .frame n f ≡ R .frame n g) where
-    unread : (e : Frame A) (k : Kind) {f g : Forest A} (s : State A) → Alike P f g → All (scan O R e k f s) → scan O R e k f s ≡ scan O R e k g s
-    unfolding scan
-    unread e k s alike-end x = refl
-    unread e k s (alike-leaf {n} {w} {v} {v2} {rest} {rest2} q a) x =
-        let r : Seen A = point n v (s .read) in
-        let t : State A = update O e k n w s (met R e (s .read) r) in
-        let y : All (met R e (s .read) r) = rw update-read at (back-after e k rest t (back e k rest t) x) in
-        let same : met R e (s .read) r ≡ met R e (s .read) (point n v2 (s .read)) =
-        same-cond (metSpent e (s .read)) All (R .full (s .read)) (λ z. ap (λ y. point n y (s .read)) (q (back-point n v (s .read) z .1))) y in
-        same-after e k t a (unread e k t a) x ∙ ap (λ y. seenAfter O R e k rest2 (update O e k n w s y)) same
-    unread e k s (alike-inner {n} {w} {k = c} {under} {under2} {rest} {rest2} u a) x =
-        let r : Seen A = seenUnder O R e k n w c under s in
-        let t : State A = update O e k n w s (met R e (s .read) r) in
-        let y : All (met R e (s .read) r) = rw update-read at (back-after e k rest t (back e k rest t) x) in
-        let d : Frame A = R .frame n under in
-        let same : met R e (s .read) r ≡ met R e (s .read) (seenUnder O R e k n w c under2 s) =
-        same-cond (metSpent e (s .read)) All (R .full (s .read))
-        (λ z. unread d c _ u z ∙ ap (λ d. scan O R d c under2 (begin d c (lower O e k w s) (upper O e k w s) (s .read))) (frames n under under2 u)) y in
-        same-after e k t a (unread e k t a) x ∙ ap (λ v. seenAfter O R e k rest2 (update O e k n w s v)) same
+  unread : (e : Frame A) (k : Kind) {f g : Forest A} (s : State A) → Alike P f g → SameFrames (R .frame) f g → All (scan O R e k f s)
+      → scan O R e k f s ≡ scan O R e k g s
+  unfolding scan
+  unread e k s alike-end i x = refl
+  unread e k s (alike-leaf {n} {w} {v} {v2} {rest} {rest2} q a) i x =
+      let r : Seen A = point n v (s .read) in
+      let t : State A = update O e k n w s (met R e (s .read) r) in
+      let y : All (met R e (s .read) r) = rw update-read at (back-after e k rest t (back e k rest t) x) in
+      let same : met R e (s .read) r ≡ met R e (s .read) (point n v2 (s .read)) =
+      same-cond (metSpent e (s .read)) All (R .full (s .read)) (λ z. ap (λ y. point n y (s .read)) (q (back-point n v (s .read) z .1))) y in
+      same-after e k t a (unread e k t a i) x ∙ ap (λ y. seenAfter O R e k rest2 (update O e k n w s y)) same
+  unread e k s (alike-inner {n} {w} {k = c} {under} {under2} {rest} {rest2} u a) i x =
+      let d : Frame A = R .frame n under in
+      let r : Seen A = seenUnder O R e k n w c under s in
+      let t : State A = update O e k n w s (met R d (s .read) r) in
+      let y : All (met R d (s .read) r) = rw update-read at (back-after e k rest t (back e k rest t) x) in
+      let s2 : Frame A → State A = λ d. begin d c (lower O e k w s) (upper O e k w s) (s .read) in
+      let same : met R d (s .read) r ≡ met R (R .frame n under2) (s .read) (seenUnder O R e k n w c under2 s) =
+      same-cond (metSpent d (s .read)) All (R .full (s .read)) (unread d c (s2 d) u (i .1)) y
+      ∙ ap (λ (d : Frame A). met R d (s .read) (scan O R d c under2 (s2 d))) (i .0) in
+      same-after e k t a (unread e k t a (i .2)) x ∙ ap (λ v. seenAfter O R e k rest2 (update O e k n w s v)) same
 
 -- each number of a list is in it
 each-self : (l : List ℕ) (P : ℕ → Type 0) → ((n : ℕ) → List·Memᴰ n l → P n) → Each P l
@@ -110,26 +128,24 @@ each-self [] P h = none
 each-self (x ∷ l) P h = more (h x (List·Memᴰ·head refl)) (each-self l P (λ n m. h n (List·Memᴰ·tail m)))
 
 module _ {A : Type 0} (O : Arith A) (R : Rules A) where
-  unread-search : (P : ℕ → Type 0) (e : Frame A) (k : Kind) (f g : Forest A) → ((n : ℕ) (x y : Forest A) → Alike P x y → R .frame n x ≡ R .frame n y)
-      → Alike P f g
+  unread-search : (P : ℕ → Type 0) (e : Frame A) (k : Kind) (f g : Forest A) → Alike P f g → SameFrames (R .frame) f g
       → ((n : ℕ) → List·Memᴰ n (search O R e k f .read) → P n) → search O R e k f ≡ search O R e k g
   unfolding search
-  unread-search P e k f g frames a all =
-      same-cond (metSpent e []) (All O R P) (R .full []) (unread O R P frames e k (begin e k (e .bottom) (e .top) []) a)
+  unread-search P e k f g a i all =
+      same-cond (metSpent e []) (All O R P) (R .full []) (unread O R P e k (begin e k (e .bottom) (e .top) []) a i)
       (each-self (search O R e k f .read) P all)
 
-  -- The root's own frame, like every other, may not depend on leaves that are not read.
-  unread-from : (P : ℕ → Type 0) (f g : Forest A) → ((n : ℕ) (x y : Forest A) → Alike P x y → R .frame n x ≡ R .frame n y) → Alike P f g
+  unread-from : (P : ℕ → Type 0) (f g : Forest A) → Alike P f g → SameFrames (R .frame) f g
       → ((n : ℕ) → List·Memᴰ n (searchRoot O R f .read) → P n) → searchRoot O R f ≡ searchRoot O R g
   unfolding searchRoot point
-  unread-from P f g frames alike-end all = refl
-  unread-from P f g frames (alike-leaf {n} {w} {v} {v2} {rest} q a) all =
+  unread-from P f g alike-end i all = refl
+  unread-from P f g (alike-leaf {n} {w} {v} {v2} {rest} q a) i all =
       same-cond (metSpent (R .frame n end) []) (All O R P) (R .full []) (λ z. ap (λ (x : A). point n x []) (q (back-point O R P n v [] z .1)))
       (each-self (searchRoot O R (leaf n w v rest) .read) P all)
-  unread-from P f g frames (alike-inner {n} {w} {k} {under} {under2} u a) all =
-      unread-search P (R .frame n under) k under under2 frames u all ∙ ap (λ (e : Frame A). search O R e k under2) (frames n under under2 u)
+  unread-from P f g (alike-inner {n} {w} {k} {under} {under2} u a) i all =
+      unread-search P (R .frame n under) k under under2 u (i .1) all ∙ ap (λ (e : Frame A). search O R e k under2) (i .0)
 
-  -- trees that differ in unread leaves alone have the same answer
-  pub unread-root : (f g : Forest A) → ((n : ℕ) (x y : Forest A) → Alike (ReadBy (searchRoot O R f)) x y → R .frame n x ≡ R .frame n y)
-      → Alike (ReadBy (searchRoot O R f)) f g → searchRoot O R f ≡ searchRoot O R g
-  unread-root f g frames a = unread-from (ReadBy (searchRoot O R f)) f g frames a (λ n m. m)
+  -- trees that differ in unread leaves alone, and in no frame, have the same answer
+  pub unread-root : (f g : Forest A) → Alike (ReadBy (searchRoot O R f)) f g → SameFrames (R .frame) f g
+      → searchRoot O R f ≡ searchRoot O R g
+  unread-root f g a i = unread-from (ReadBy (searchRoot O R f)) f g a i (λ n m. m)

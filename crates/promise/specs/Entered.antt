@@ -1,4 +1,4 @@
--- The children that a search enters, and the best of them. Document 01, 'The search', and document 02, Items 3 and 6.
+-- The children that a search enters, and the best of them. Document 01, 'The search', and document 02, Items 3, 6 and 14.
 use Prim.Native.Nat.{ℕ}
 use mathlib.Core.Path.{_≡_}
 use mathlib.Core.Bool.{Bool, true, false, cond}
@@ -8,7 +8,7 @@ use Rattle.table.specs.Tree.{Kind, Forest, end, leaf, inner}
 use Rattle.table.specs.Table.{Table, tree, grain}
 use Rattle.table.specs.Root.{Side, AtM, AtN}
 use Rattle.search.specs.Search.{Frame, Seen, State, Arith, Rules, below, begin, point, met, update, stop, enter, scan}
-use Rattle.search.specs.Whole.{whole, inGrains, rules}
+use Rattle.search.specs.Whole.{whole, inGrains, rules, wholeOwn, ownRules}
 
 -- a child entered, with the bounds that its search gave
 pub record Entered (A : Type 0) : Type 0 where
@@ -31,7 +31,7 @@ module _ {A : Type 0} where
         asEntered n r ∷ cond (stop O (R .margin) rest t) [] (entered e k rest t)
     entered e k (inner n w c under rest) s =
         let d : Frame A = R .frame n under in
-        let r : Seen A = met R e (s .read) (scan O R d c under (enter O e k w d c s)) in
+        let r : Seen A = met R d (s .read) (scan O R d c under (enter O e k w d c s)) in
         let t : State A = update O e k n w s r in
         asEntered n r ∷ cond (stop O (R .margin) rest t) [] (entered e k rest t)
 
@@ -60,3 +60,7 @@ module _ {A : Type 0} where
 -- in the search of a table at the margin ε, until the budget is spent
 abbrev pub enteredOf : Table → (ε : ℕ) (full : List ℕ → Bool) → List (Entered ℤ)
 enteredOf t ε full = enteredRoot whole (rules t ε full) (inGrains (grain t) (tree t))
+
+-- in the search of a table at the margin ε with its index
+abbrev pub enteredOwn : Table → (ε : ℕ) → List (Entered ℤ)
+enteredOwn t ε = enteredRoot wholeOwn (ownRules ε) (inGrains (grain t) (tree t))

@@ -86,7 +86,7 @@ pub between-point : (e : Frame ℕ) (n h : ℕ) (l : List ℕ) → e .bottom ≤
 unfolding point
 between-point e n h l p q = (p, le-refl h, q)
 
-between-under : (e d : Frame ℕ) (r : Seen ℕ) → e .bottom ≤ d .bottom → d .top ≤ e .top → Between d r → Between e r
+pub between-under : (e d : Frame ℕ) (r : Seen ℕ) → e .bottom ≤ d .bottom → d .top ≤ e .top → Between d r → Between e r
 between-under e d r p q b = (le-trans p (b .0), b .1, le-trans (b .2) q)
 
 module _ (R : Rules ℕ) where
@@ -106,9 +106,10 @@ module _ (R : Rules ℕ) where
       between-after e k rest _ q j (between-scan e k rest _ q (y .2) j)
   between-scan e k (inner n w c under rest) s q y i =
       let d : Frame ℕ = R .frame n under in
-      let b = between-under e d (sumsUnder heightSums natural R e k n w c under s) (y .0) (y .1)
+      let r : Seen ℕ = sumsUnder heightSums natural R e k n w c under s in
+      let b = between-met d (s .read) r
       (between-scan d c under _ (y .2 .paid) (y .3) (ranked-begin d c under (lower naturalSums e k w s) (upper naturalSums e k w s) (s .read) (y .2))) in
-      let j = ranked-update e k n w (weigh rest) s _ (between-met e (s .read) (sumsUnder heightSums natural R e k n w c under s) b) i in
+      let j = ranked-update e k n w (weigh rest) s _ (between-under e d (met R d (s .read) r) (y .0) (y .1) b) i in
       between-after e k rest _ q j (between-scan e k rest _ q (y .4) j)
 
   -- whatever the window

@@ -157,7 +157,7 @@ module _ {A : Type 0} where
           let s2 : State A = begin d c (lower O e k w s) (upper O e k w s) (s .read) in
           let g = grown d c under s2 refl in
           run-step e k n w rest s (scan O P d c under s2) _ (g .2)
-          (run-met e (s .read) _ _ h g (reads d c under s2 (i .1) (i .0)) (λ _. run d c under s2 (i .1) refl h)) (λ t o y. run e k rest t (i .2) o y)
+          (run-met d (s .read) _ _ h g (reads d c under s2 (i .1) (i .0)) (λ _. run d c under s2 (i .1) refl h)) (λ t o y. run e k rest t (i .2) o y)
 
       -- the whole search of a root
       run-root : (f : Forest A) → Rooted f → Filled f → Run (searchRoot O P f) (searchRoot O B f)
@@ -197,6 +197,10 @@ module _ {A : Type 0} where
       -- not spent: the same answer
       pub unspent-same : searchRoot O (B b) f .spent ≡ false → searchRoot O (B b) f ≡ searchRoot O P f
       unspent-same z = run-same b (searchRoot O P f) (searchRoot O (B b) f) z (run-root b f r i)
+
+      -- as where no more leaves are read
+      pub enough : length (searchRoot O P f .read) ≤ b → searchRoot O (B b) f ≡ searchRoot O P f
+      enough h = unspent-same (spent-where ∙ le-ltb b (length (searchRoot O P f .read)) h)
 
       -- spent or not: the first b leaves
       pub first-reads : searchRoot O (B b) f .read ≡ take b (searchRoot O P f .read)

@@ -46,6 +46,11 @@ module _ (frame : ℕ → Forest ℕ → Frame ℕ) where
       let v = bound-seal (frame n under) c _ under (i .2) (bound (frame n under) c under _ (i .3)) in
       bound-step e k w _ a _ _ (le-trans (i .0) (v .0), le-trans (v .1) (i .1)) (bound e k rest _ (i .4))
 
+  -- a node's worth lies between its ends
+  pub inside : (e : Frame ℕ) (k : Kind) (f : Forest ℕ) → Sound e k f → Within frame e f → Inside e (worth frame e k f)
+  unfolding worth
+  inside e k f q i = bound-seal e k _ f q (bound e k f (start e k) i)
+
 -- what a node gave contains its worth v, and lies in the frame
 abbrev pub Holding : Frame ℕ → ℕ → Seen ℕ → Type 0
 Holding e v r = (e .bottom ≤ r .low) × (r .low ≤ v) × (v ≤ r .high) × (r .high ≤ e .top)
@@ -87,7 +92,7 @@ pub hold-under : (e d : Frame ℕ) (v : ℕ) (r : Seen ℕ) → e .bottom ≤ d 
 hold-under e d v r p q h = (le-trans p (h .0), h .1, h .2, le-trans (h .3) q)
 
 module _ (R : Rules ℕ) where
-  -- a node met unread lies between its parent's ends
+  -- a node met unread lies between the two ends
   pub hold-met : (e : Frame ℕ) (l : List ℕ) (v : ℕ) (r : Seen ℕ) → Holding e v r → Holding e v (met R e l r)
   hold-met e l v r h =
       choose (Holding e v) (R .full l) (λ _. hold-spent e v l (le-trans (h .0) (h .1), le-trans (h .2) (h .3))) (λ _. h)
@@ -124,9 +129,8 @@ module _ (R : Rules ℕ) where
   contain e k (inner n w c under rest) s a q i j =
       let d : Frame ℕ = R .frame n under in
       let r : Seen ℕ = seenUnder natural R e k n w c under s in
-      let u = hold-under e d _ r (i .0) (i .1)
-      (contain d c under _ _ (i .2 .paid) (i .3) (kept-begin d c under (lower natural e k w s) (upper natural e k w s) (s .read) (i .2))) in
-      let j2 = kept-update e k n w (weigh rest) s a _ _ j (hold-met e (s .read) _ r u) in
+      let u = contain d c under _ _ (i .2 .paid) (i .3) (kept-begin d c under (lower natural e k w s) (upper natural e k w s) (s .read) (i .2)) in
+      let j2 = kept-update e k n w (weigh rest) s a _ _ j (hold-under e d _ (met R d (s .read) r) (i .0) (i .1) (hold-met d (s .read) _ r u)) in
       kept-after e k rest _ _ q (i .4) j2 (contain e k rest _ _ q (i .4) j2)
 
   -- low ≤ worth ≤ high inside the frame, whatever the window

@@ -58,7 +58,7 @@ module _ (R : Rules ℕ) where
   even-update e CHANCE g n w s r q h x i =
       (dvd-add g (i .0) (share-grade (e .total) g w q (dvd-sub (e .total * g) (x .0) (h .0))), dvd-sub g (i .1) (share-grade (e .total) g w q (dvd-sub (e .total * g) (h .1) (x .1))))
 
-  -- a node met unread has its parent's ends
+  -- a node met unread has the two ends
   pub even-met : (e : Frame ℕ) (l : List ℕ) (r : Seen ℕ) (g : ℕ) → Even g e → EvenR g r → EvenR g (met R e l r)
   unfolding metSpent
   even-met e l r g h x = choose (EvenR g) (R .full l) (λ _. h) (λ _. x)
@@ -80,6 +80,6 @@ module _ (R : Rules ℕ) where
       let u = even d c under _ (grade e k g) (y .2 .paid) (y .3) (i .0) (i .1)
       (even-begin d c (grade e k g) (lower natural e k w s) (upper natural e k w s) (s .read) lo) in
       let r : Seen ℕ = seenUnder natural R e k n w c under s in
-      let t : State ℕ = update natural e k n w s (met R e (s .read) r) in
-      let j2 = even-update e k g n w s (met R e (s .read) r) q h (even-met e (s .read) r (grade e k g) h u) j in
+      let t : State ℕ = update natural e k n w s (met R d (s .read) r) in
+      let j2 = even-update e k g n w s (met R d (s .read) r) q h (even-met d (s .read) r (grade e k g) lo u) j in
       even-after e k rest t g h j2 (even e k rest t g q (y .4) h (i .2) j2)

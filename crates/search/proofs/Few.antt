@@ -41,10 +41,10 @@ module _ {A : Type 0} (O : Arith A) (R : Rules A) where
       few-after e k rest t _ (omega arith) (omega (arith, few-scan e k rest t))
   few-scan e k (inner n w c under rest) s =
       let r : Seen A = seenUnder O R e k n w c under s in
-      let t : State A = update O e k n w s (met R e (s .read) r) in
       let d : Frame A = R .frame n under in
+      let t : State A = update O e k n w s (met R d (s .read) r) in
       let some = few-scan d c under (begin d c (lower O e k w s) (upper O e k w s) (s .read)) in
-      let got : length (t .read) ≤ length (s .read) + leaves under = few-met e (s .read) r _ (omega arith) some in
+      let got : length (t .read) ≤ length (s .read) + leaves under = few-met d (s .read) r _ (omega arith) some in
       few-after e k rest t _ (omega arith) (omega (arith, few-scan e k rest t))
 
   pub few-reads : (f : Forest A) → length (searchRoot O R f .read) ≤ leaves f
@@ -92,7 +92,7 @@ module _ {A : Type 0} (O : Arith A) (R : Rules A) (P : ℕ → Type 0) where
       let j = among-update e k m w s (met R e (s .read) (point m v (s .read))) (h .0) i in
       among-after e k rest _ j (among-scan e k rest _ (h .1) j)
   among-scan e k (inner m w c under rest) s h i =
-      let j = among-update e k m w s (met R e (s .read) (seenUnder O R e k m w c under s)) (h .0) i in
+      let j = among-update e k m w s (met R (R .frame m under) (s .read) (seenUnder O R e k m w c under s)) (h .0) i in
       among-after e k rest _ j (among-scan e k rest _ (h .1) j)
 
   among-met : (e : Frame A) (l : List ℕ) (r : Seen A) → Among (r .play) → Among (met R e l r .play)

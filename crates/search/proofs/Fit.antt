@@ -1,7 +1,7 @@
 -- What divides the heights of an accepted table, in grains. Assumes nothing.
 use Prim.Native.Nat.{ℕ, _*_, _∣_}
 use mathlib.Core.Path.{_≡_, ap}
-use native.Mathlib.Nat.{dvd-mul-left-of-dvd, dvd-zero}
+use native.Mathlib.Nat.{dvd-mul-left-of-dvd, dvd-mul-left, dvd-trans, dvd-zero}
 use Rattle.table.specs.Tree.{Kind, Forest, end, leaf, inner, weigh}
 use Rattle.table.proofs.Totals as sums
 use Rattle.table.proofs.Totals.{Divided}
@@ -24,16 +24,20 @@ Fit frame g (leaf n w h rest) = (g ∣ h) × Fit frame g rest
 Fit frame g (inner n w k under rest) =
     Even (grade (frame n under) k g) (frame n under) × Fit frame (grade (frame n under) k g) under × Fit frame g rest
 
-module _ (S G : ℕ) where
+-- where G divides the ends of every frame, and the sums on each path divide the grain count
+module _ (G : ℕ) (bottom top : Forest ℕ → ℕ) (ends : (f : Forest ℕ) → (G ∣ bottom (grained G f)) × (G ∣ top (grained G f))) where
   -- a C's own sum is the total of its frame
-  grade-own : (k : Kind) (g : ℕ) (f : Forest ℕ) → grade (framed 0 (S * G) (grained G f)) k g ≡ sums.grade k (weigh f) g
+  grade-own : (k : Kind) (g : ℕ) (f : Forest ℕ) → grade (framed (bottom (grained G f)) (top (grained G f)) (grained G f)) k g ≡ sums.grade k (weigh f) g
   grade-own k g f = ap (λ (x : ℕ). sums.grade k x g) (grained-weigh G f)
 
-  -- where the sums on each path divide the grain count
-  pub fit : (g : ℕ) (f : Forest ℕ) → Divided G g f → Fit (plain (S * G)) g (grained G f)
+  pub fit-by : (g : ℕ) (f : Forest ℕ) → Divided G g f → Fit (λ (n : ℕ) (f : Forest ℕ). framed (bottom f) (top f) f) g (grained G f)
   unfolding grained
-  fit g end d = tt
-  fit g (leaf n w h rest) d = (dvd-mul-left-of-dvd g (d .0) h, fit g rest (d .1))
-  fit g (inner n w k under rest) d =
+  fit-by g end d = tt
+  fit-by g (leaf n w h rest) d = (dvd-mul-left-of-dvd g (d .0) h, fit-by g rest (d .1))
+  fit-by g (inner n w k under rest) d =
       let j : ℕ = sums.grade k (weigh under) g in
-      rw (grade-own k g under) ((dvd-zero j, dvd-mul-left-of-dvd j (d .0) S), fit j under (d .1), fit g rest (d .2))
+      rw (grade-own k g under) ((dvd-trans j (d .0) (ends under .0), dvd-trans j (d .0) (ends under .1)), fit-by j under (d .1), fit-by g rest (d .2))
+
+-- the table's ends
+pub fit : (S G g : ℕ) (f : Forest ℕ) → Divided G g f → Fit (plain (S * G)) g (grained G f)
+fit S G = fit-by G (λ _. 0) (λ _. S * G) (λ f. (dvd-zero G, dvd-mul-left G S))

@@ -57,22 +57,22 @@ module _ {A : Type 0} where
           ∙ ap₂ (λ (a : State A) (b : Seen A). cond (stop O (R .margin) rest a) (bare (cut e k a)) b) x y
           ∙ cond-map bare (cut e k t) (scan P R e k rest t) (stop O (R .margin) rest t)
 
-      -- a child has given r by the one rule and q by the other
-      step-bare : (e : Frame A) (k : Kind) (n w : ℕ) (rest : Forest A) (s t : State A) (r q : Seen A) → bareState s ≡ bareState t → bare r ≡ bare q
+      -- a child has given r by the one rule and q by the other; unread it has d's ends
+      step-bare : (e d : Frame A) (k : Kind) (n w : ℕ) (rest : Forest A) (s t : State A) (r q : Seen A) → bareState s ≡ bareState t → bare r ≡ bare q
           → ((a b : State A) → bareState a ≡ bareState b → bare (scan O R e k rest a) ≡ bare (scan P R e k rest b))
-          → bare (seenAfter O R e k rest (update O e k n w s (met R e (s .read) r))) ≡ bare (seenAfter P R e k rest (update P e k n w t (met R e (t .read) q)))
-      step-bare e k n w rest s t r q x y ih =
-          let z = update-bare e k n w s t _ _ x (met-bare e (s .read) (t .read) r q (ap (λ (a : State A). a .read) x) y) in
+          → bare (seenAfter O R e k rest (update O e k n w s (met R d (s .read) r))) ≡ bare (seenAfter P R e k rest (update P e k n w t (met R d (t .read) q)))
+      step-bare e d k n w rest s t r q x y ih =
+          let z = update-bare e k n w s t _ _ x (met-bare d (s .read) (t .read) r q (ap (λ (a : State A). a .read) x) y) in
           after-bare e k rest _ _ z (ih _ _ z)
 
       scan-bare : (e : Frame A) (k : Kind) (f : Forest A) (s t : State A) → bareState s ≡ bareState t → bare (scan O R e k f s) ≡ bare (scan P R e k f t)
       unfolding scan finish begin
       scan-bare e k end s t x = ap (λ (a : State A). bare (finish a)) x
       scan-bare e k (leaf n w v rest) s t x =
-          step-bare e k n w rest s t (point n v (s .read)) (point n v (t .read)) x (ap (λ (a : State A). bare (point n v (a .read))) x) (λ a b. scan-bare e k rest a b)
+          step-bare e e k n w rest s t (point n v (s .read)) (point n v (t .read)) x (ap (λ (a : State A). bare (point n v (a .read))) x) (λ a b. scan-bare e k rest a b)
       scan-bare e k (inner n w c under rest) s t x =
           let d : Frame A = R .frame n under in
-          step-bare e k n w rest s t (seenUnder O R e k n w c under s) (seenUnder P R e k n w c under t) x
+          step-bare e d k n w rest s t (seenUnder O R e k n w c under s) (seenUnder P R e k n w c under t) x
           (scan-bare d c under _ _ (λ i. bareState (begin d c (lower-bare e k w s t x i) (upper-bare e k w s t x i) (x i .read)))) (λ a b. scan-bare e k rest a b)
 
       pub root-bare : (f : Forest A) → bare (searchRoot O R f) ≡ bare (searchRoot P R f)

@@ -21,6 +21,12 @@ use Rattle.search.proofs.Heights.{Sound, Within, Pays, Positive, shift}
 abbrev pub plain : ℕ → ℕ → Forest ℕ → Frame ℕ
 plain S n f = framed 0 S f
 
+pub grained-map : (G : ℕ) (f : Forest ℕ) → grained G f ≡ mapForest (λ (h : ℕ). h * G) f
+unfolding grained
+grained-map G end = refl
+grained-map G (leaf n w h rest) = ap (leaf n w (h * G)) (grained-map G rest)
+grained-map G (inner n w k under rest) = ap₂ (inner n w k) (grained-map G under) (grained-map G rest)
+
 pub grained-weigh : (G : ℕ) (f : Forest ℕ) → weigh (grained G f) ≡ weigh f
 unfolding grained weigh
 grained-weigh G end = refl
@@ -32,6 +38,12 @@ unfolding grained leaves
 grained-leaves G end = refl
 grained-leaves G (leaf n w h rest) = ap (λ (a : ℕ). 1 + a) (grained-leaves G rest)
 grained-leaves G (inner n w k under rest) = ap₂ (λ (a b : ℕ). a + b) (grained-leaves G under) (grained-leaves G rest)
+
+pub grains-map : (G : ℕ) (f : Forest ℤ) → inGrains G f ≡ mapForest (λ (z : ℤ). z *ℤ pos G) f
+unfolding inGrains
+grains-map G end = refl
+grains-map G (leaf n w u rest) = ap (leaf n w (u *ℤ pos G)) (grains-map G rest)
+grains-map G (inner n w k under rest) = ap₂ (inner n w k) (grains-map G under) (grains-map G rest)
 
 -- grains change no leaf's place
 pub grains-leaves : (G : ℕ) (f : Forest ℤ) → leaves (inGrains G f) ≡ leaves f

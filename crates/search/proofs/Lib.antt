@@ -17,4 +17,5 @@ pub mod Times
 pub mod Sums
 pub mod Between
 pub mod Summed
+pub mod Own
 pub mod Worked

@@ -1,22 +1,22 @@
 -- The divisions of lines 20 and 21 leave no remainder: over heights, and so over the integers, where both searches are walked side by side. Assumes nothing.
 use Prim.Native.Nat.{ℕ, _+_, _*_, _-_, _/_, _≤_, _<_}
 use mathlib.Core.Path.{_≡_, refl, sym, ap, _∙_}
-use mathlib.Core.Bool.{false}
+use mathlib.Core.Bool.{Bool, false, not}
 use mathlib.Core.List.{[]}
 use native.Mathlib.Nat.{dvd-sub, mul-div-le, lt-mul-div-succ, mul-sub, mul-le-mul-left, le-trans}
 use native.Mathlib.Omega.{arith}
+use lib.Dec.{T as Holds}
 use lib.IntN.{ℤ, pos, _+ℤ_, _-ℤ_, _*ℤ_}
 use Rattle.numbers.specs.Integers.{floorZ}
 use Rattle.numbers.proofs.Signs.{Is, is-unique, is-eq, is-minus, is-mul, is-floor}
 use Rattle.table.specs.Tree.{Kind, MAX, MIN, CHANCE, Forest, end, leaf, inner, isEnd, weigh}
-use Rattle.search.specs.Search.{Frame, Seen, State, Rules, begin, point, met, lower, upper, enter, update, stop}
-use Rattle.search.specs.Whole.{whole}
+use Rattle.search.specs.Search.{Frame, Seen, State, Arith, Rules, begin, point, met, lower, upper, enter, update, stop}
 use Rattle.search.specs.Inside.{natural}
 use Rattle.search.proofs.Steps.{seenUnder}
 use Rattle.search.proofs.Heights.{Paid, Within, Positive, shift}
 use Rattle.search.proofs.Contain.{Holding, hold-point, hold-under, hold-met, contained}
 use Rattle.search.proofs.Safe.{Safe, safe-begin, safe-lower, safe-upper, safe-update}
-use Rattle.search.proofs.Shift.{Rel, RelFrame, RelState, RelSeen, Open, rel-begin, rel-lower, rel-upper, rel-update, rel-point, rel-met, rel-stop, open-begin, open-update, shifted}
+use Rattle.search.proofs.Shift.{wholeBy, Rel, RelFrame, RelFrames, RelFramesRoot, RelState, RelSeen, Open, rel-begin, rel-lower, rel-upper, rel-update, rel-point, rel-met, rel-stop, open-begin, open-update, shifted}
 use Rattle.search.specs.Exact.{AtChance, EachTaken, EachTakenRoot, WholeQuotients}
 use Rattle.search.proofs.Fit.{grade, Even, Fit}
 use Rattle.search.proofs.Exact.{share, even, EvenR, even-begin, even-met, below}
@@ -46,10 +46,10 @@ module _ (R : Rules ℕ) where
       let j : ℕ = grade e k g in
       let la : ℕ = lower natural e k w s in
       let ub : ℕ = upper natural e k w s in
+      let lo : Even j d = (below d c j (i .0 .0), below d c j (i .0 .1)) in
       let u : EvenR j (seenUnder natural R e k n w c under s) =
-      even R d c under (begin d c la ub (s .read)) j (y .2 .paid) (y .3) (i .0) (i .1)
-      (even-begin d c j la ub (s .read) (below d c j (i .0 .0), below d c j (i .0 .1))) in (
-        whole-at e k g w _ h (even-met R e (s .read) (seenUnder natural R e k n w c under s) j h u),
+      even R d c under (begin d c la ub (s .read)) j (y .2 .paid) (y .3) (i .0) (i .1) (even-begin d c j la ub (s .read) lo) in (
+        whole-at e k g w _ h (even-met R d (s .read) (seenUnder natural R e k n w c under s) j lo u),
         λ _. whole-heights d c under (begin d c la ub (s .read)) j (y .2 .paid) (y .3) (i .0) (i .1),
         λ _. whole-heights e k rest _ g q (y .4) h (i .2),
       )
@@ -78,9 +78,17 @@ module _ (p q : ℕ) where
       (is-mul w (y -ℤ z) (p + a + q) (q + (p + b)) (is-minus y z (p + a) q (p + b) q i j))
       (omega (arith, mul-sub w a b, mul-le-mul-left w le)) h
 
-  module _ (Lo : ℤ) (isLo : Is Lo p q) (S : ℕ) (R : Rules ℕ) (frameZ : ℕ → Forest ℤ → Frame ℤ)
-      (frames : (n : ℕ) (f : Forest ℕ) → RelFrame p q (R .frame n f) (frameZ n (shift Lo f)))
-      (flat : (n : ℕ) (f : Forest ℕ) → (R .frame n f .bottom ≡ 0) × (R .frame n f .top ≡ S)) where
+  module _ (clamp : Bool) (Lo : ℤ) (isLo : Is Lo p q) (S : ℕ) (R : Rules ℕ) (frameZ : ℕ → Forest ℤ → Frame ℤ)
+      (flat : Holds (not clamp) → (n : ℕ) (f : Forest ℕ) → (R .frame n f .bottom ≡ 0) × (R .frame n f .top ≡ S)) where
+    abbrev whole : Arith ℤ
+    whole = wholeBy clamp
+
+    abbrev Met : Forest ℕ → Type 0
+    Met f = RelFrames p q clamp Lo isLo S R frameZ flat f
+
+    abbrev MetRoot : Forest ℕ → Type 0
+    MetRoot f = RelFramesRoot p q clamp Lo isLo S R frameZ flat f
+
     abbrev Z : Rules ℤ
     Z = record { frame = frameZ; margin = R .margin; full = R .full }
 
@@ -118,8 +126,8 @@ module _ (p q : ℕ) where
     EachPair e ez k (inner n w c under rest) s z =
         let d : Frame ℕ = R .frame n under in
         let dz : Frame ℤ = frameZ n (shift Lo under) in
-        let r : Seen ℕ = met R e (s .read) (seenUnder natural R e k n w c under s) in
-        let x : Seen ℤ = met Z ez (z .read) (seenUnder whole Z ez k n w c (shift Lo under) z) in
+        let r : Seen ℕ = met R d (s .read) (seenUnder natural R e k n w c under s) in
+        let x : Seen ℤ = met Z dz (z .read) (seenUnder whole Z ez k n w c (shift Lo under) z) in
         Pair e ez k n w s z r x
         × (R .full (s .read) ≡ false → EachPair d dz c under (enter natural e k w d c s) (enter whole ez k w dz c z))
         × (stop natural (R .margin) rest (update natural e k n w s r) ≡ false → EachPair e ez k rest (update natural e k n w s r) (update whole ez k n w z x))
@@ -127,52 +135,52 @@ module _ (p q : ℕ) where
     pair : (e : Frame ℕ) (ez : Frame ℤ) (k : Kind) (n w W : ℕ) (s : State ℕ) (z : State ℤ) (r : Seen ℕ) (x : Seen ℤ) (v : ℕ)
         → RelFrame p q e ez → Holding e v r → Safe S e k (w + W) s → RelState p q s z → RelSeen p q r x → Pair e ez k n w s z r x
     pair e ez k n w W s z r x v f h j i o =
-        record { frame = f; before = i; seen = o; after = rel-update p q S e ez k n w W s z r x f (h .0) (le-trans (h .1) (h .2)) (h .3) j i o; worth = v; held = h; others = w + W; safe = j }
+        record { frame = f; before = i; seen = o; after = rel-update p q clamp S e ez k n w W s z r x f (h .0) (le-trans (h .1) (h .2)) (h .3) j i o; worth = v; held = h; others = w + W; safe = j }
 
     -- what is left to do once a child has given r, over the integers x
     pair-rest : (e : Frame ℕ) (ez : Frame ℤ) (k : Kind) (n w : ℕ) (rest : Forest ℕ) (s : State ℕ) (z : State ℤ) (r : Seen ℕ) (x : Seen ℤ) (v : ℕ)
         → e .top ≤ S → Holding e v r → Safe S e k (w + weigh rest) s → RelState p q (update natural e k n w s r) (update whole ez k n w z x)
-        → ((t : State ℕ) (y : State ℤ) → Safe S e k (weigh rest) t → Open k (isEnd rest) t → RelState p q t y → EachPair e ez k rest t y)
+        → ((t : State ℕ) (y : State ℤ) → Safe S e k (weigh rest) t → Open clamp k (isEnd rest) t → RelState p q t y → EachPair e ez k rest t y)
         → stop natural (R .margin) rest (update natural e k n w s r) ≡ false → EachPair e ez k rest (update natural e k n w s r) (update whole ez k n w z x)
     pair-rest e ez k n w rest s z r x v t h j i ih d =
         ih (update natural e k n w s r) (update whole ez k n w z x) (safe-update S e k n w (weigh rest) s r t (h .0) (le-trans (h .1) (h .2)) (h .3) j)
-        (open-update (R .margin) e k n w s r rest (rw d tt)) i
+        (open-update clamp (R .margin) e k n w s r rest (rw d tt)) i
 
     pairs : (e : Frame ℕ) (ez : Frame ℤ) (k : Kind) (f : Forest ℕ) (s : State ℕ) (z : State ℤ) → RelFrame p q e ez → e .bottom ≤ e .top → e .top ≤ S
-        → Within (R .frame) e f → Positive k f → Safe S e k (weigh f) s → Open k (isEnd f) s → RelState p q s z → EachPair e ez k f s z
+        → Met f → Within (R .frame) e f → Positive k f → Safe S e k (weigh f) s → Open clamp k (isEnd f) s → RelState p q s z → EachPair e ez k f s z
     unfolding weigh
-    pairs e ez k end s z f b t i o j r g = tt
-    pairs e ez k (leaf n w h rest) s z f b t i o j r g =
+    pairs e ez k end s z f b t m i o j r g = tt
+    pairs e ez k (leaf n w h rest) s z f b t m i o j r g =
         let y : Seen ℕ = met R e (s .read) (point n h (s .read)) in
         let yz : Seen ℤ = met Z ez (z .read) (point n (Lo +ℤ pos h) (z .read)) in
         let v = hold-met R e (s .read) h (point n h (s .read)) (hold-point e n h (s .read) (i .0, i .1)) in
-        let u : RelSeen p q y yz = rel-met p q Lo isLo S R frameZ frames flat e ez (s .read) (z .read) _ _ f (g .read)
-        (rel-point p q Lo isLo S R frameZ frames flat n h (s .read) (z .read) (g .read)) in
+        let u : RelSeen p q y yz = rel-met p q clamp Lo isLo S R frameZ flat e ez (s .read) (z .read) _ _ (λ _. f) (g .read)
+        (rel-point p q clamp Lo isLo S R frameZ flat n h (s .read) (z .read) (g .read)) in
         let x = pair e ez k n w (weigh rest) s z y yz h f v j g u in
-        (x, pair-rest e ez k n w rest s z y yz h t v j (x .after) (λ x y j2 r2 g2. pairs e ez k rest x y f b t (i .2) (o .1) j2 r2 g2))
-    pairs e ez k (inner n w c under rest) s z f b t i o j r g =
+        (x, pair-rest e ez k n w rest s z y yz h t v j (x .after) (λ x y j2 r2 g2. pairs e ez k rest x y f b t m (i .2) (o .1) j2 r2 g2))
+    pairs e ez k (inner n w c under rest) s z f b t m i o j r g =
         let d : Frame ℕ = R .frame n under in
         let dz : Frame ℤ = frameZ n (shift Lo under) in
         let la : ℕ = lower natural e k w s in
         let ub : ℕ = upper natural e k w s in
         let x : Seen ℕ = seenUnder natural R e k n w c under s in
-        let y : Seen ℕ = met R e (s .read) x in
-        let yz : Seen ℤ = met Z ez (z .read) (seenUnder whole Z ez k n w c (shift Lo under) z) in
-        let v = hold-met R e (s .read) _ x (hold-under e d _ x (i .0) (i .1) (contained R d c under la ub (s .read) (i .2) (i .3))) in
+        let y : Seen ℕ = met R d (s .read) x in
+        let yz : Seen ℤ = met Z dz (z .read) (seenUnder whole Z ez k n w c (shift Lo under) z) in
+        let v = hold-under e d _ y (i .0) (i .1) (hold-met R d (s .read) _ x (contained R d c under la ub (s .read) (i .2) (i .3))) in
         let la-fits : la ≤ S = safe-lower S e k w _ s (le-trans b t) t j in
         let ub-fits : ub ≤ S = safe-upper S e k w _ s t j in
         let s2 : State ℕ = begin d c la ub (s .read) in
         let z2 : State ℤ = begin dz c (lower whole ez k w z) (upper whole ez k w z) (z .read) in
         let j2 = safe-begin S d c under la ub (s .read) (i .2) (le-trans (i .1) t) la-fits ub-fits in
-        let r2 = open-begin d c (isEnd under) la ub (s .read) (let q = flat n under in (rw (q .0) (omega arith), rw (q .1) la-fits)) in
-        let g2 = rel-begin p q d dz c la ub (lower whole ez k w z) (upper whole ez k w z) (s .read) (z .read) (frames n under)
-        (rel-lower p q e ez k w s z (o .0) b f r g) (rel-upper p q e ez k w s z (o .0) b f r g) (g .read) in
-        let u : RelSeen p q y yz = rel-met p q Lo isLo S R frameZ frames flat e ez (s .read) (z .read) _ _ f (g .read)
-        (shifted p q Lo isLo S R frameZ frames flat d dz c under s2 z2 (frames n under) (i .2 .ends) (le-trans (i .1) t) (i .3) (o .1) j2 r2 g2) in
+        let r2 = open-begin clamp d c (isEnd under) la ub (s .read) (λ x. let q = flat x n under in (rw (q .0) (omega arith), rw (q .1) la-fits)) in
+        let g2 = rel-begin p q d dz c la ub (lower whole ez k w z) (upper whole ez k w z) (s .read) (z .read) (m .0)
+        (rel-lower p q clamp e ez k w s z (o .0) b f r g) (rel-upper p q clamp e ez k w s z (o .0) b f r g) (g .read) in
+        let u : RelSeen p q y yz = rel-met p q clamp Lo isLo S R frameZ flat d dz (s .read) (z .read) _ _ (λ _. m .0) (g .read)
+        (shifted p q clamp Lo isLo S R frameZ flat d dz c under s2 z2 (m .0) (i .2 .ends) (le-trans (i .1) t) (m .1) (i .3) (o .1) j2 r2 g2) in
         let a = pair e ez k n w (weigh rest) s z y yz _ f v j g u in (
           a,
-          λ _. pairs d dz c under s2 z2 (frames n under) (i .2 .ends) (le-trans (i .1) t) (i .3) (o .1) j2 r2 g2,
-          pair-rest e ez k n w rest s z y yz _ t v j (a .after) (λ x y j2 r2 g2. pairs e ez k rest x y f b t (i .4) (o .2) j2 r2 g2),
+          λ _. pairs d dz c under s2 z2 (m .0) (i .2 .ends) (le-trans (i .1) t) (m .1) (i .3) (o .1) j2 r2 g2,
+          pair-rest e ez k n w rest s z y yz _ t v j (a .after) (λ x y j2 r2 g2. pairs e ez k rest x y f b t (m .2) (i .4) (o .2) j2 r2 g2),
         )
 
     -- in the search of a root
@@ -184,17 +192,17 @@ module _ (p q : ℕ) where
         let dz : Frame ℤ = frameZ n (shift Lo under) in
         EachPair d dz k under (begin d k (d .bottom) (d .top) []) (begin dz k (dz .bottom) (dz .top) [])
 
-    pub pairs-root : (e : Frame ℕ) (f : Forest ℕ) → e .top ≤ S → Within (R .frame) e f → Positive MAX f → EachPairRoot f
-    pairs-root e end t i o = tt
-    pairs-root e (leaf n w h rest) t i o = tt
-    pairs-root e (inner n w k under rest) t i o =
+    pub pairs-root : (e : Frame ℕ) (f : Forest ℕ) → e .top ≤ S → MetRoot f → Within (R .frame) e f → Positive MAX f → EachPairRoot f
+    pairs-root e end t m i o = tt
+    pairs-root e (leaf n w h rest) t m i o = tt
+    pairs-root e (inner n w k under rest) t m i o =
         let d : Frame ℕ = R .frame n under in
         let dz : Frame ℤ = frameZ n (shift Lo under) in
-        let y : RelFrame p q d dz = frames n under in
+        let y : RelFrame p q d dz = m .0 in
         let u : d .top ≤ S = le-trans (i .1) t in
-        pairs d dz k under (begin d k (d .bottom) (d .top) []) (begin dz k (dz .bottom) (dz .top) []) y (i .2 .ends) u (i .3) (o .1)
+        pairs d dz k under (begin d k (d .bottom) (d .top) []) (begin dz k (dz .bottom) (dz .top) []) y (i .2 .ends) u (m .1) (i .3) (o .1)
         (safe-begin S d k under (d .bottom) (d .top) [] (i .2) u (le-trans (i .2 .ends) u) u)
-        (open-begin d k (isEnd under) (d .bottom) (d .top) [] (i .2 .ends, i .2 .ends))
+        (open-begin clamp d k (isEnd under) (d .bottom) (d .top) [] (λ _. (i .2 .ends, i .2 .ends)))
         (rel-begin p q d dz k (d .bottom) (d .top) (dz .bottom) (dz .top) [] [] y (y .bottom) (y .top) refl)
 
     -- ---- no remainder over the integers
@@ -206,7 +214,7 @@ module _ (p q : ℕ) where
     -- the two go on together
     pub together : (e : Frame ℕ) (ez : Frame ℤ) (k : Kind) (n w : ℕ) (rest : Forest ℕ) (s : State ℕ) (z : State ℤ) (r : Seen ℕ) (x : Seen ℤ) → Pair e ez k n w s z r x
         → stop whole (R .margin) (shift Lo rest) (update whole ez k n w z x) ≡ false → stop natural (R .margin) rest (update natural e k n w s r) ≡ false
-    together e ez k n w rest s z r x a c = sym (rel-stop p q Lo isLo S R frameZ frames flat rest (update natural e k n w s r) (update whole ez k n w z x) (a .after)) ∙ c
+    together e ez k n w rest s z r x a c = sym (rel-stop p q clamp Lo isLo S R frameZ flat rest (update natural e k n w s r) (update whole ez k n w z x) (a .after)) ∙ c
 
     taken-pairs : (e : Frame ℕ) (ez : Frame ℤ) (k : Kind) (f : Forest ℕ) (s : State ℕ) (z : State ℤ) → EachPair e ez k f s z
         → EachTaken natural R WholeHeights e k f s → EachTaken whole Z WholeQuotients ez k (shift Lo f) z
@@ -221,10 +229,10 @@ module _ (p q : ℕ) where
     )
 
     -- in the search of a root that is not below a C
-    pub whole-root : (e : Frame ℕ) (g : ℕ) (f : Forest ℕ) → e .top ≤ S → Within (R .frame) e f → Positive MAX f → Fit (R .frame) g f
+    pub whole-root : (e : Frame ℕ) (g : ℕ) (f : Forest ℕ) → e .top ≤ S → MetRoot f → Within (R .frame) e f → Positive MAX f → Fit (R .frame) g f
         → EachTakenRoot whole Z WholeQuotients (shift Lo f)
     unfolding shift
-    whole-root e g end t i o x = tt
-    whole-root e g (leaf n w h rest) t i o x = tt
-    whole-root e g (inner n w k under rest) t i o x =
-        λ z. taken-pairs (R .frame n under) (frameZ n (shift Lo under)) k under _ _ (pairs-root e (inner n w k under rest) t i o) (heights-root R e g (inner n w k under rest) i x z)
+    whole-root e g end t m i o x = tt
+    whole-root e g (leaf n w h rest) t m i o x = tt
+    whole-root e g (inner n w k under rest) t m i o x =
+        λ z. taken-pairs (R .frame n under) (frameZ n (shift Lo under)) k under _ _ (pairs-root e (inner n w k under rest) t m i o) (heights-root R e g (inner n w k under rest) i x z)

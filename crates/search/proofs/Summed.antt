@@ -1,7 +1,7 @@
 -- Running sums in the search of an accepted table, over heights and in whole grains. Document 02, Item 4. Assumes nothing.
 use Prim.Native.Nat.{ℕ, _+_, _*_, _-_, _/_, min, max}
 use mathlib.Core.Path.{_≡_, refl, sym, ap, _∙_}
-use mathlib.Core.Bool.{Bool}
+use mathlib.Core.Bool.{Bool, false}
 use mathlib.Core.List.{List}
 use native.Mathlib.Nat.{mul-sub, mul-div-right, le-refl}
 use native.Mathlib.Omega.{arith}
@@ -22,14 +22,14 @@ use Rattle.search.specs.Sums.{AreSums, EachBefore, EachBeforeRoot, downS
 use Rattle.search.specs.Inside.{natural, ceil, grained, heightSums, heightRules, heightSearched, heightSummed, AreAbove, EachAbove, EachAboveRoot, SumsKept}
 use Rattle.search.proofs.Heights.{Paid, PaidUnder, Within, shift}
 use Rattle.search.proofs.Times.{mul-max, mul-min, mul-test, mul-apart, times-plus, times-minus, times-order, times-max, times-min, times-over}
-use Rattle.search.proofs.Shift.{Rel, RelFrame, RelState}
+use Rattle.search.proofs.Shift.{Rel, RelState}
 use Rattle.search.proofs.Remainder.{WholeHeights, heights-root, EachPair, EachPairRoot, pairs-root, together}
 use Rattle.search.proofs.Sums.{SumLaws, same-root, before-root}
-use Rattle.search.proofs.Table.{frames, tree-shift, tree-within, tree-positive, tree-fit, no-remainder}
+use Rattle.search.proofs.Table.{frames, tree-frames, tree-shift, tree-within, tree-positive, tree-fit, no-remainder}
 
 -- ---- what the sums need of the two arithmetics
 
-height-laws : SumLaws natural heightSums WholeHeights
+pub height-laws : SumLaws natural heightSums WholeHeights
 height-laws = record {
   high-of = λ T a b p. mul-max T a b;
   low-of = λ T a b p. mul-min T a b;
@@ -56,7 +56,7 @@ whole-laws = record {
 
 -- ---- every C's total is at least 1
 
-paid-within : (frame : ℕ → Forest ℕ → Frame ℕ) (e : Frame ℕ) (f : Forest ℕ) → Within frame e f → PaidUnder frame f
+pub paid-within : (frame : ℕ → Forest ℕ → Frame ℕ) (e : Frame ℕ) (f : Forest ℕ) → Within frame e f → PaidUnder frame f
 paid-within frame e end i = tt
 paid-within frame e (leaf n w h rest) i = paid-within frame e rest (i .2)
 paid-within frame e (inner n w k under rest) i = (i .2 .paid, paid-within frame (frame n under) under (i .3), paid-within frame e rest (i .4))
@@ -83,7 +83,6 @@ times-above p q Lo isLo T h u z i e =
     ap pos e ∙ sym (pos-*ℤ-pos T h) ∙ ap (λ (y : ℤ). pos T *ℤ y) (sym a)
 
 module _ (p q : ℕ) (Lo : ℤ) (isLo : Is Lo p q) (S : ℕ) (R : Rules ℕ) (frameZ : ℕ → Forest ℤ → Frame ℤ)
-    (frames : (n : ℕ) (f : Forest ℕ) → RelFrame p q (R .frame n f) (frameZ n (shift Lo f)))
     (flat : (n : ℕ) (f : Forest ℕ) → (R .frame n f .bottom ≡ 0) × (R .frame n f .top ≡ S)) where
   abbrev Z : Rules ℤ
   Z = record { frame = frameZ; margin = R .margin; full = R .full }
@@ -94,21 +93,21 @@ module _ (p q : ℕ) (Lo : ℤ) (isLo : Is Lo p q) (S : ℕ) (R : Rules ℕ) (fr
   are-above e CHANCE u s z i b =
       (times-above p q Lo isLo (e .total) (s .lo) (u .lo) (z .lo) (i .lo) (b .0), times-above p q Lo isLo (e .total) (s .hi) (u .hi) (z .hi) (i .hi) (b .1))
 
-  above : (e : Frame ℕ) (ez : Frame ℤ) (k : Kind) (f : Forest ℕ) (u s : State ℕ) (z : State ℤ) → EachPair p q Lo isLo S R frameZ frames flat e ez k f s z
+  above : (e : Frame ℕ) (ez : Frame ℤ) (k : Kind) (f : Forest ℕ) (u s : State ℕ) (z : State ℤ) → EachPair p q false Lo isLo S R frameZ (λ _. flat) e ez k f s z
       → EachBefore heightSums natural R e k f u s → EachAbove Lo R Z e ez k f (shift Lo f) u z
   unfolding shift
   above e ez k end u s z a b = tt
   above e ez k (leaf n w h rest) u s z a b = (
     are-above e k u s z (a .0 .before) (b .0),
-    λ c. let d = together p q Lo isLo S R frameZ frames flat e ez k n w rest s z _ _ (a .0) c in above e ez k rest _ _ _ (a .1 d) (b .1 d),
+    λ c. let d = together p q false Lo isLo S R frameZ (λ _. flat) e ez k n w rest s z _ _ (a .0) c in above e ez k rest _ _ _ (a .1 d) (b .1 d),
   )
   above e ez k (inner n w c under rest) u s z a b = (
     are-above e k u s z (a .0 .before) (b .0),
     λ m. let l = ap (R .full) (sym (a .0 .before .read)) ∙ m in above (R .frame n under) (frameZ n (shift Lo under)) c under _ _ _ (a .1 l) (b .1 l),
-    λ m. let d = together p q Lo isLo S R frameZ frames flat e ez k n w rest s z _ _ (a .0) m in above e ez k rest _ _ _ (a .2 d) (b .2 d),
+    λ m. let d = together p q false Lo isLo S R frameZ (λ _. flat) e ez k n w rest s z _ _ (a .0) m in above e ez k rest _ _ _ (a .2 d) (b .2 d),
   )
 
-  above-root : (f : Forest ℕ) → EachPairRoot p q Lo isLo S R frameZ frames flat f → EachBeforeRoot heightSums natural R f → EachAboveRoot Lo R Z f (shift Lo f)
+  above-root : (f : Forest ℕ) → EachPairRoot p q false Lo isLo S R frameZ (λ _. flat) f → EachBeforeRoot heightSums natural R f → EachAboveRoot Lo R Z f (shift Lo f)
   unfolding shift
   above-root end a b = tt
   above-root (leaf n w h rest) a b = tt
@@ -140,9 +139,9 @@ module _ (s : List ℕ) (t : Table) (r : readText s ≡ fine t) (ε : ℕ) (full
   pub sums-kept : SumsKept t ε full
   sums-kept =
       rw (tree-shift s t r)
-      (above-root (plus base) (minus base) base (parts base) (span (t .head) * grain t) R (rules t ε full .frame) (λ n f. frames s t r f) (λ n f. (refl, refl)) heights
-      (pairs-root (plus base) (minus base) base (parts base) (span (t .head) * grain t) R (rules t ε full .frame) (λ n f. frames s t r f) (λ n f. (refl, refl))
-      (record { bottom = 0; top = span (t .head) * grain t; total = 0 }) heights (le-refl _) (tree-within s t r) (tree-positive s t r))
+      (above-root (plus base) (minus base) base (parts base) (span (t .head) * grain t) R (rules t ε full .frame) (λ n f. (refl, refl)) heights
+      (pairs-root (plus base) (minus base) false base (parts base) (span (t .head) * grain t) R (rules t ε full .frame) (λ _ n f. (refl, refl))
+      (record { bottom = 0; top = span (t .head) * grain t; total = 0 }) heights (le-refl _) (tree-frames s t r ε full) (tree-within s t r) (tree-positive s t r))
       (before-root natural heightSums WholeHeights height-laws R heights heights-paid heights-taken))
 
   grains-paid : PaidUnder (rules t ε full .frame) (inGrains (grain t) (tree t))

@@ -110,7 +110,7 @@ module _ {A : Type 0} (O : Arith A) (P : SumArith A) (Q : Frame A → ℕ → Se
   -- what an inner child gives, met unread or not
   same-under : (e d : Frame A) (k c : Kind) (w : ℕ) (under : Forest A) (s : State A)
       → (R .full (s .read) ≡ false → scanSums P O R d c under (keep P d c (enter O e k w d c s)) ≡ scan O R d c under (enter O e k w d c s))
-      → met R e (keep P e k s .read) (scanSums P O R d c under (enterSums P O e k w d c (keep P e k s))) ≡ met R e (s .read) (scan O R d c under (enter O e k w d c s))
+      → met R d (keep P e k s .read) (scanSums P O R d c under (enterSums P O e k w d c (keep P e k s))) ≡ met R d (s .read) (scan O R d c under (enter O e k w d c s))
   unfolding keep
   same-under e d k c w under s ih = cond-else (R .full (s .read)) _ (λ z. ap (scanSums P O R d c under) (keep-enter e k w d c s) ∙ ih z)
 
@@ -121,7 +121,7 @@ module _ {A : Type 0} (O : Arith A) (P : SumArith A) (Q : Frame A → ℕ → Se
   same e k (leaf n w v rest) s q y h = same-step e k n w rest s _ (met R e (s .read) (point n v (s .read))) q refl (h .0) (λ z. same e k rest _ q y (h .1 z))
   same e k (inner n w c under rest) s q y h =
       let d : Frame A = R .frame n under in
-      same-step e k n w rest s _ (met R e (s .read) (seenUnder O R e k n w c under s)) q
+      same-step e k n w rest s _ (met R d (s .read) (seenUnder O R e k n w c under s)) q
       (same-under e d k c w under s (λ z. same d c under (enter O e k w d c s) (y .0) (y .1) (h .1 z))) (h .0) (λ z. same e k rest _ q (y .2) (h .2 z))
 
   pub same-root : (f : Forest A) → PaidUnder (R .frame) f → EachTakenRoot O R Q f → rootSums P O R f ≡ searchRoot O R f
@@ -148,7 +148,7 @@ module _ {A : Type 0} (O : Arith A) (P : SumArith A) (Q : Frame A → ℕ → Se
       let j : State A = enter O e k w d c s in (
         are-sums e k s,
         λ z. subst (λ (u : State A). EachBefore P O R d c under u j) (sym (keep-enter e k w d c s)) (before d c under j (y .0) (y .1) (h .1 z)),
-        λ z. before-step e k n w rest s _ (met R e (s .read) (scan O R d c under j)) q
+        λ z. before-step e k n w rest s _ (met R d (s .read) (scan O R d c under j)) q
             (same-under e d k c w under s (λ x. same d c under j (y .0) (y .1) (h .1 x))) (h .0) (before e k rest _ q (y .2) (h .2 z)),
       )
 

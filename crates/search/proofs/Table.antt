@@ -7,33 +7,38 @@ use mathlib.Core.List.{List, []}
 use mathlib.Core.Option.{some}
 use native.Mathlib.Nat.{le-refl, le-trans}
 use native.Mathlib.Omega.{arith}
+use lib.Dec.{T as Holds}
 use lib.ListN.{length}
 use lib.IntN.{ℤ, pos, _+ℤ_, _-ℤ_, _*ℤ_}
 use Rattle.numbers.proofs.Signs.{plus, minus, parts, is-unique, is-eq, is-minus}
 use Rattle.numbers.proofs.Above.{lift, lifted}
+use Rattle.field.proofs.Small.{choose}
 use Rattle.line.specs.Refusal.{fine}
 use Rattle.line.specs.Line.{larger}
 use Rattle.table.specs.Tree.{MAX, Forest, end, leaf, inner, leaves}
 use Rattle.table.specs.Table.{Table, tree, readText, greatest, grain}
 use Rattle.table.specs.Root.{children}
 use Rattle.table.specs.Inside.{heightTree, slicesOf}
-use Rattle.table.specs.Accepted.{span}
-use Rattle.table.proofs.Heights.{heights-map}
-use Rattle.table.proofs.Accepted.{accepted-proper, accepted-spans, heights-proper, heights-totals, heights-divided}
+use Rattle.table.specs.Accepted.{span, Rooted}
+use Rattle.table.proofs.Heights.{heights-map, map-rooted}
+use Rattle.table.proofs.Accepted.{accepted-proper, accepted-spans, heights-rooted, heights-proper, heights-totals, heights-divided}
 use Rattle.table.proofs.Ends.{top}
-use Rattle.search.specs.Search.{Frame, Play, noPlay, child, Seen, framed, begin, point, scan, search, searchRoot, nodeOf}
+use Rattle.search.specs.Search.{Frame, Play, noPlay, child, Seen, Rules, framed, begin, point, metSpent, scan, search, searchRoot, nodeOf}
 use Rattle.search.specs.Whole.{whole, inGrains, rules, searchedUntil}
 use Rattle.search.specs.Inside.{natural, grained, heightRules, heightSearched}
 use Rattle.search.specs.Exact.{NoRemainder}
 use Rattle.search.proofs.Heights.{Within, Positive, shift}
-use Rattle.search.proofs.Contain.{contained, hold-point, hold-met}
-use Rattle.search.proofs.Shift.{Rel, RelFrame, RelPlay, RelSeen, shift-weigh, shifted-root}
-use Rattle.search.proofs.Grains.{plain, within, positive, grains-leaves, grains-shift}
+use Rattle.search.proofs.Contain.{contained, hold-met}
+use Rattle.search.proofs.Shift.{Rel, RelFrame, RelFramesRoot, RelPlay, RelSeen, shift-weigh, shifted-root, frames-all-root}
+use Rattle.search.proofs.Grains.{plain, within, positive, grained-map, grains-leaves, grains-shift}
 use Rattle.search.proofs.Fit.{Fit, fit}
 use Rattle.search.proofs.Remainder.{whole-root}
 use Rattle.search.proofs.Few.{EachNode, few-reads, play-among, children-below}
 
-same-node : (p q : ℕ) (u : Play ℕ) (v : Play ℤ) → RelPlay p q u v → nodeOf v ≡ nodeOf u
+pub rel-is : (base : ℤ) (x : ℕ) (z : ℤ) → Rel (plus base) (minus base) x z → z ≡ base +ℤ pos x
+rel-is base x z i = is-unique z (base +ℤ pos x) (plus base + x) (minus base) i (lift base (plus base) (minus base) x (parts base))
+
+pub same-node : (p q : ℕ) (u : Play ℕ) (v : Play ℤ) → RelPlay p q u v → nodeOf v ≡ nodeOf u
 same-node p q noPlay noPlay i = refl
 same-node p q noPlay (child m l h) i = absurd i
 same-node p q (child m l h) noPlay i = absurd i
@@ -45,20 +50,18 @@ difference-is base low high h =
     is-unique (pos (high - low)) ((base +ℤ pos high) -ℤ (base +ℤ pos low)) (plus base + high + minus base) (minus base + (plus base + low)) (omega arith)
     (is-minus (base +ℤ pos high) (base +ℤ pos low) (plus base + high) (minus base) (plus base + low) (minus base) (lifted base high) (lifted base low))
 
--- the bounds of a root lie between the ends
-root-order : (S ε : ℕ) (full : List ℕ → Bool) (e : Frame ℕ) (f : Forest ℕ) → e .top ≤ S → Within (plain S) e f
-    → (searchRoot natural (heightRules 0 S ε full) f .low ≤ searchRoot natural (heightRules 0 S ε full) f .high) × (searchRoot natural (heightRules 0 S ε full) f .high ≤ S)
-unfolding searchRoot search point
-root-order S ε full e end t i = (omega arith, le-refl S)
-root-order S ε full e (leaf n w h rest) t i =
-    let d : Frame ℕ = framed 0 S end in
-    let v = hold-met (heightRules 0 S ε full) d [] h (point n h []) (hold-point d n h [] (omega arith, le-trans (i .1) t)) in
-    (le-trans (v .1) (v .2), v .3)
-root-order S ε full e (inner n w k under rest) t i =
-    let R = heightRules 0 S ε full in
-    let d : Frame ℕ = framed 0 S under in
-    let v = hold-met R d [] _ (scan natural R d k under (begin d k 0 S [])) (contained R d k under 0 S [] (i .2) (i .3)) in
-    (le-trans (v .1) (v .2), v .3)
+-- the bounds of a root lie between the ends; a lone leaf's do by its frame where it is met unread
+pub root-order : (R : Rules ℕ) (S : ℕ) (e : Frame ℕ) (f : Forest ℕ) → Rooted f
+    → (Holds (R .full []) → (n : ℕ) → (R .frame n end .bottom ≤ R .frame n end .top) × (R .frame n end .top ≤ S)) → e .top ≤ S → Within (R .frame) e f
+    → (searchRoot natural R f .low ≤ searchRoot natural R f .high) × (searchRoot natural R f .high ≤ S)
+unfolding searchRoot search point metSpent
+root-order R S e end y x t i = absurd y
+root-order R S e (leaf n w h rest) y x t i =
+    choose (λ (r : Seen ℕ). (r .low ≤ r .high) × (r .high ≤ S)) (R .full []) (λ z. x z n) (λ _. (le-refl h, le-trans (i .1) t))
+root-order R S e (inner n w k under rest) y x t i =
+    let d : Frame ℕ = R .frame n under in
+    let v = hold-met R d [] _ (scan natural R d k under (begin d k (d .bottom) (d .top) [])) (contained R d k under (d .bottom) (d .top) [] (i .2) (i .3)) in
+    (le-trans (v .1) (v .2), le-trans (v .3) (le-trans (i .1) t))
 
 module _ (s : List ℕ) (t : Table) (r : readText s ≡ fine t) where
   abbrev G : ℕ
@@ -93,6 +96,9 @@ module _ (s : List ℕ) (t : Table) (r : readText s ≡ fine t) where
   pub tree-fit : Fit (plain far) 1 (grained G (heightTree t))
   tree-fit = fit (span (t .head)) G 1 (heightTree t) (heights-divided s t r)
 
+  pub tree-rooted : Rooted (grained G (heightTree t))
+  tree-rooted = rw (grained-map G (heightTree t)) (map-rooted (λ (h : ℕ). h * G) (heightTree t) (heights-rooted s t r))
+
   -- at the margin ε, until the budget is spent
   module _ (ε : ℕ) (full : List ℕ → Bool) where
     abbrev heights : Seen ℕ
@@ -100,16 +106,21 @@ module _ (s : List ℕ) (t : Table) (r : readText s ≡ fine t) where
 
     -- its bounds lie between the ends
     pub heights-order : (heights .low ≤ heights .high) × (heights .high ≤ span (t .head) * grain t)
-    heights-order = root-order far ε full (record { bottom = 0; top = far; total = 0 }) (grained G (heightTree t)) (le-refl far) tree-within
+    heights-order =
+        root-order (heightRules 0 far ε full) far (record { bottom = 0; top = far; total = 0 }) (grained G (heightTree t)) tree-rooted
+        (λ _ n. (omega arith, le-refl far)) (le-refl far) tree-within
+
+    pub tree-frames : RelFramesRoot (plus base) (minus base) false base (parts base) far (heightRules 0 far ε full) (rules t ε full .frame) (λ _ n f. (refl, refl))
+        (grained G (heightTree t))
+    tree-frames =
+        frames-all-root (plus base) (minus base) false base (parts base) far (heightRules 0 far ε full) (rules t ε full .frame) (λ _ n f. (refl, refl))
+        (λ n f. frames f) (grained G (heightTree t))
 
     rel-found : RelSeen (plus base) (minus base) heights (searchedUntil t ε full)
     rel-found =
         rw tree-shift
-        (shifted-root (plus base) (minus base) base (parts base) far (heightRules 0 far ε full) (rules t ε full .frame) (λ n f. frames f) (λ n f. (refl, refl))
-        (record { bottom = 0; top = far; total = 0 }) (grained G (heightTree t)) (le-refl far) tree-within tree-positive)
-
-    rel-is : (x : ℕ) (z : ℤ) → Rel (plus base) (minus base) x z → z ≡ base +ℤ pos x
-    rel-is x z i = is-unique z (base +ℤ pos x) (plus base + x) (minus base) i (lift base (plus base) (minus base) x (parts base))
+        (shifted-root (plus base) (minus base) false base (parts base) far (heightRules 0 far ε full) (rules t ε full .frame) (λ _ n f. (refl, refl))
+        (record { bottom = 0; top = far; total = 0 }) (grained G (heightTree t)) (le-refl far) tree-frames tree-within tree-positive)
 
     -- the search of a table is the search over heights, from the lowest end up
     pub shifted : (searchedUntil t ε full .low ≡ t .head .lowest *ℤ pos (grain t) +ℤ pos (heightSearched t ε full .low))
@@ -118,8 +129,8 @@ module _ (s : List ℕ) (t : Table) (r : readText s ≡ fine t) where
         × (searchedUntil t ε full .read ≡ heightSearched t ε full .read)
         × (searchedUntil t ε full .spent ≡ heightSearched t ε full .spent)
     shifted = (
-      rel-is (heights .low) (searchedUntil t ε full .low) (rel-found .low),
-      rel-is (heights .high) (searchedUntil t ε full .high) (rel-found .high),
+      rel-is base (heights .low) (searchedUntil t ε full .low) (rel-found .low),
+      rel-is base (heights .high) (searchedUntil t ε full .high) (rel-found .high),
       same-node (plus base) (minus base) (heights .play) (searchedUntil t ε full .play) (rel-found .play),
       rel-found .read,
       rel-found .spent,
@@ -143,6 +154,6 @@ module _ (s : List ℕ) (t : Table) (r : readText s ≡ fine t) where
     pub no-remainder : NoRemainder t ε full
     no-remainder =
         rw tree-shift
-        (whole-root (plus base) (minus base) base (parts base) far (heightRules 0 far ε full) (rules t ε full .frame) (λ n f. frames f)
-        (λ n f. (refl, refl)) (record { bottom = 0; top = far; total = 0 }) 1 (grained G (heightTree t)) (le-refl far)
-        tree-within tree-positive tree-fit)
+        (whole-root (plus base) (minus base) false base (parts base) far (heightRules 0 far ε full) (rules t ε full .frame)
+        (λ _ n f. (refl, refl)) (record { bottom = 0; top = far; total = 0 }) 1 (grained G (heightTree t)) (le-refl far)
+        tree-frames tree-within tree-positive tree-fit)

@@ -6,7 +6,6 @@ use mathlib.Core.List.{List}
 use native.Mathlib.Nat.{min-eq-left, min-eq-right}
 use native.Mathlib.Decide.{decLe}
 use native.Mathlib.Omega.{arith}
-use borrow.Author.Tests.{le-ltb}
 use lib.Dec.{ltb}
 use lib.ListN.{length, take}
 use lib.IntN.{ℤ}
@@ -49,7 +48,7 @@ module _ (s : List ℕ) (t : Table) (r : readText s ≡ fine t) (ε b : ℕ) whe
 
   -- a budget of as many reads as there are leaves is never spent
   enough : leaves (tree t) ≤ b → searchedWithin t ε b ≡ searched t ε
-  enough h = unspent-same (spent-where ∙ le-ltb b (length (searched t ε .read)) (omega (arith, reads-few s t r ε unlimited)))
+  enough h = budget.enough whole (rules t ε unlimited .frame) ε b f rooted filled (omega (arith, reads-few s t r ε unlimited))
 
 -- so that a budget past a list that has room for them need not be counted
 pub budget-met : (s : List ℕ) (t : Table) (r : readText s ≡ fine t) (ε b room : ℕ) → leaves (tree t) ≤ room

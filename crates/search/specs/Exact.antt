@@ -8,7 +8,7 @@ use Rattle.numbers.specs.Integers.{floorZ}
 use Rattle.table.specs.Tree.{Kind, MAX, MIN, CHANCE, Forest, end, leaf, inner}
 use Rattle.table.specs.Table.{Table, tree, grain}
 use Rattle.search.specs.Search.{Frame, Seen, State, Arith, Rules, begin, point, met, update, stop, enter, scan}
-use Rattle.search.specs.Whole.{whole, inGrains, rules}
+use Rattle.search.specs.Whole.{whole, inGrains, rules, wholeOwn, ownRules}
 
 -- What Q says of a C's frame, a child's weight and what that child gave, for every child that a search takes under a C: the walk of `scan`, which
 -- goes under no node met unread.
@@ -26,7 +26,7 @@ module _ {A : Type 0} (O : Arith A) (R : Rules A) (Q : Frame A → ℕ → Seen 
       AtChance e k w r × (stop O (R .margin) rest t ≡ false → EachTaken e k rest t)
   EachTaken e k (inner n w c under rest) s =
       let d : Frame A = R .frame n under in
-      let r : Seen A = met R e (s .read) (scan O R d c under (enter O e k w d c s)) in
+      let r : Seen A = met R d (s .read) (scan O R d c under (enter O e k w d c s)) in
       let t : State A = update O e k n w s r in
       AtChance e k w r
       × (R .full (s .read) ≡ false → EachTaken d c under (enter O e k w d c s))
@@ -48,3 +48,7 @@ WholeQuotients e w r =
 -- "Every worth, bound, margin and loss is a whole number of grains": nothing is rounded in lines 20 and 21 of the search of a table
 abbrev pub NoRemainder : Table → (ε : ℕ) (full : List ℕ → Bool) → Type 0
 NoRemainder t ε full = EachTakenRoot whole (rules t ε full) WholeQuotients (inGrains (grain t) (tree t))
+
+-- nor in the search of a table with its index
+abbrev pub OwnNoRemainder : Table → (ε : ℕ) → Type 0
+OwnNoRemainder t ε = EachTakenRoot wholeOwn (ownRules ε) WholeQuotients (inGrains (grain t) (tree t))

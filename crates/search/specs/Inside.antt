@@ -9,6 +9,7 @@ use Rattle.table.specs.Tree.{Kind, MAX, MIN, CHANCE, Forest, end, leaf, inner}
 use Rattle.table.specs.Table.{Table, tree, grain}
 use Rattle.table.specs.Inside.{heightTree}
 use Rattle.table.specs.Accepted.{span}
+use Rattle.index.specs.Inside.{leastOf, greatestOf}
 use Rattle.search.specs.Search.{Frame, State, Arith, Rules, Seen, framed, begin, point, met, update, stop, enter, scan, safer, searchRoot}
 use Rattle.search.specs.Whole.{whole, inGrains, rules}
 use Rattle.search.specs.Sums.{SumArith, onSums, keep, enterSums, scanSums, rootSums}
@@ -60,6 +61,16 @@ heightSearched t ε full = searchRoot natural (heightRules 0 (span (t .head) * g
 abbrev pub heightSummed : Table → (ε : ℕ) (full : List ℕ → Bool) → Seen ℕ
 heightSummed t ε full = rootSums heightSums natural (heightRules 0 (span (t .head) * grain t) ε full) (grained (grain t) (heightTree t))
 
+-- Item 14, every line with its own ends, none of which is above `top`
+abbrev pub ownHeightRules : (top ε : ℕ) (full : List ℕ → Bool) → Rules ℕ
+ownHeightRules top ε full = record { frame = λ (n : ℕ) (f : Forest ℕ). framed (leastOf top f) (greatestOf f) f; margin = ε; full = full }
+
+abbrev pub heightOwn : Table → (ε : ℕ) (full : List ℕ → Bool) → Seen ℕ
+heightOwn t ε full = searchRoot natural (ownHeightRules (span (t .head) * grain t) ε full) (grained (grain t) (heightTree t))
+
+abbrev pub heightOwnSummed : Table → (ε : ℕ) (full : List ℕ → Bool) → Seen ℕ
+heightOwnSummed t ε full = rootSums heightSums natural (ownHeightRules (span (t .head) * grain t) ε full) (grained (grain t) (heightTree t))
+
 -- ---- the sums that the code keeps, beside Algorithm 1 in whole grains
 
 -- T times low and high above the lowest end: u is where the search with sums stands over heights, z where Algorithm 1 does
@@ -87,10 +98,10 @@ module _ (base : ℤ) (R : Rules ℕ) (Z : Rules ℤ) where
       let dz : Frame ℤ = Z .frame m below in
       let i : State ℕ = enterSums heightSums natural e k w d c u in
       let j : State ℤ = enter whole ez k x dz b z in
-      let t : State ℤ = update whole ez k m x z (met Z ez (z .read) (scan whole Z dz b below j)) in
+      let t : State ℤ = update whole ez k m x z (met Z dz (z .read) (scan whole Z dz b below j)) in
       AreAbove base e k u z
       × (Z .full (z .read) ≡ false → EachAbove d dz c under below i j)
-      × (stop whole (Z .margin) others t ≡ false → EachAbove e ez k rest others (update naturalSums e k n w u (met R e (u .read) (scanSums heightSums natural R d c under i))) t)
+      × (stop whole (Z .margin) others t ≡ false → EachAbove e ez k rest others (update naturalSums e k n w u (met R d (u .read) (scanSums heightSums natural R d c under i))) t)
 
   -- in the search of a root
   abbrev pub EachAboveRoot : Forest ℕ → Forest ℤ → Type 0

@@ -112,8 +112,8 @@ module _ {A : Type 0} where
   unfoldable pub point : (n : ℕ) (v : A) (before : List ℕ) → Seen A
   point n v before = record { low = v; high = v; play = noPlay; read = before ++ (n ∷ []); spent = false }
 
-  -- Item 3: "A node first met when the budget is spent gives the table's two ends as its bounds and reads nothing". e is its
-  -- parent's frame, at the root its own; in a table every frame has the table's ends.
+  -- Item 3: "A node first met when the budget is spent gives the table's two ends as its bounds and reads nothing". e is its own
+  -- frame, at a leaf its parent's; where there is a budget, every frame has the table's ends.
   unfoldable pub metSpent : (e : Frame A) (before : List ℕ) → Seen A
   metSpent e before = record { low = e .bottom; high = e .top; play = noPlay; read = before; spent = true }
 
@@ -199,7 +199,7 @@ module _ {A : Type 0} where
           after e k rest t (scan e k rest t)
       scan e k (inner n w c under rest) s =
           let d : Frame A = R .frame n under in
-          let t : State A = update e k n w s (met R e (s .read) (scan d c under (enter e k w d c s))) in
+          let t : State A = update e k n w s (met R d (s .read) (scan d c under (enter e k w d c s))) in
           after e k rest t (scan e k rest t)
 
       -- line 6: the window of the root is v_min to v_max. "If the root is so met, no play is named."

@@ -90,7 +90,7 @@ module _ {A : Type 0} where
             afterSums e k rest t (scanSums e k rest t)
         scanSums e k (inner n w c under rest) s =
             let d : Frame A = R .frame n under in
-            let t : State A = update (onSums O P) e k n w s (met R e (s .read) (scanSums d c under (enterSums e k w d c s))) in
+            let t : State A = update (onSums O P) e k n w s (met R d (s .read) (scanSums d c under (enterSums e k w d c s))) in
             afterSums e k rest t (scanSums e k rest t)
 
         -- line 6, and the search of the first node, as Search.antt has them
@@ -116,10 +116,10 @@ module _ {A : Type 0} where
             let d : Frame A = R .frame n under in
             let i : State A = enterSums e k w d c u in
             let j : State A = enter O e k w d c s in
-            let t : State A = update O e k n w s (met R e (s .read) (scan O R d c under j)) in
+            let t : State A = update O e k n w s (met R d (s .read) (scan O R d c under j)) in
             AreSums e k u s
             × (R .full (s .read) ≡ false → EachBefore d c under i j)
-            × (stop O (R .margin) rest t ≡ false → EachBefore e k rest (update (onSums O P) e k n w u (met R e (u .read) (scanSums d c under i))) t)
+            × (stop O (R .margin) rest t ≡ false → EachBefore e k rest (update (onSums O P) e k n w u (met R d (u .read) (scanSums d c under i))) t)
 
         -- in the search of a root
         abbrev pub EachBeforeRoot : Forest A → Type 0

@@ -1,4 +1,4 @@
--- The paper's arithmetic, whole numbers of grains, and the search of a table. Document 01, 'Grains' and 'The search'; document 02, Items 3 and 6.
+-- The paper's arithmetic, whole numbers of grains, and the search of a table. Document 01, 'Grains' and 'The search'; document 02, Items 3, 6 and 14.
 use Prim.Native.Nat.{ℕ}
 use mathlib.Core.Bool.{Bool}
 use mathlib.Core.List.{List}
@@ -7,6 +7,7 @@ use lib.Signed.{ltZ, leZ}
 use Rattle.numbers.specs.Integers.{maxZ, minZ, floorZ, ceilZ}
 use Rattle.table.specs.Tree.{Forest, end, leaf, inner}
 use Rattle.table.specs.Table.{Table, tree, grain}
+use Rattle.index.specs.Index.{valuesOf, lowestOf, highestOf}
 use Rattle.search.specs.Search.{Frame, Arith, Rules, Seen, unlimited, limited, framed, safer, searchRoot}
 
 -- Line 9, from α(p(n)) and U(p(n)): "rounded outward: the new alpha down". π is w / T, and U(n) of a node not yet searched is v_max.
@@ -24,17 +25,21 @@ gainZ e w L Lc = L +ℤ floorZ (pos w *ℤ (Lc -ℤ e .bottom)) (e .total)
 unfoldable pub lossZ : (e : Frame ℤ) (w : ℕ) (U Uc : ℤ) → ℤ
 lossZ e w U Uc = U -ℤ floorZ (pos w *ℤ (e .top -ℤ Uc)) (e .total)
 
-abbrev pub whole : Arith ℤ
-whole = record {
+-- whole grains, with these for lines 9 and 10
+abbrev pub wholeWith : (down up : (e : Frame ℤ) (w : ℕ) (x y : ℤ) → ℤ) → Arith ℤ
+wholeWith down up = record {
   high-of = maxZ;
   low-of = minZ;
   near = λ ε α β. leZ β (α +ℤ pos ε);
-  down = downZ;
-  up = upZ;
+  down = down;
+  up = up;
   gain = gainZ;
   loss = lossZ;
   beats = safer ltZ;
 }
+
+abbrev pub whole : Arith ℤ
+whole = wholeWith downZ upZ
 
 -- "a leaf is worth its utility × G"
 unfoldable pub inGrains : (G : ℕ) → Forest ℤ → Forest ℤ
@@ -62,3 +67,31 @@ searched t ε = searchedUntil t ε unlimited
 -- document 02, Item 3: with a budget of so many leaf reads "besides the margin"
 abbrev pub searchedWithin : Table → (ε budget : ℕ) → Seen ℤ
 searchedWithin t ε budget = searchedUntil t ε (limited budget)
+
+-- ---- Item 14: the search that uses an index
+
+-- Of lines 9 and 10, where a chance line's own ends stand for the least and the greatest value: "There a new alpha is also at most that greatest value, a
+-- new beta at least that least."
+unfoldable pub downOwn : (e : Frame ℤ) (w : ℕ) (α U : ℤ) → ℤ
+downOwn e w α U = minZ (e .top) (downZ e w α U)
+
+unfoldable pub upOwn : (e : Frame ℤ) (w : ℕ) (β L : ℤ) → ℤ
+upOwn e w β L = maxZ (e .bottom) (upZ e w β L)
+
+abbrev pub wholeOwn : Arith ℤ
+wholeOwn = wholeWith downOwn upOwn
+
+-- "a line has its own ends for Algorithm 1's least and greatest values": those of the worths under it, which are its ends in the index times G. So a C "counts
+-- each unread child at the chance line's ends", and lines 9 and 10 for its children have these ends. There is no budget.
+abbrev pub ownRules : (ε : ℕ) → Rules ℤ
+ownRules ε =
+    record {
+      frame = λ (n : ℕ) (f : Forest ℤ). framed (lowestOf (valuesOf f)) (highestOf (valuesOf f)) f;
+      margin = ε;
+      full = unlimited;
+    }
+
+-- The search of a table at the margin ε with its index. By `searchRoot` the root's window is its own ends, and by `enter` a child's is what lines 7 to 10 say:
+-- "the window handed down is not met with them".
+abbrev pub searchedOwn : Table → (ε : ℕ) → Seen ℤ
+searchedOwn t ε = searchRoot wholeOwn (ownRules ε) (inGrains (grain t) (tree t))
