@@ -1,8 +1,9 @@
 // Heights in grains: the scale of an accepted table, and its lowest end added.
 ghost use mathlib.Core.Path.{_≡_};
 ghost use Prim.Native.Nat.{_≤_};
-ghost use lib.IntN.{pos, _+ℤ_, _*ℤ_};
+ghost use lib.IntN.{pos, _+ℤ_, _-ℤ_, _*ℤ_};
 ghost use lib.Signed.{mag};
+ghost use Rattle.line.specs.Line.{toNat};
 ghost use Rattle.scale.specs.Inside.{Spread, scaleFor};
 use table::Summary;
 
@@ -12,12 +13,20 @@ pub struct Scale {
     pub top: u64,
 }
 
+// How many points a table's ends are apart.
+pub fn span_of(t: Summary) -> u64
+    requires { ⌜ Spread t ⌝ }
+    ensures { λ r. ⌜ (r ≡ toNat (t .highest -ℤ t .lowest)) × (r ≤ 2000002) ⌝ }
+{
+    line::natural(t.highest - t.lowest)
+}
+
 // The scale that the worths and bounds of an accepted table are taken by.
 pub fn scale_of(t: Summary) -> Scale
     requires { ⌜ Spread t ⌝ }
     ensures { λ r. ⌜ r ≡ scaleFor t ⌝ }
 {
-    let top = line::natural(t.highest - t.lowest) * t.grain;
+    let top = span_of(t) * t.grain;
     Scale {
         grain: t.grain,
         top: top,

@@ -129,7 +129,7 @@ abbrev pub PlayBelow : ℕ → Play → Type 0
 PlayBelow n (Child m) = m < n
 PlayBelow n NoPlay = Unit {0}
 
-below-of : (n : ℕ) (p : Option ℕ) → ((m : ℕ) → p ≡ some m → m < n) → PlayBelow n (playOf p)
+pub below-of : (n : ℕ) (p : Option ℕ) → ((m : ℕ) → p ≡ some m → m < n) → PlayBelow n (playOf p)
 below-of n none h = tt
 below-of n (some m) h = h m refl
 

@@ -28,7 +28,7 @@ use Rattle.table.proofs.Accepted.{accepted-leaves}
 use Rattle.table.proofs.Ends.{span-grains}
 use Rattle.scale.specs.Inside.{scaleFor}
 use Rattle.scale.proofs.Taken.{zeros, zeros-enough, Taken, of-table}
-use Rattle.search.specs.Search.{Seen, limited}
+use Rattle.search.specs.Search.{Seen, limited, nodeOf}
 use Rattle.search.specs.Inside.{heightSearched}
 use Rattle.search.specs.Whole.{searched, searchedUntil, searchedWithin}
 use Rattle.search.proofs.Table.{heights-order, shifted, difference-is}
@@ -36,11 +36,9 @@ use Rattle.search.proofs.Within.{budget-met, greatest-budget}
 use Rattle.steps.specs.declared.Rule.{Rule}
 use Rattle.steps.specs.declared.Ends.{Ends}
 use Rattle.steps.specs.declared.Found.{Found}
-use Rattle.steps.specs.Inside.{playAt}
-use Rattle.searching.specs.Inside.{ReadyRoot, Shows, Searched}
+use Rattle.searching.specs.Inside.{way, ReadyRoot, Shows, Searched}
 use Rattle.searching.proofs.Ready.{accepted-search-ready, accepted-searched}
-use Rattle.search_call.specs.Inside.{ruleFor, endsFor}
-use Rattle.search_call.specs.declared.Bounded.{Bounded}
+use Rattle.search_call.specs.Inside.{ruleFor, endsFor, boundsFor}
 use Rattle.search_call.specs.declared.Bounded.the-variants.{Found as Given}
 use Rattle.search_call.specs.Call.{beyond, badMargin, badBudget, Sought, sought, soughtWithin, boundsOf, searchAnswer, searchList, withinCall, withinReads}
 
@@ -127,25 +125,45 @@ part-laid n xs came h = append-assoc xs (drop (length xs) (take n came)) (drop n
     rest (suc n) (suc k) [] h = refl
     rest (suc n) (suc k) (y ∷ l) h = rest n k l (omega arith)
 
+-- What is answered where f was found, as r over heights, with n reads to begin with: the same from the lowest end up, which is a.
+pub shown-bounds : (T : Table) (f : Found) (n : ℕ) (r : Seen ℕ) (a : Seen ℤ) {came now : List ℕ} → Shows f r came now → length came ≡ n → r .low ≤ r .high →
+    let base : ℤ = T .head .lowest *ℤ pos (grain T) in
+    (a .low ≡ base +ℤ pos (r .low)) × (a .high ≡ base +ℤ pos (r .high)) × (nodeOf (a .play) ≡ nodeOf (r .play)) × (a .read ≡ r .read) × (a .spent ≡ r .spent)
+    → boundsFor (summary T) f n ≡ boundsOf (record { table = T; seen = a })
+shown-bounds T f n r a w lent order (low, high, play, read, spent) =
+    let base : ℤ = T .head .lowest *ℤ pos (grain T) in
+    let is-low = ap (λ (k : ℕ). base +ℤ pos k) (w .low) ∙ sym low in
+    let is-high = ap (λ (k : ℕ). base +ℤ pos k) (w .high) ∙ sym high in
+    let count : n - f .left ≡ length (r .read) = omega (arith, w .reads, lent) in
+    λ i. record {
+      low = is-low i;
+      high = is-high i;
+      difference = (difference-is base (f .low) (f .high) (omega (arith, w .low, w .high)) ∙ ap₂ _-ℤ_ is-high is-low) i;
+      play = (ap playOf (w .play ∙ sym play)) i;
+      leaves = (count ∙ sym (ap length read)) i;
+      spent = (w .spent ∙ sym spent) i;
+      grain = grain T;
+    }
+
 -- g is the rule, v the ends, and n how many leaves may be read
 module _ {s : List ℕ} {t : Summary} {K S W H : List ℕ} (G : Taken s t K S W H) (m b : ℤ) (x : badMargin m ≡ false) (y : badBudget b ≡ false)
     {g : Rule} (isG : g ≡ ruleFor (scaleFor t) m) {v : Ends} (isV : v ≡ endsFor (scaleFor t)) where
-  pub search-ready : ReadyRoot (slices K S W H) g v (t .nodes)
+  pub search-ready : ReadyRoot (slices K S W H) (way g v H []) v (t .nodes)
   search-ready =
       rw (isG, isV)
-      (of-table G (λ t K S W H. ReadyRoot (slices K S W H) (ruleFor (scaleFor t) m) (endsFor (scaleFor t)) (t .nodes)) (λ T p.
+      (of-table G (λ t K S W H. ReadyRoot (slices K S W H) (way (ruleFor (scaleFor t) m) (endsFor (scaleFor t)) H []) (endsFor (scaleFor t)) (t .nodes)) (λ T p.
       let z = zeros-enough s T p in accepted-search-ready s T p (toNat m) (inside-small 40000000000000 m x) zeros zeros zeros zeros z z z z))
 
   -- f is what `search` gave, with the first n entries of the list as they came and as they are now
   module _ (f : Found) (n : ℕ) (came now : List ℕ) (isN : n ≡ min (toNat b) (length came)) (enough : t .leaves ≤ length came)
-      (told : Searched (slices K S W H) g v (t .nodes) f (take n came) now) where
+      (told : Searched (slices K S W H) (way g v H []) v (t .nodes) f (take n came) now) where
     lent : length (take n came) ≡ n
     lent = part-length n (toNat b) came isN
 
     of-shown : (C : Summary → Type 0)
         → ((T : Table) → readText s ≡ fine T → leaves (tree T) ≤ length came → Shows f (heightSearched T (toNat m) (limited n)) (take n came) now → C (summary T)) → C t
     of-shown C show =
-        of-table G (λ t K S W H. t .leaves ≤ length came → Searched (slices K S W H) (ruleFor (scaleFor t) m) (endsFor (scaleFor t)) (t .nodes) f (take n came) now → C t) (λ T p few told.
+        of-table G (λ t K S W H. t .leaves ≤ length came → Searched (slices K S W H) (way (ruleFor (scaleFor t) m) (endsFor (scaleFor t)) H []) (endsFor (scaleFor t)) (t .nodes) f (take n came) now → C t) (λ T p few told.
         let z = zeros-enough s T p in
         show T p (rw (accepted-leaves s T p) few)
         (subst (λ (k : ℕ). Shows f (heightSearched T (toNat m) (limited k)) (take n came) now) lent
@@ -158,39 +176,14 @@ module _ {s : List ℕ} {t : Summary} {K S W H : List ℕ} (G : Taken s t K S W 
         let h = heights-order s T p (toNat m) (limited n) in
         (omega (arith, w .low, w .high, h .0), omega (arith, w .high, h .1, span-grains s T p), omega (arith, w .reads, lent)))
 
-    abbrev gives : Summary → Bounded
-    gives t =
-        Given (record {
-          low = t .lowest *ℤ pos (t .grain) +ℤ pos (f .low);
-          high = t .lowest *ℤ pos (t .grain) +ℤ pos (f .high);
-          difference = pos (f .high - f .low);
-          play = playOf (playAt (f .play));
-          leaves = n - f .left;
-          spent = f .spent;
-          grain = t .grain;
-        })
-
     -- reading no more than the list holds is the search within the budget
     seen-within : (T : Table) → readText s ≡ fine T → leaves (tree T) ≤ length came → searchedUntil T (toNat m) (limited n) ≡ searchedWithin T (toNat m) (toNat b)
     seen-within T p few = ap (λ (k : ℕ). searchedWithin T (toNat m) k) isN ∙ budget-met s T p (toNat m) (toNat b) (length came) few
 
-    pub given-at : gives t ≡ withinCall (readText s) m b (length came)
+    pub given-at : Given (boundsFor t f n) ≡ withinCall (readText s) m b (length came)
     given-at =
-        of-shown (λ t. gives t ≡ withinCall (readText s) m b (length came)) (λ T p few w.
-        let (low, high, play, read, spent) = shifted s T p (toNat m) (limited n) in
-        let base : ℤ = T .head .lowest *ℤ pos (grain T) in
-        let is-low = ap (λ (k : ℕ). base +ℤ pos k) (w .low) ∙ sym low in
-        let is-high = ap (λ (k : ℕ). base +ℤ pos k) (w .high) ∙ sym high in
-        let count : n - f .left ≡ length (heightSearched T (toNat m) (limited n) .read) = omega (arith, w .reads, lent) in
-        ap Given (λ i. record {
-          low = is-low i;
-          high = is-high i;
-          difference = (difference-is base (f .low) (f .high) (found-small .0) ∙ ap₂ _-ℤ_ is-high is-low) i;
-          play = (ap playOf (w .play ∙ sym play)) i;
-          leaves = (count ∙ sym (ap length read)) i;
-          spent = (w .spent ∙ sym spent) i;
-          grain = grain T;
-        })
+        of-shown (λ t. Given (boundsFor t f n) ≡ withinCall (readText s) m b (length came)) (λ T p few w.
+        ap Given (shown-bounds T f n (heightSearched T (toNat m) (limited n)) (searchedUntil T (toNat m) (limited n)) w lent (heights-order s T p (toNat m) (limited n) .0) (shifted s T p (toNat m) (limited n)))
         ∙ ap (λ (r : Seen ℤ). Given (boundsOf (record { table = T; seen = r }))) (seen-within T p few)
         ∙ sym (ap searchAnswer (ap (λ (v : Verdict Table). soughtWithin v m b (length came)) p ∙ sought-fine T m b (length came) x y few)))
 

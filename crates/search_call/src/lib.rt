@@ -7,15 +7,18 @@ ghost use Rattle.line.specs.Line.{toNat};
 ghost use Rattle.table.specs.Table.{readText};
 ghost use Rattle.table.specs.Slices.{laid};
 ghost use Rattle.table.specs.Root.{playOf};
+ghost use Rattle.scale.specs.Inside.{Spread};
 ghost use Rattle.steps.specs.Inside.{playAt};
-ghost use Rattle.search_call.specs.Inside.{ruleFor, endsFor};
+ghost use Rattle.search_call.specs.Inside.{ruleFor, endsFor, boundsFor};
 ghost use Rattle.search_call.specs.Call.{beyond, searchCall, searchReads, withinCall, withinReads};
 use line::Refusal;
 use scale::Scale;
 use steps::Ends;
+use steps::Found;
 use steps::Rule;
 use table::Play;
 use table::Reading;
+use table::Summary;
 
 // What a search answers: two bounds and how far apart they are, the best root child entered, how many leaves were read, whether the budget was
 // spent, and G.
@@ -89,6 +92,26 @@ fn apart(low: u64, high: u64) -> i64
     (high - low) as i64
 }
 
+// What a search answers that found f, with so many reads to begin with.
+pub fn bounds_of(t: Summary, f: Found, reads: usize) -> Bounds
+    requires { ⌜ Spread t × (f .low ≤ f .high) × (f .high ≤ 35184372088832) × (f .left ≤ reads) ⌝ }
+    ensures { λ r. ⌜ r ≡ boundsFor t f reads ⌝ }
+{
+    let low = scale::in_grains(t.lowest, t.grain, f.low);
+    let high = scale::in_grains(t.lowest, t.grain, f.high);
+    let difference = apart(f.low, f.high);
+    let read = reads - f.left;
+    Bounds {
+        low: low,
+        high: high,
+        difference: difference,
+        play: play_at(f.play),
+        leaves: read,
+        spent: f.spent,
+        grain: t.grain,
+    }
+}
+
 // The bounded search within a budget of leaf reads: for any text, any margin, any budget and any list. The list gets the leaves read in reading
 // sequence, and keeps its other entries; a refused call writes nothing.
 pub fn search_within(text: &[u8], margin: i64, budget: i64, leaves: &mut [u16]) -> Bounded
@@ -99,6 +122,8 @@ pub fn search_within(text: &[u8], margin: i64, budget: i64, leaves: &mut [u16]) 
     let mut stop = [0u16; 1024];
     let mut weight = [0u8; 1024];
     let mut height = [0u32; 1024];
+    // no index
+    let none = [0u32; 0];
     match reading::decode(text, &mut kind, &mut stop, &mut weight, &mut height) {
         Reading::Refused(r) => Bounded::Refused(r),
         Reading::Accepted(t) => {
@@ -121,24 +146,13 @@ pub fn search_within(text: &[u8], margin: i64, budget: i64, leaves: &mut [u16]) 
                 &stop,
                 &weight,
                 &height,
+                &none,
                 &mut leaves[..n],
                 t.nodes,
                 g,
                 v,
             );
-            let low = scale::in_grains(t.lowest, t.grain, f.low);
-            let high = scale::in_grains(t.lowest, t.grain, f.high);
-            let difference = apart(f.low, f.high);
-            let read = n - f.left;
-            Bounded::Found(Bounds {
-                low: low,
-                high: high,
-                difference: difference,
-                play: play_at(f.play),
-                leaves: read,
-                spent: f.spent,
-                grain: t.grain,
-            })
+            Bounded::Found(bounds_of(t, f, n))
         }
     }
 }

@@ -18,13 +18,12 @@ use Rattle.search.specs.Sums.{SumArith, onSums, scaled, keep, leave, scanSums}
 use Rattle.search.specs.Inside.{natural, naturalSums, heightSums, grained}
 use Rattle.search.proofs.Steps.{cond-map, sumsUnder, sumsAfter}
 use Rattle.search.proofs.Below.{below-le, below-ge}
-use Rattle.steps.specs.declared.Rule.{Rule}
 use Rattle.steps.specs.declared.Ends.{Ends}
 use Rattle.steps.specs.declared.State.{State}
 use Rattle.steps.specs.declared.Window.{Window}
-use Rattle.steps.specs.Inside.{frameAt, lift, windowFor, takes, after, rulesOf, playAt, leafSeen}
+use Rattle.steps.specs.Inside.{frameAt, lift, windowFor, takes, after, playAt, leafSeen}
 use Rattle.steps.proofs.Takes.{first-taken, later-taken}
-use Rattle.searching.specs.Inside.{seenIn}
+use Rattle.searching.specs.Inside.{Way, rulesOf, seenIn, nodeSeen}
 
 -- ---- the leaves read before change nothing else
 
@@ -92,12 +91,12 @@ module _ {A : Type 0} where
           let c : Seen A = leave P e k (cut e k t) in
           ap (λ (y : Seen A). cond b (ahead l c) y) x ∙ cond-map (ahead l) c (scanSums P O R′ e k rest t) b
 
-      step-ahead : (e : Frame A) (k : Kind) (n w : ℕ) (rest : Forest A) (s : alg.State A) (r r2 : Seen A) → r2 ≡ ahead l r
+      step-ahead : (e d : Frame A) (k : Kind) (n w : ℕ) (rest : Forest A) (s : alg.State A) (r r2 : Seen A) → r2 ≡ ahead l r
           → ((t : alg.State A) → scanSums P O R e k rest (aheadS l t) ≡ ahead l (scanSums P O R′ e k rest t))
-          → sumsAfter P O R e k rest (update N e k n w (aheadS l s) (met R e (l ++ s .read) r2)) ≡ ahead l (sumsAfter P O R′ e k rest (update N e k n w s (met R′ e (s .read) r)))
-      step-ahead e k n w rest s r r2 q ih =
-          let c : Seen A = met R′ e (s .read) r in
-          ap (λ (x : Seen A). sumsAfter P O R e k rest (update N e k n w (aheadS l s) x)) (met-ahead e (s .read) r r2 q)
+          → sumsAfter P O R e k rest (update N e k n w (aheadS l s) (met R d (l ++ s .read) r2)) ≡ ahead l (sumsAfter P O R′ e k rest (update N e k n w s (met R′ d (s .read) r)))
+      step-ahead e d k n w rest s r r2 q ih =
+          let c : Seen A = met R′ d (s .read) r in
+          ap (λ (x : Seen A). sumsAfter P O R e k rest (update N e k n w (aheadS l s) x)) (met-ahead d (s .read) r r2 q)
           ∙ ap (sumsAfter P O R e k rest) (update-ahead N e k n w s l c)
           ∙ after-ahead e k rest (update N e k n w s c) (ih (update N e k n w s c))
 
@@ -105,11 +104,11 @@ module _ {A : Type 0} where
       unfolding scanSums finish point leave
       scan-ahead e k end s = refl
       scan-ahead e k (leaf n w v rest) s =
-          step-ahead e k n w rest s (point n v (s .read)) (point n v (l ++ s .read))
+          step-ahead e e k n w rest s (point n v (s .read)) (point n v (l ++ s .read))
           (ap (λ (x : List ℕ). record { low = v; high = v; play = noPlay; read = x; spent = false }) (append-assoc l (s .read) (n ∷ []))) (λ t. scan-ahead e k rest t)
       scan-ahead e k (inner n w c under rest) s =
           let d : Frame A = frame n under in
-          step-ahead e k n w rest s (sumsUnder P O R′ e k n w c under s) (sumsUnder P O R e k n w c under (aheadS l s))
+          step-ahead e d k n w rest s (sumsUnder P O R′ e k n w c under s) (sumsUnder P O R e k n w c under (aheadS l s))
           (ap₂ (λ (x y : A). scanSums P O R d c under (keep P d c (begin d c x y (l ++ s .read)))) (lower-ahead N e k w s l) (upper-ahead N e k w s l)
           ∙ ap (scanSums P O R d c under) (begin-ahead d c (lower N e k w s) (upper N e k w s) l (s .read))
           ∙ scan-ahead d c under (keep P d c (begin d c (lower N e k w s) (upper N e k w s) (s .read)))) (λ t. scan-ahead e k rest t)
@@ -123,12 +122,6 @@ limited-behind left budget l q m =
     (λ h. le→leb budget (length l + length m) (omega (arith, leb→le left (length m) h)))
 
 -- ---- one child
-
--- what the first node gives in the window w, where it is entered with so many reads left
-abbrev pub nodeSeen : Rule → Ends → (left : ℕ) → Forest ℕ → Window → Seen ℕ
-nodeSeen g v left end w = record { low = 0; high = 0; play = noPlay; read = []; spent = false }
-nodeSeen g v left (leaf n x h rest) w = leafSeen v left n (h * g .grain)
-nodeSeen g v left (inner n x j under rest) w = seenIn g v left j under w
 
 lower-lift : (e : Frame ℕ) (k : Kind) (w : ℕ) (s : State) (p : Play ℕ) (l : List ℕ) (x : Bool) → lower naturalSums e k w (lift s p l x) ≡ windowFor e k w s .alpha
 unfolding lower
@@ -147,43 +140,44 @@ pub update-lift : (e : Frame ℕ) (k : Kind) (i w : ℕ) (s : State) (p : Play �
 unfolding update
 update-lift e k i w s p l x A = refl
 
-module _ (g : Rule) (v : Ends) (left budget : ℕ) (l : List ℕ) (q : left + length l ≡ budget) where
+module _ (g : Way) (v : Ends) (left budget : ℕ) (l : List ℕ) (q : left + length l ≡ budget) where
   -- a node met with l read, of which r2 is what it would give
-  met-behind : (e : Frame ℕ) (r r2 : Seen ℕ) → r2 ≡ ahead l r → met (rulesOf g v budget) e l r2 ≡ ahead l (met (rulesOf g v left) e [] r)
+  met-behind : (e : Frame ℕ) (r r2 : Seen ℕ) → r2 ≡ ahead l r → met (rulesOf g budget) e l r2 ≡ ahead l (met (rulesOf g left) e [] r)
   met-behind e r r2 same =
-      ap (λ (x : List ℕ). met (rulesOf g v budget) e x r2) (sym (append-nil l))
-      ∙ met-ahead heightSums natural (rulesOf g v left .frame) (g .margin) l (limited budget) (limited left) (limited-behind left budget l q) e [] r r2 same
+      ap (λ (x : List ℕ). met (rulesOf g budget) e x r2) (sym (append-nil l))
+      ∙ met-ahead heightSums natural (rulesOf g left .frame) (g .rule .margin) l (limited budget) (limited left) (limited-behind left budget l q) e [] r r2 same
 
   -- the first child is taken
   pub scan-step : (N : ℕ) (k : Kind) (F : Forest ℕ) (s : State) (p : Play ℕ) (x : Bool) → isEnd F ≡ false →
       let e : Frame ℕ = frameAt v N in
       let C : Seen ℕ = nodeSeen g v left F (windowFor e k (weightOf F) s) in
-      scanSums heightSums natural (rulesOf g v budget) e k (grained (g .grain) F) (lift s p l x)
-      ≡ sumsAfter heightSums natural (rulesOf g v budget) e k (grained (g .grain) (restOf F)) (lift (after e k (numberOf F) (weightOf F) s (C .low) (C .high)) (prefer naturalSums k (numberOf F) p (ahead l C)) (l ++ C .read) (C .spent))
+      scanSums heightSums natural (rulesOf g budget) e k (grained (g .rule .grain) F) (lift s p l x)
+      ≡ sumsAfter heightSums natural (rulesOf g budget) e k (grained (g .rule .grain) (restOf F)) (lift (after e k (numberOf F) (weightOf F) s (C .low) (C .high)) (prefer naturalSums k (numberOf F) p (ahead l C)) (l ++ C .read) (C .spent))
   unfolding scanSums grained point metSpent
   scan-step N k end s p x some = absurd (true-ne-false some)
   scan-step N k (leaf n w h rest) s p x some =
       let e : Frame ℕ = frameAt v N in
-      let C : Seen ℕ = leafSeen v left n (h * g .grain) in
-      ap (λ (y : Seen ℕ). sumsAfter heightSums natural (rulesOf g v budget) e k (grained (g .grain) rest) (update naturalSums e k n w (lift s p l x) y))
-      (met-behind e (point n (h * g .grain) []) (point n (h * g .grain) l) refl)
-      ∙ ap (sumsAfter heightSums natural (rulesOf g v budget) e k (grained (g .grain) rest)) (update-lift e k n w s p l x (ahead l C))
+      let C : Seen ℕ = leafSeen v left n (h * g .rule .grain) in
+      ap (λ (y : Seen ℕ). sumsAfter heightSums natural (rulesOf g budget) e k (grained (g .rule .grain) rest) (update naturalSums e k n w (lift s p l x) y))
+      (met-behind e (point n (h * g .rule .grain) []) (point n (h * g .rule .grain) l) refl)
+      ∙ ap (sumsAfter heightSums natural (rulesOf g budget) e k (grained (g .rule .grain) rest)) (update-lift e k n w s p l x (ahead l C))
   scan-step N k (inner n w j under rest) s p x some =
       let e : Frame ℕ = frameAt v N in
-      let R : Rules ℕ = rulesOf g v budget in
-      let f : Forest ℕ = grained (g .grain) under in
-      let d : Frame ℕ = framed (v .bottom) (v .top) f in
+      let R : Rules ℕ = rulesOf g budget in
+      let f : Forest ℕ = grained (g .rule .grain) under in
+      let u : Ends = g .own n in
+      let d : Frame ℕ = framed (u .bottom) (u .top) f in
       let y : Window = windowFor e k w s in
-      let C : Seen ℕ = seenIn g v left j under y in
+      let C : Seen ℕ = seenIn g u left j under y in
       let start : alg.State ℕ = keep heightSums d j (begin d j (y .alpha) (y .beta) []) in
-      let same : sumsUnder heightSums natural R e k n w j f (lift s p l x) ≡ ahead l (scanSums heightSums natural (rulesOf g v left) d j f start) =
+      let same : sumsUnder heightSums natural R e k n w j f (lift s p l x) ≡ ahead l (scanSums heightSums natural (rulesOf g left) d j f start) =
       ap₂ (λ (a b : ℕ). scanSums heightSums natural R d j f (keep heightSums d j (begin d j a b l))) (lower-lift e k w s p l x) (upper-lift e k w s p l x)
       ∙ ap (λ (z : List ℕ). scanSums heightSums natural R d j f (keep heightSums d j (begin d j (y .alpha) (y .beta) z))) (sym (append-nil l))
       ∙ ap (scanSums heightSums natural R d j f) (begin-ahead heightSums d j (y .alpha) (y .beta) l [])
-      ∙ scan-ahead heightSums natural (R .frame) (g .margin) l (limited budget) (limited left) (limited-behind left budget l q) d j f start in
-      ap (λ (z : Seen ℕ). sumsAfter heightSums natural R e k (grained (g .grain) rest) (update naturalSums e k n w (lift s p l x) z))
-      (met-behind e (scanSums heightSums natural (rulesOf g v left) d j f start) (sumsUnder heightSums natural R e k n w j f (lift s p l x)) same)
-      ∙ ap (sumsAfter heightSums natural R e k (grained (g .grain) rest)) (update-lift e k n w s p l x (ahead l C))
+      ∙ scan-ahead heightSums natural (R .frame) (g .rule .margin) l (limited budget) (limited left) (limited-behind left budget l q) d j f start in
+      ap (λ (z : Seen ℕ). sumsAfter heightSums natural R e k (grained (g .rule .grain) rest) (update naturalSums e k n w (lift s p l x) z))
+      (met-behind d (scanSums heightSums natural (rulesOf g left) d j f start) (sumsUnder heightSums natural R e k n w j f (lift s p l x)) same)
+      ∙ ap (sumsAfter heightSums natural R e k (grained (g .rule .grain) rest)) (update-lift e k n w s p l x (ahead l C))
 
 -- ---- the play
 

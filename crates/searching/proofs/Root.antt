@@ -1,26 +1,21 @@
 -- The search of a whole table: what the calls at the root ask, and what they give. Assumes nothing.
 use Prim.Native.Nat.{ℕ, suc, _-_, _≤_, _<_}
-use mathlib.Core.Path.{_≡_, refl, ap, _∙_}
+use mathlib.Core.Path.{_≡_, refl, sym, ap, subst, _∙_}
 use mathlib.Core.List.{List, [], _∷_}
-use native.Mathlib.Nat.{le-refl}
+use native.Mathlib.Nat.{le-refl, le-trans}
 use native.Mathlib.Omega.{arith}
-use lib.ListN.{length, set}
+use lib.ListN.{length, getD, set}
 use Rattle.table.specs.Tree.{MAX, Forest, end, leaf, inner}
-use Rattle.table.specs.Inside.{Slices}
+use Rattle.table.specs.Inside.{Slices, Spans}
 use Rattle.table.specs.Slices.{laid}
-use Rattle.table.specs.Accepted.{Rooted}
-use Rattle.table.proofs.Nodes.{root-stop, root-some}
-use Rattle.search.specs.Search.{Seen, metSpent}
-use Rattle.search.specs.Sums.{searchSums, rootSums}
-use Rattle.search.specs.Inside.{natural, heightSums, grained}
-use Rattle.steps.specs.declared.Rule.{Rule}
+use Rattle.table.proofs.Nodes.{code-pos, root-stop, root-some}
+use Rattle.search.specs.Search.{Seen}
 use Rattle.steps.specs.declared.Ends.{Ends}
 use Rattle.steps.specs.declared.Window.{Window}
 use Rattle.steps.specs.declared.Found.{Found}
-use Rattle.steps.specs.Inside.{rulesOf, putFrom, Gives}
-use Rattle.searching.specs.Inside.{ReadyRoot, Shows, Searched}
-use Rattle.searching.proofs.Bridge.{nodeSeen}
-use Rattle.searching.proofs.Rules.{NodeTold, ReadyNode}
+use Rattle.steps.specs.Inside.{putFrom, Gives, limit}
+use Rattle.searching.specs.Inside.{Way, nodeSeen, ReadyRoot, rootSeen, Shows, Searched}
+use Rattle.searching.proofs.Rules.{NodeTold, ReadyNode, ready-nested}
 
 -- ---- a list written from its front
 
@@ -37,13 +32,13 @@ put-laid (y ∷ l) (x ∷ xs) h = put-later x l 0 xs ∙ ap (λ (z : List ℕ). 
 
 -- ---- the root
 
--- line 6: its window is between its ends
+-- line 6: its window is between its ends, which were read as u
 abbrev pub rootWindow : Ends → Window
-rootWindow v = record { alpha = v .bottom; beta = v .top }
+rootWindow u = record { alpha = u .bottom; beta = u .top }
 
-module _ {t : Slices} {g : Rule} {v : Ends} {n : ℕ} (R : ReadyRoot t g v n) where
-  pub root-ready : (room : ℕ) → ReadyNode t g v (rootWindow v) 0 n room room
-  root-ready room =
+module _ {t : Slices} {g : Way} {v : Ends} {n : ℕ} (R : ReadyRoot t g v n) where
+  root-at : (w : Window) → w .alpha ≤ limit → w .beta ≤ limit → (room : ℕ) → ReadyNode t g v w 0 n room room
+  root-at w p q room =
       record {
         nodes = R .nodes;
         parent = MAX;
@@ -54,22 +49,28 @@ module _ {t : Slices} {g : Rule} {v : Ends} {n : ℕ} (R : ReadyRoot t g v n) wh
         stop = root-stop t n (R .nodes) (R .spans) (R .rooted);
         ends = R .ends;
         rule = R .rule;
-        alpha = omega (arith, R .ends .order, R .ends .top);
-        beta = R .ends .top;
+        alpha = p;
+        beta = q;
         holds = R .holds;
         within = le-refl room;
       }
+
+  -- before its ends are read, where the window does not matter
+  pub root-first : (room : ℕ) → ReadyNode t g v (record { alpha = 0; beta = 0 }) 0 n room room
+  root-first room = root-at (record { alpha = 0; beta = 0 }) (omega arith) (omega arith) room
+
+  -- y is the kind that was read
+  pub root-ready : (room : ℕ) {y : ℕ} → y ≡ getD (t .kinds) 0 0 → (y ≡ 0 → ⊥) → {u : Ends} → u ≡ g .own 0 → ReadyNode t g v (rootWindow u) 0 n room room
+  root-ready room q ne {u} is =
+      let own = ready-nested (root-first room) (λ h. ne (q ∙ h)) in
+      let h : u .top ≤ limit = subst (λ (v : Ends). v .top ≤ limit) (sym is) (le-trans (own .top) (R .ends .top)) in
+      let b : u .bottom ≤ limit = le-trans (subst (λ (v : Ends). v .bottom ≤ v .top) (sym is) (own .order)) h in
+      root-at (rootWindow u) b h room
 
   pub root-long : (0 < length (t .kinds)) × (0 < length (t .heights))
   root-long =
       let x = root-some t n (R .nodes) (R .spans) (R .rooted) in
       (omega (arith, x, R .holds .kinds), omega (arith, x, R .holds .heights))
-
-root-is : (g : Rule) (v : Ends) (left : ℕ) (F : Forest ℕ) → Rooted F → rootSums heightSums natural (rulesOf g v left) (grained (g .grain) F) ≡ nodeSeen g v left F (rootWindow v)
-unfolding grained rootSums searchSums metSpent
-root-is g v left end r = absurd r
-root-is g v left (leaf i w h rest) r = refl
-root-is g v left (inner i w k under rest) r = refl
 
 shown : (r : Found) (a : Seen ℕ) (came now : List ℕ) → Gives (length came) r a came now → Shows r a came now
 shown r a came now G =
@@ -83,10 +84,27 @@ shown r a came now G =
       leaves = G .leaves ∙ ap (λ (n : ℕ). putFrom came n (a .read)) front ∙ put-laid came (a .read) (omega (arith, G .reads));
     }
 
--- what is told of the root is the search of the table
-pub root-searched : {t : Slices} {g : Rule} {v : Ends} {n : ℕ} {r : Found} {came now : List ℕ} → NodeTold t g v (rootWindow v) 0 (length came) r came now
-    → Searched t g v n r came now
-root-searched {t} {g} {v} {n} {r} {came} {now} T R =
-    let F = R .nodes in
-    rw (root-is g v (length came) F (R .rooted))
-    (shown r (nodeSeen g v (length came) F (rootWindow v)) came now (T .tells F n (R .spans) (root-some t n F (R .spans) (R .rooted))))
+-- a lone leaf needs no window
+leaf-window : (g : Way) (v : Ends) (left : ℕ) (t : Slices) (n : ℕ) (F : Forest ℕ) (w y : Window) → Spans t 0 n F → 0 < n → getD (t .kinds) 0 0 ≡ 0
+    → nodeSeen g v left F w ≡ nodeSeen g v left F y
+unfolding Spans
+leaf-window g v left t n end w y is lt z = absurd (omega arith)
+leaf-window g v left t n (leaf i x h rest) w y is lt z = refl
+leaf-window g v left t n (inner i x j under rest) w y is lt z = absurd (omega (arith, code-pos j, is .1))
+
+module _ {t : Slices} {g : Way} {v : Ends} {n : ℕ} {r : Found} {came now : List ℕ} where
+  -- what is told of the root is the search of the table
+  pub root-searched : {u : Ends} → u ≡ g .own 0 → NodeTold t g v (rootWindow u) 0 (length came) r came now → Searched t g v n r came now
+  root-searched {u} is T R =
+      let F = R .nodes in
+      shown r (rootSeen g v (length came) F) came now
+      (subst (λ (u : Ends). Gives (length came) r (nodeSeen g v (length came) F (rootWindow u)) came now) is
+      (T .tells F n (R .spans) (root-some t n F (R .spans) (R .rooted))))
+
+  pub leaf-searched : getD (t .kinds) 0 0 ≡ 0 → NodeTold t g v (record { alpha = 0; beta = 0 }) 0 (length came) r came now → Searched t g v n r came now
+  leaf-searched z T R =
+      let F = R .nodes in
+      let some : 0 < n = root-some t n F (R .spans) (R .rooted) in
+      shown r (rootSeen g v (length came) F) came now
+      (subst (λ (a : Seen ℕ). Gives (length came) r a came now)
+      (leaf-window g v (length came) t n F (record { alpha = 0; beta = 0 }) (rootWindow (g .own 0)) (R .spans) some z) (T .tells F n (R .spans) some))

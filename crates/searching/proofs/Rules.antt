@@ -1,13 +1,13 @@
 -- One child of a node, and one node, on plain values: what the proofs of the three searches cite. Assumes nothing.
 use Prim.Native.Nat.{ℕ, suc, _+_, _-_, _*_, _≤_, _<_}
 use mathlib.Core.Path.{_≡_, refl, sym, ap, ap₂, subst, subst₂, _∙_}
-use mathlib.Core.Bool.{Bool, true, false}
+use mathlib.Core.Bool.{Bool, true, false, cond}
 use mathlib.Core.List.{List, [], _∷_, _++_}
 use native.Mathlib.Nat.{suc-add, add-suc, add-zero, le-trans, mul-le-mul, mul-div-right}
 use native.Mathlib.Omega.{arith}
 use lib.ListN.{length, getD, set, length-set, length-append}
-use lib.Dec.{leb}
-use borrow.Author.Tests.{lt-leb}
+use lib.Dec.{eqb, leb}
+use borrow.Author.Tests.{ne-eqb, lt-leb}
 use Rattle.line.proofs.Signs.{true-ne-false}
 use Rattle.table.specs.Tree.{Kind, MAX, MIN, CHANCE, Forest, end, leaf, inner, codeOf, isChance, isEnd, weigh}
 use Rattle.table.specs.Inside.{Slices, Spans, Holds}
@@ -26,9 +26,9 @@ use Rattle.steps.specs.declared.Ends.{Ends}
 use Rattle.steps.specs.declared.State.{State}
 use Rattle.steps.specs.declared.Window.{Window}
 use Rattle.steps.specs.declared.Found.{Found}
-use Rattle.steps.specs.Inside.{frameAt, lift, sumsAt, windowFor, after, stops, rulesOf, putFrom, Gives, leftIn, metSpentIn, leafSeen, limit, OkEnds, OkSums}
-use Rattle.searching.specs.Inside.{seenIn, OkRule, Light, Fit, ReadyChildren, Told}
-use Rattle.searching.proofs.Bridge.{ahead, nodeSeen, update-lift, scan-step, Plays, plays-number, plays-after}
+use Rattle.steps.specs.Inside.{frameAt, endsAt, lift, sumsAt, windowFor, after, stops, putFrom, Gives, leftIn, metSpentIn, leafSeen, limit, OkEnds, OkSums}
+use Rattle.searching.specs.Inside.{Way, way, rulesOf, seenIn, nodeSeen, OkRule, Light, Nested, Fit, ReadyChildren, Told}
+use Rattle.searching.proofs.Bridge.{ahead, update-lift, scan-step, Plays, plays-number, plays-after}
 use Rattle.searching.proofs.Fits.{grained-split, fit-rest, fit-weight, fit-sound, node-between}
 
 -- ---- the list
@@ -48,11 +48,11 @@ put-length l k (x ∷ xs) = put-length (set l k x) (suc k) xs ∙ length-set l k
 -- ---- one node
 
 -- what is told of the node at entry c, searched in the window w: its result r, and the list as it came and as it is now
-pub record NodeTold (t : Slices) (g : Rule) (v : Ends) (w : Window) (c left : ℕ) (r : Found) (came now : List ℕ) : Type 0 where
+pub record NodeTold (t : Slices) (g : Way) (v : Ends) (w : Window) (c left : ℕ) (r : Found) (came now : List ℕ) : Type 0 where
   pub tells : (F : Forest ℕ) (e : ℕ) → Spans t c e F → c < e → Gives left r (nodeSeen g v left F w) came now
 
 -- the node at entry c, with its later siblings, can be searched in the window w; its run goes up to x
-pub record ReadyNode (t : Slices) (g : Rule) (v : Ends) (w : Window) (c x left room : ℕ) : Type 0 where
+pub record ReadyNode (t : Slices) (g : Way) (v : Ends) (w : Window) (c x left room : ℕ) : Type 0 where
   pub nodes : Forest ℕ
   pub parent : Kind
   pub upto : ℕ
@@ -61,7 +61,7 @@ pub record ReadyNode (t : Slices) (g : Rule) (v : Ends) (w : Window) (c x left r
   pub fit : Fit g v parent nodes
   pub stop : stopOf t c ≡ x
   pub ends : OkEnds v
-  pub rule : OkRule g
+  pub rule : OkRule (g .rule)
   pub alpha : w .alpha ≤ limit
   pub beta : w .beta ≤ limit
   pub holds : Holds t x
@@ -80,30 +80,31 @@ spans-three t c e (leaf i w x rest) h lt p q r = absurd (p (h .1))
 spans-three t c e (inner i w j under rest) h lt p q r = h .1 ∙ code-three j (λ z. q (h .1 ∙ z)) (λ z. r (h .1 ∙ z))
 
 -- a leaf's height
-spans-leaf : (t : Slices) (g : Rule) (v : Ends) (k : Kind) (c e : ℕ) (F : Forest ℕ) → Spans t c e F → c < e → Fit g v k F → getD (t .kinds) c 0 ≡ 0
-    → getD (t .heights) c 0 * g .grain ≤ v .top
+spans-leaf : (t : Slices) (g : Way) (v : Ends) (k : Kind) (c e : ℕ) (F : Forest ℕ) → Spans t c e F → c < e → Fit g v k F → getD (t .kinds) c 0 ≡ 0
+    → getD (t .heights) c 0 * g .rule .grain ≤ v .top
 unfolding Spans Fit
 spans-leaf t g v k c e end h lt f z = absurd (omega arith)
-spans-leaf t g v k c e (leaf i w x rest) h lt f z = subst (λ (n : ℕ). n * g .grain ≤ v .top) (sym (h .4)) (f .2)
+spans-leaf t g v k c e (leaf i w x rest) h lt f z = subst (λ (n : ℕ). n * g .rule .grain ≤ v .top) (sym (h .4)) (f .2)
 spans-leaf t g v k c e (inner i w j under rest) h lt f z = absurd (omega (arith, code-pos j, h .1))
 
-module _ (t : Slices) (g : Rule) (v : Ends) (w : Window) (c x left room : ℕ) where
+module _ (t : Slices) (g : Way) (v : Ends) (w : Window) (c x left room : ℕ) where
   ready-under : (k j : Kind) (e : ℕ) (F : Forest ℕ) → Spans t c e F → Fit g v k F → c < e → getD (t .kinds) c 0 ≡ codeOf j → stopOf t c ≡ x
-      → OkEnds v → OkRule g → w .alpha ≤ limit → w .beta ≤ limit → Holds t x → left ≤ room → ReadyChildren t g v j w (c + 1) x left room
+      → OkEnds v → OkRule (g .rule) → w .alpha ≤ limit → w .beta ≤ limit → Holds t x → left ≤ room → ReadyChildren t g (g .own c) j w (c + 1) x left room
   unfolding Spans Fit
   ready-under k j e end h f lt z q o o2 p p′ tb le = absurd (omega arith)
   ready-under k j e (leaf i y u rest) h f lt z q o o2 p p′ tb le = absurd (omega (arith, code-pos j, h .1))
   ready-under k j e (inner i y j′ under rest) h f lt z q o o2 p p′ tb le =
       let same : j′ ≡ j = code-inj j′ j (sym (h .1) ∙ z) in
       let isU : Spans t (c + 1) x under = subst (λ (n : ℕ). Spans t (c + 1) n under) q (h .3) in
+      let own : Nested g v c = subst (Nested g v) (h .0) (f .3) in
       record {
         nodes = under;
         spans = isU;
         later = omega arith;
         some = spans-lt t (c + 1) x under isU (f .1);
-        fit = subst (λ (y : Kind). Fit g v y under) same (f .3);
+        fit = subst₂ (λ (n : ℕ) (y : Kind). Fit g (g .own n) y under) (h .0) same (f .4);
         light = subst (λ (y : Kind). Light y under) same (f .2);
-        ends = o;
+        ends = record { order = own .order; top = le-trans (own .top) (o .top) };
         rule = o2;
         alpha = p;
         beta = p′;
@@ -111,52 +112,91 @@ module _ (t : Slices) (g : Rule) (v : Ends) (w : Window) (c x left room : ℕ) w
         within = le;
       }
 
-module _ {t : Slices} {g : Rule} {v : Ends} {w : Window} {c x left room : ℕ} (N : ReadyNode t g v w c x left room) where
-  pub ready-inner : (j : Kind) → getD (t .kinds) c 0 ≡ codeOf j → ReadyChildren t g v j w (c + 1) x left room
-  ready-inner j z =
-      ready-under t g v w c x left room (N .parent) j (N .upto) (N .nodes) (N .spans) (N .fit) (N .some) z (N .stop) (N .ends) (N .rule) (N .alpha) (N .beta) (N .holds) (N .within)
+  ready-room : (k : Kind) (e : ℕ) (F : Forest ℕ) → Spans t c e F → Fit g v k F → c < e → (getD (t .kinds) c 0 ≡ 0 → ⊥) → Nested g v c
+  unfolding Spans Fit
+  ready-room k e end h f lt z = absurd (omega arith)
+  ready-room k e (leaf i y u rest) h f lt z = absurd (z (h .1))
+  ready-room k e (inner i y j under rest) h f lt z = subst (Nested g v) (h .0) (f .3)
+
+-- The way of a child whose ends u were read: that of its parent, as its ends are the parent's where the lists are empty, and do not matter elsewhere.
+ends-same : (G : ℕ) (H T : List ℕ) (v : Ends) (c n : ℕ) → endsAt G H T (endsAt G H T v c) n ≡ endsAt G H T v n
+ends-same G H T v c n = pick (eqb (length T) 0)
+  where
+    pick : (b : Bool) → cond b (cond b v (record { bottom = getD H c 0 * G; top = getD T c 0 * G })) (record { bottom = getD H n 0 * G; top = getD T n 0 * G })
+        ≡ cond b v (record { bottom = getD H n 0 * G; top = getD T n 0 * G })
+    pick true = refl
+    pick false = refl
+
+pub way-same : (g : Rule) (H T : List ℕ) (v : Ends) (c : ℕ) {u : Ends} → u ≡ endsAt (g .grain) H T v c → way g u H T ≡ way g v H T
+way-same g H T v c q =
+    ap (λ (u : Ends). way g u H T) q ∙ λ i. record { rule = g; own = λ n. ends-same (g .grain) H T v c n i; rises = H; tops = T }
+
+module _ {t : Slices} {g : Rule} {H T : List ℕ} {v : Ends} {w : Window} {c x left room : ℕ} (N : ReadyNode t (way g v H T) v w c x left room) where
+  -- u is what was read of its ends
+  pub ready-inner : (j : Kind) {u : Ends} → u ≡ endsAt (g .grain) H T v c → getD (t .kinds) c 0 ≡ codeOf j → ReadyChildren t (way g u H T) u j w (c + 1) x left room
+  ready-inner j {u} q z =
+      subst₂ (λ (y : Way) (u : Ends). ReadyChildren t y u j w (c + 1) x left room) (sym (way-same g H T v c q)) (sym q)
+      (ready-under t (way g v H T) v w c x left room (N .parent) j (N .upto) (N .nodes) (N .spans) (N .fit) (N .some) z (N .stop) (N .ends) (N .rule) (N .alpha) (N .beta) (N .holds) (N .within))
+
+  -- what reading its ends asks
+  pub ready-own : (getD (t .kinds) c 0 ≡ 0 → ⊥) → 0 < length T
+      → (c < length H) × (c < length T) × (getD H c 0 * g .grain ≤ limit) × (getD T c 0 * g .grain ≤ limit)
+  ready-own z l =
+      let own = ready-room t (way g v H T) v w c x left room (N .parent) (N .upto) (N .nodes) (N .spans) (N .fit) (N .some) z in
+      let r = own .room l in
+      let is : endsAt (g .grain) H T v c ≡ record { bottom = getD H c 0 * g .grain; top = getD T c 0 * g .grain } = rw (ne-eqb (length T) 0 (λ e. omega arith)) refl in
+      let top : getD T c 0 * g .grain ≤ limit = subst (λ (u : Ends). u .top ≤ limit) is (le-trans (own .top) (N .ends .top)) in
+      let low : getD H c 0 * g .grain ≤ getD T c 0 * g .grain = subst (λ (u : Ends). u .bottom ≤ u .top) is (own .order) in
+      (r .0, r .1, le-trans low top, top)
+
+module _ {t : Slices} {g : Way} {v : Ends} {w : Window} {c x left room : ℕ} (N : ReadyNode t g v w c x left room) where
+  pub ready-nested : (getD (t .kinds) c 0 ≡ 0 → ⊥) → Nested g v c
+  ready-nested z = ready-room t g v w c x left room (N .parent) (N .upto) (N .nodes) (N .spans) (N .fit) (N .some) z
 
   -- y is the kind that was read
   pub ready-three : (y : ℕ) → y ≡ getD (t .kinds) c 0 → (y ≡ 0 → ⊥) → (y ≡ 1 → ⊥) → (y ≡ 2 → ⊥) → getD (t .kinds) c 0 ≡ 3
   ready-three y q n0 n1 n2 = spans-three t c (N .upto) (N .nodes) (N .spans) (N .some) (λ z. n0 (q ∙ z)) (λ z. n1 (q ∙ z)) (λ z. n2 (q ∙ z))
 
-  pub ready-leaf : getD (t .kinds) c 0 ≡ 0 → getD (t .heights) c 0 * g .grain < 9223372036854775808
+  pub ready-leaf : getD (t .kinds) c 0 ≡ 0 → getD (t .heights) c 0 * g .rule .grain < 9223372036854775808
   ready-leaf z =
       omega (arith, spans-leaf t g v (N .parent) c (N .upto) (N .nodes) (N .spans) (N .some) (N .fit) z, N .ends .top)
 
 -- what is told of a leaf, and of an inner node from what is told of its children
-module _ (t : Slices) (g : Rule) (v : Ends) (w : Window) (c left : ℕ) (came : List ℕ) where
-  leaf-gives : (r : Found) (now : List ℕ) → getD (t .kinds) c 0 ≡ 0 → Gives left r (leafSeen v left c (getD (t .heights) c 0 * g .grain)) came now
+module _ (t : Slices) (g : Way) (v : Ends) (w : Window) (c left : ℕ) (came : List ℕ) where
+  leaf-gives : (r : Found) (now : List ℕ) → getD (t .kinds) c 0 ≡ 0 → Gives left r (leafSeen v left c (getD (t .heights) c 0 * g .rule .grain)) came now
       → (F : Forest ℕ) (e : ℕ) → Spans t c e F → c < e → Gives left r (nodeSeen g v left F w) came now
   unfolding Spans point putFrom
   leaf-gives r now z L end e is lt = absurd (omega arith)
   leaf-gives r now z L (leaf i y h rest) e is lt =
-      subst₂ (λ (n x : ℕ). Gives left r (leafSeen v left n (x * g .grain)) came now) (sym (is .0)) (is .4) L
+      subst₂ (λ (n x : ℕ). Gives left r (leafSeen v left n (x * g .rule .grain)) came now) (sym (is .0)) (is .4) L
   leaf-gives r now z L (inner i y j under rest) e is lt = absurd (omega (arith, code-pos j, is .1))
 
-  inner-gives : (x : ℕ) (j : Kind) (r : Found) (now : List ℕ) → getD (t .kinds) c 0 ≡ codeOf j → x ≡ stopOf t c → Told t g v j w (c + 1) x left r came now
+  inner-gives : (x : ℕ) (j : Kind) (r : Found) (now : List ℕ) → getD (t .kinds) c 0 ≡ codeOf j → x ≡ stopOf t c → Told t g (g .own c) j w (c + 1) x left r came now
       → (F : Forest ℕ) (e : ℕ) → Spans t c e F → c < e → Gives left r (nodeSeen g v left F w) came now
   unfolding Spans
   inner-gives x j r now z q more end e is lt = absurd (omega arith)
   inner-gives x j r now z q more (leaf i y h rest) e is lt = absurd (omega (arith, code-pos j, is .1))
   inner-gives x j r now z q more (inner i y j′ under rest) e is lt =
-      subst (λ (y : Kind). Gives left r (seenIn g v left y under w) came now) (code-inj j j′ (sym z ∙ is .1))
+      subst₂ (λ (n : ℕ) (y : Kind). Gives left r (seenIn g (g .own n) left y under w) came now) (sym (is .0)) (code-inj j j′ (sym z ∙ is .1))
       (more under (subst (λ (n : ℕ). Spans t (c + 1) n under) (sym q) (is .3)))
 
-module _ {t : Slices} {g : Rule} {v : Ends} {w : Window} {c left : ℕ} {came : List ℕ} where
+module _ {t : Slices} {g : Way} {v : Ends} {w : Window} {c left : ℕ} {came : List ℕ} where
   pub told-same : {r r′ : Found} {now now′ : List ℕ} → r ≡ r′ → now ≡ now′ → NodeTold t g v w c left r′ came now′ → NodeTold t g v w c left r came now
   told-same p q h = subst₂ (λ (r : Found) (now : List ℕ). NodeTold t g v w c left r came now) (sym p) (sym q) h
 
-  pub told-leaf : {r : Found} {now : List ℕ} → getD (t .kinds) c 0 ≡ 0 → Gives left r (leafSeen v left c (getD (t .heights) c 0 * g .grain)) came now
+  pub told-leaf : {r : Found} {now : List ℕ} → getD (t .kinds) c 0 ≡ 0 → Gives left r (leafSeen v left c (getD (t .heights) c 0 * g .rule .grain)) came now
       → NodeTold t g v w c left r came now
   told-leaf {r} {now} z L = record { tells = leaf-gives t g v w c left came r now z L }
 
-  pub told-inner : {x : ℕ} (j : Kind) {r : Found} {now : List ℕ} → getD (t .kinds) c 0 ≡ codeOf j → x ≡ stopOf t c
-      → Told t g v j w (c + 1) x left r came now → NodeTold t g v w c left r came now
-  told-inner {x} j {r} {now} z q more = record { tells = inner-gives t g v w c left came x j r now z q more }
+-- u is what was read of its ends
+pub told-inner : {t : Slices} {g : Rule} {H T : List ℕ} {v : Ends} {w : Window} {c left : ℕ} {came : List ℕ} {x : ℕ} {u : Ends} (j : Kind) {r : Found} {now : List ℕ}
+    → u ≡ endsAt (g .grain) H T v c → getD (t .kinds) c 0 ≡ codeOf j → x ≡ stopOf t c → Told t (way g u H T) u j w (c + 1) x left r came now
+    → NodeTold t (way g v H T) v w c left r came now
+told-inner {t} {g} {H} {T} {v} {w} {c} {left} {came} {x} j {r} {now} p z q more =
+    record { tells = inner-gives t (way g v H T) v w c left came x j r now z q (subst₂ (λ (y : Way) (u : Ends). Told t y u j w (c + 1) x left r came now) (way-same g H T v c p) p more) }
 
 -- of children met when no read is left
-pub told-spent : (t : Slices) (g : Rule) {v : Ends} (k : Kind) (w : Window) (c e : ℕ) {left : ℕ} {came : List ℕ} {r : Found} → left ≡ 0 → r ≡ metSpentIn v
+pub told-spent : (t : Slices) (g : Way) {v : Ends} (k : Kind) (w : Window) (c e : ℕ) {left : ℕ} {came : List ℕ} {r : Found} → left ≡ 0 → r ≡ metSpentIn v
     → Told t g v k w c e left r came came
 unfolding metSpent putFrom
 told-spent t g {v} k w c e {left} {came} {r} z q F is =
@@ -183,12 +223,12 @@ plays-start v N MIN w = (refl, refl)
 plays-start v N CHANCE w = (refl, tt)
 
 -- the frame of the node whose children these are
-abbrev pub frameOf : Rule → Ends → Forest ℕ → Frame ℕ
-frameOf g v F = framed (v .bottom) (v .top) (grained (g .grain) F)
+abbrev pub frameOf : Way → Ends → Forest ℕ → Frame ℕ
+frameOf g v F = framed (v .bottom) (v .top) (grained (g .rule .grain) F)
 
 -- The children of a node of kind k in the window w stand in the entries from c₀ up to e. Their search has come to the child at entry c with the
 -- state s, and what it gives is what the search of the children that are left gives.
-pub record Going (t : Slices) (g : Rule) (v : Ends) (k : Kind) (w : Window) (c₀ e left₀ : ℕ) (came : List ℕ) (s : State) (c left : ℕ) (now : List ℕ) : Type 0 where
+pub record Going (t : Slices) (g : Way) (v : Ends) (k : Kind) (w : Window) (c₀ e left₀ : ℕ) (came : List ℕ) (s : State) (c left : ℕ) (now : List ℕ) : Type 0 where
   pub all : Forest ℕ
   pub begun : Spans t c₀ e all
   pub nodes : Forest ℕ
@@ -200,25 +240,25 @@ pub record Going (t : Slices) (g : Rule) (v : Ends) (k : Kind) (w : Window) (c�
   pub light : Light k all
   pub part : weigh nodes ≤ weigh all
   pub ends : OkEnds v
-  pub rule : OkRule g
+  pub rule : OkRule (g .rule)
   pub holds : Holds t e
   pub play : Play ℕ
   pub read : List ℕ
   pub plays : Plays (frameOf g v all) k s play
   pub spent : Bool
-  pub ranked : Ranked (frameOf g v all) k (weigh (grained (g .grain) nodes)) (lift s play read spent)
+  pub ranked : Ranked (frameOf g v all) k (weigh (grained (g .rule .grain) nodes)) (lift s play read spent)
   pub small : Small limit (frameOf g v all) k (lift s play read spent)
   pub within : left₀ ≤ length came
   pub left-is : left + length read ≡ left₀
   pub leaves-are : now ≡ putFrom came (length came - left₀) read
-  pub so-far : seenIn g v left₀ k all w ≡ scanSums heightSums natural (rulesOf g v left₀) (frameOf g v all) k (grained (g .grain) nodes) (lift s play read spent)
+  pub so-far : seenIn g v left₀ k all w ≡ scanSums heightSums natural (rulesOf g left₀) (frameOf g v all) k (grained (g .rule .grain) nodes) (lift s play read spent)
 
-pub going-start : {t : Slices} {g : Rule} {v : Ends} (k : Kind) (w : Window) {c e left : ℕ} {came : List ℕ} (R : ReadyChildren t g v k w c e left (length came))
-    → (left ≡ 0 → ⊥) → Going t g v k w c e left came (startAt k v (weigh (grained (g .grain) (R .nodes))) w) c left came
+pub going-start : {t : Slices} {g : Way} {v : Ends} (k : Kind) (w : Window) {c e left : ℕ} {came : List ℕ} (R : ReadyChildren t g v k w c e left (length came))
+    → (left ≡ 0 → ⊥) → Going t g v k w c e left came (startAt k v (weigh (grained (g .rule .grain) (R .nodes))) w) c left came
 unfolding putFrom
 going-start {t} {g} {v} k w {c} {e} {left} {came} R more =
     let F = R .nodes in
-    let f : Forest ℕ = grained (g .grain) F in
+    let f : Forest ℕ = grained (g .rule .grain) F in
     let st = step t c e F (R .spans) (R .some) in
     record {
       all = F;
@@ -239,16 +279,16 @@ going-start {t} {g} {v} k w {c} {e} {left} {came} R more =
       plays = plays-start v (weigh f) k w;
       spent = false;
       ranked = subst (λ (z : alg.State ℕ). Ranked (frameOf g v F) k (weigh f) z) (begin-lift v (weigh f) k w)
-          (ranked-begin (frameOf g v F) k f (w .alpha) (w .beta) [] (fit-sound g v (R .ends) k F (st .some) (R .fit)));
+          (ranked-begin (frameOf g v F) k f (w .alpha) (w .beta) [] (fit-sound g v (R .ends .order) k F (st .some) (R .fit)));
       small = subst (λ (z : alg.State ℕ). Small limit (frameOf g v F) k z) (begin-lift v (weigh f) k w)
           (small-begin limit (frameOf g v F) k (w .alpha) (w .beta) [] (R .alpha) (R .beta));
       within = R .within;
       left-is = omega arith;
       leaves-are = refl;
-      so-far = cond-past (leb left 0) _ _ (lt-leb left 0 (omega (arith, more))) ∙ ap (scanSums heightSums natural (rulesOf g v left) (frameOf g v F) k f) (begin-lift v (weigh f) k w);
+      so-far = cond-past (leb left 0) _ _ (lt-leb left 0 (omega (arith, more))) ∙ ap (scanSums heightSums natural (rulesOf g left) (frameOf g v F) k f) (begin-lift v (weigh f) k w);
     }
 
-module _ {t : Slices} {g : Rule} {v : Ends} {k : Kind} {w : Window} {c₀ e left₀ : ℕ} {came₀ : List ℕ} {s : State} {c left : ℕ} {came : List ℕ}
+module _ {t : Slices} {g : Way} {v : Ends} {k : Kind} {w : Window} {c₀ e left₀ : ℕ} {came₀ : List ℕ} {s : State} {c left : ℕ} {came : List ℕ}
     (I : Going t g v k w c₀ e left₀ came₀ s c left came) where
   pub going-step : Step t c e (I .nodes)
   going-step = step t c e (I .nodes) (I .spans) (I .some)
@@ -258,7 +298,7 @@ module _ {t : Slices} {g : Rule} {v : Ends} {k : Kind} {w : Window} {c₀ e left
   going-kept = ap length (I .leaves-are) ∙ put-length came₀ (length came₀ - left₀) (I .read)
 
 -- a C's child has a weight of at least 1, within the total
-pub chance-weight : {t : Slices} {g : Rule} {v : Ends} {w : Window} {c₀ e left₀ : ℕ} {came₀ : List ℕ} {s : State} {c left : ℕ} {came : List ℕ}
+pub chance-weight : {t : Slices} {g : Way} {v : Ends} {w : Window} {c₀ e left₀ : ℕ} {came₀ : List ℕ} {s : State} {c left : ℕ} {came : List ℕ}
     (I : Going t g v CHANCE w c₀ e left₀ came₀ s c left came) → (0 < getD (t .weights) c 0) × (getD (t .weights) c 0 ≤ weigh (I .all)) × (weigh (I .all) ≤ 64)
 chance-weight {t} {g} {v} I =
     let st = going-step I in
@@ -273,12 +313,12 @@ scaled-small f MIN x B l h = omega arith
 scaled-small f CHANCE x B l h = mul-le-mul (l refl) h
 
 -- the numbers that a C keeps fit
-pub chance-small : {t : Slices} {g : Rule} {v : Ends} {w : Window} {c₀ e left₀ : ℕ} {came₀ : List ℕ} {s : State} {c left : ℕ} {came : List ℕ}
+pub chance-small : {t : Slices} {g : Way} {v : Ends} {w : Window} {c₀ e left₀ : ℕ} {came₀ : List ℕ} {s : State} {c left : ℕ} {came : List ℕ}
     (I : Going t g v CHANCE w c₀ e left₀ came₀ s c left came) → OkSums s
 unfolding scaled
 chance-small {g = g} {v = v} I =
     let f : Frame ℕ = frameOf g v (I .all) in
-    let light : isChance CHANCE ≡ true → f .total ≤ 64 = λ h. omega (arith, grained-weigh (g .grain) (I .all), I .light h) in
+    let light : isChance CHANCE ≡ true → f .total ≤ 64 = λ h. omega (arith, grained-weigh (g .rule .grain) (I .all), I .light h) in
     let far = scaled-small f CHANCE limit limit light (omega arith) in
     let top = scaled-small f CHANCE (v .top) limit light (I .ends .top) in
     record {
@@ -289,28 +329,28 @@ chance-small {g = g} {v = v} I =
     }
 
 -- the total N that was added up
-pub chance-total : {t : Slices} {g : Rule} {v : Ends} {w : Window} {c₀ e left₀ : ℕ} {came₀ : List ℕ} {s : State} {c left : ℕ} {came : List ℕ}
+pub chance-total : {t : Slices} {g : Way} {v : Ends} {w : Window} {c₀ e left₀ : ℕ} {came₀ : List ℕ} {s : State} {c left : ℕ} {came : List ℕ}
     (I : Going t g v CHANCE w c₀ e left₀ came₀ s c left came) {N : ℕ} → N ≡ weighAt (t .stops) (t .weights) 1024 c₀ e → N ≡ weigh (I .all)
 chance-total {t} {c₀ = c₀} {e = e} I q = q ∙ spans-weigh t 1024 c₀ e (I .all) (I .begun) (omega (arith, I .holds .few))
 
 -- the margin m on its scale
-pub chance-margin-is : {t : Slices} {g : Rule} {v : Ends} {w : Window} {c₀ e left₀ : ℕ} {came₀ : List ℕ} {s : State} {c left : ℕ} {came : List ℕ}
-    (I : Going t g v CHANCE w c₀ e left₀ came₀ s c left came) {N m : ℕ} → m ≡ N * g .margin → N ≡ weigh (I .all) → m ≡ scaled (frameOf g v (I .all)) CHANCE (g .margin)
+pub chance-margin-is : {t : Slices} {g : Way} {v : Ends} {w : Window} {c₀ e left₀ : ℕ} {came₀ : List ℕ} {s : State} {c left : ℕ} {came : List ℕ}
+    (I : Going t g v CHANCE w c₀ e left₀ came₀ s c left came) {N m : ℕ} → m ≡ N * g .rule .margin → N ≡ weigh (I .all) → m ≡ scaled (frameOf g v (I .all)) CHANCE (g .rule .margin)
 unfolding scaled
-chance-margin-is {g = g} I p q = p ∙ ap (λ (n : ℕ). n * g .margin) (q ∙ sym (grained-weigh (g .grain) (I .all)))
+chance-margin-is {g = g} I p q = p ∙ ap (λ (n : ℕ). n * g .rule .margin) (q ∙ sym (grained-weigh (g .rule .grain) (I .all)))
 
 pub window-small : (v : Ends) (w : ℕ) (s : State) → OkEnds v → (windowFor (frameAt v 0) CHANCE w s .alpha ≤ limit) × (windowFor (frameAt v 0) CHANCE w s .beta ≤ limit)
 unfolding lower upper
 window-small v w s o = (omega (arith, o .order, o .top), omega (arith, o .top))
 
 -- before a child is searched: entry c, its run up to x, in the window y; the children began at c₀ and go on to e
-pub record Child (t : Slices) (g : Rule) (v : Ends) (c₀ e c x left room : ℕ) (y : Window) : Type 0 where
+pub record Child (t : Slices) (g : Way) (v : Ends) (c₀ e c x left room : ℕ) (y : Window) : Type 0 where
   pub node : ReadyNode t g v y c x left room
   pub less : x - (c + 1) < e - c₀
   pub inside : c < x
   pub small : c < 1024
 
-pub child-of : {t : Slices} {g : Rule} {v : Ends} {k : Kind} {w : Window} {c₀ e left₀ : ℕ} {came₀ : List ℕ} {s : State} {c left : ℕ} {came : List ℕ}
+pub child-of : {t : Slices} {g : Way} {v : Ends} {k : Kind} {w : Window} {c₀ e left₀ : ℕ} {came₀ : List ℕ} {s : State} {c left : ℕ} {came : List ℕ}
     → Going t g v k w c₀ e left₀ came₀ s c left came → (x : ℕ) (y : Window) → x ≡ stopOf t c → y .alpha ≤ limit → y .beta ≤ limit
     → Child t g v c₀ e c x left (length came) y
 child-of {t} {g} {v} {k} {w} {c₀} {e} {left₀} {came₀} {s} {c} {left} {came} I x y q p p′ =
@@ -343,29 +383,36 @@ child-of {t} {g} {v} {k} {w} {c₀} {e} {left₀} {came₀} {s} {c} {left} {came
       small = omega (arith, I .some, H .few);
     }
 
-module _ {t : Slices} {g : Rule} {v : Ends} {c₀ e c x left room : ℕ} {y : Window} (C : Child t g v c₀ e c x left room y) where
-  -- what a call of the search of kind j asks
-  pub child-asks : (m : ℕ) → e - c₀ ≡ m → (j : Kind) → getD (t .kinds) c 0 ≡ codeOf j → (x - (c + 1) < m) × ReadyChildren t g v j y (c + 1) x left room
-  child-asks m q j is = (omega (arith, C .less), ready-inner (C .node) j is)
-
+module _ {t : Slices} {g : Way} {v : Ends} {c₀ e c x left room : ℕ} {y : Window} (C : Child t g v c₀ e c x left room y) where
   pub child-three : (z : ℕ) → z ≡ getD (t .kinds) c 0 → (z ≡ 0 → ⊥) → (z ≡ 1 → ⊥) → (z ≡ 2 → ⊥) → getD (t .kinds) c 0 ≡ 3
   child-three = ready-three (C .node)
 
   -- what a call of `leaf_at` asks
   pub child-leaf : (z : ℕ) → z ≡ getD (t .kinds) c 0 → z ≡ 0
-      → (c < length (t .heights)) × (left ≤ room) × (c < 1024) × (getD (t .heights) c 0 * g .grain < 9223372036854775808)
+      → (c < length (t .heights)) × (left ≤ room) × (c < 1024) × (getD (t .heights) c 0 * g .rule .grain < 9223372036854775808)
   child-leaf z q p =
       (omega (arith, C .inside, C .node .holds .heights), C .node .within, C .small, ready-leaf (C .node) (sym q ∙ p))
+
+module _ {t : Slices} {g : Rule} {H T : List ℕ} {v : Ends} {c₀ e c x left room : ℕ} {y : Window} (C : Child t (way g v H T) v c₀ e c x left room y) where
+  -- what a call of the search of kind j asks; u is what was read of the child's ends
+  pub child-asks : (m : ℕ) → e - c₀ ≡ m → (j : Kind) {u : Ends} → u ≡ endsAt (g .grain) H T v c → getD (t .kinds) c 0 ≡ codeOf j
+      → (x - (c + 1) < m) × ReadyChildren t (way g u H T) u j y (c + 1) x left room
+  child-asks m q j p is = (omega (arith, C .less), ready-inner (C .node) j p is)
+
+  -- what a call of `ends_at` asks; z is the kind that was read
+  pub child-own : (z : ℕ) → z ≡ getD (t .kinds) c 0 → (z ≡ 0 → ⊥) → 0 < length T
+      → (c < length H) × (c < length T) × (getD H c 0 * g .grain ≤ limit) × (getD T c 0 * g .grain ≤ limit)
+  child-own z q n = ready-own (C .node) (λ h. n (q ∙ h))
 
 -- ---- after a child
 
 -- what is told of the child at entry c: an M and an N hand their own window on, a C a narrower one
-abbrev pub ChildTold : {t : Slices} {g : Rule} {v : Ends} {k : Kind} {w : Window} {c₀ e left₀ : ℕ} {came₀ : List ℕ} {s : State} {c left : ℕ} {came : List ℕ}
+abbrev pub ChildTold : {t : Slices} {g : Way} {v : Ends} {k : Kind} {w : Window} {c₀ e left₀ : ℕ} {came₀ : List ℕ} {s : State} {c left : ℕ} {came : List ℕ}
     → Going t g v k w c₀ e left₀ came₀ s c left came → Found → List ℕ → Type 0
 ChildTold {t} {g} {v} {k} {s = s} {c = c} {left = left} {came = came} I r now =
     NodeTold t g v (windowFor (frameOf g v (I .all)) k (getD (t .weights) c 0) s) c left r came now
 
-module _ {t : Slices} {g : Rule} {v : Ends} {w : Window} {c₀ e left₀ : ℕ} {came₀ : List ℕ} {s : State} {c left : ℕ} {came : List ℕ} where
+module _ {t : Slices} {g : Way} {v : Ends} {w : Window} {c₀ e left₀ : ℕ} {came₀ : List ℕ} {s : State} {c left : ℕ} {came : List ℕ} where
   module _ {r : Found} {now : List ℕ} where
     pub max-told : (I : Going t g v MAX w c₀ e left₀ came₀ s c left came) → NodeTold t g v (record { alpha = s .alpha; beta = s .beta }) c left r came now
         → ChildTold I r now
@@ -403,9 +450,9 @@ abbrev pub outOf : Frame ℕ → Kind → (low high play left : ℕ) → Bool �
 outOf f k low high play left x = record { low = divided heightSums f k low; high = divided heightSums f k high; play = play; left = left; spent = x }
 
 -- the search of the children that are left, F, after the child before them
-module _ (g : Rule) (v : Ends) (left : ℕ) (f : Frame ℕ) (k : Kind) (s : State) (p : Play ℕ) (l : List ℕ) (x : Bool) where
+module _ (g : Way) (v : Ends) (left : ℕ) (f : Frame ℕ) (k : Kind) (s : State) (p : Play ℕ) (l : List ℕ) (x : Bool) where
   abbrev seenLeft : Forest ℕ → Seen ℕ
-  seenLeft F = sumsAfter heightSums natural (rulesOf g v left) f k (grained (g .grain) F) (lift s p l x)
+  seenLeft F = sumsAfter heightSums natural (rulesOf g left) f k (grained (g .rule .grain) F) (lift s p l x)
 
   abbrev leftWith : (low high : ℕ) → Seen ℕ
   leftWith low high = leave heightSums f k (record { low = low; high = high; play = p; read = l; spent = x })
@@ -416,15 +463,15 @@ module _ (g : Rule) (v : Ends) (left : ℕ) (f : Frame ℕ) (k : Kind) (s : Stat
   left-none (leaf n w h rest) q = absurd (true-ne-false (sym q))
   left-none (inner n w j under rest) q = absurd (true-ne-false (sym q))
 
-  left-cut : (F : Forest ℕ) → isEnd F ≡ false → stops (scaled f k (g .margin)) s ≡ true
+  left-cut : (F : Forest ℕ) → isEnd F ≡ false → stops (scaled f k (g .rule .margin)) s ≡ true
       → seenLeft F ≡ leftWith (runLow f k (s .low)) (runHigh f k (s .high))
   unfolding grained stop cut
   left-cut end q h = absurd (true-ne-false q)
   left-cut (leaf n w x rest) q h = rw h refl
   left-cut (inner n w j under rest) q h = rw h refl
 
-  left-more : (F : Forest ℕ) → isEnd F ≡ false → stops (scaled f k (g .margin)) s ≡ false
-      → seenLeft F ≡ scanSums heightSums natural (rulesOf g v left) f k (grained (g .grain) F) (lift s p l x)
+  left-more : (F : Forest ℕ) → isEnd F ≡ false → stops (scaled f k (g .rule .margin)) s ≡ false
+      → seenLeft F ≡ scanSums heightSums natural (rulesOf g left) f k (grained (g .rule .grain) F) (lift s p l x)
   unfolding grained stop
   left-more end q h = absurd (true-ne-false q)
   left-more (leaf n w x rest) q h = rw h refl
@@ -432,7 +479,7 @@ module _ (g : Rule) (v : Ends) (left : ℕ) (f : Frame ℕ) (k : Kind) (s : Stat
 
 -- The loop stood at c with the state s; the child's run ends at x, r is what its search gave and s′ the state after it, `now` the list; m is the margin on
 -- the line's scale.
-pub record Turn (t : Slices) (g : Rule) (v : Ends) (k : Kind) (w : Window) (c₀ e left₀ m : ℕ) (came₀ : List ℕ) (c x : ℕ) (r : Found) (s′ : State) (now : List ℕ) : Type 0 where
+pub record Turn (t : Slices) (g : Way) (v : Ends) (k : Kind) (w : Window) (c₀ e left₀ m : ℕ) (came₀ : List ℕ) (c x : ℕ) (r : Found) (s′ : State) (now : List ℕ) : Type 0 where
   pub s : State
   pub left : ℕ
   pub came : List ℕ
@@ -440,9 +487,9 @@ pub record Turn (t : Slices) (g : Rule) (v : Ends) (k : Kind) (w : Window) (c₀
   pub stop : x ≡ stopOf t c
   pub told : ChildTold going r now
   pub state : s′ ≡ after (frameOf g v (going .all)) k c (getD (t .weights) c 0) s (r .low) (r .high)
-  pub margin : m ≡ scaled (frameOf g v (going .all)) k (g .margin)
+  pub margin : m ≡ scaled (frameOf g v (going .all)) k (g .rule .margin)
 
-module _ {t : Slices} {g : Rule} {v : Ends} {k : Kind} {w : Window} {c₀ e left₀ : ℕ} {came₀ : List ℕ} {s : State} {c left : ℕ} {came : List ℕ}
+module _ {t : Slices} {g : Way} {v : Ends} {k : Kind} {w : Window} {c₀ e left₀ : ℕ} {came₀ : List ℕ} {s : State} {c left : ℕ} {came : List ℕ}
     (I : Going t g v k w c₀ e left₀ came₀ s c left came) {r : Found} {now : List ℕ} (told : ChildTold I r now) where
   abbrev frame : Frame ℕ
   frame = frameOf g v (I .all)
@@ -458,7 +505,7 @@ module _ {t : Slices} {g : Rule} {v : Ends} {k : Kind} {w : Window} {c₀ e left
   own-gives = subst (λ (x : ℕ). Gives left r (nodeSeen g v left F (windowFor frame k x s)) came now) (going-step I .weight) (told .tells F e (I .spans) (I .some))
 
   own-between : Between frame own
-  own-between = node-between g v (I .ends) left (frame .total) k F (windowFor frame k (weightOf F) s) (going-step I .some) (I .fit)
+  own-between = node-between g v left (frame .total) k F (windowFor frame k (weightOf F) s) (going-step I .some) (I .fit)
 
   pub told-within : (v .bottom ≤ r .low) × (r .low ≤ limit) × (r .high ≤ v .top)
   told-within =
@@ -491,10 +538,10 @@ module _ {t : Slices} {g : Rule} {v : Ends} {k : Kind} {w : Window} {c₀ e left
 
   -- the weights to come
   abbrev others : ℕ
-  others = weigh (grained (g .grain) (restOf F))
+  others = weigh (grained (g .rule .grain) (restOf F))
 
   ranked-now : Ranked frame k (weightOf F + others) (lift s (I .play) (I .read) (I .spent))
-  ranked-now = subst (λ (n : ℕ). Ranked frame k n (lift s (I .play) (I .read) (I .spent))) (grained-split (g .grain) F) (I .ranked)
+  ranked-now = subst (λ (n : ℕ). Ranked frame k n (lift s (I .play) (I .read) (I .spent))) (grained-split (g .rule .grain) F) (I .ranked)
 
   module _ (s′ : State) (state : s′ ≡ after frame k c (getD (t .weights) c 0) s (r .low) (r .high)) where
     state-next : after frame k (numberOf F) (weightOf F) s (own .low) (own .high) ≡ s′
@@ -527,7 +574,7 @@ module _ {t : Slices} {g : Rule} {v : Ends} {k : Kind} {w : Window} {c₀ e left
         subst (λ (z : State). Plays frame k z played) state-next
         (plays-after frame k (numberOf F) (weightOf F) s (I .play) (ahead (I .read) own) (omega (arith, going-step I .number, I .later, I .past)) (own-between .0) (own-between .2) (I .plays))
 
-module _ {t : Slices} {g : Rule} {v : Ends} {k : Kind} {w : Window} {c₀ e left₀ m : ℕ} {came₀ : List ℕ} {c x : ℕ} {r : Found} {s′ : State} {now : List ℕ}
+module _ {t : Slices} {g : Way} {v : Ends} {k : Kind} {w : Window} {c₀ e left₀ m : ℕ} {came₀ : List ℕ} {c x : ℕ} {r : Found} {s′ : State} {now : List ℕ}
     (U : Turn t g v k w c₀ e left₀ m came₀ c x r s′ now) where
   pub turn-same : length now ≡ length came₀
   turn-same = kept-next (U .going) (U .told)
@@ -539,8 +586,8 @@ module _ {t : Slices} {g : Rule} {v : Ends} {k : Kind} {w : Window} {c₀ e left
   turn-margin =
       let I = U .going in
       let f : Frame ℕ = frameOf g v (I .all) in
-      let light : isChance k ≡ true → f .total ≤ 64 = λ h. omega (arith, grained-weigh (g .grain) (I .all), I .light h) in
-      omega (arith, small-next I (U .told) s′ (U .state) .0, scaled-small f k limit limit light (omega arith), U .margin, scaled-small f k (g .margin) 40000000000000 light (I .rule .margin))
+      let light : isChance k ≡ true → f .total ≤ 64 = λ h. omega (arith, grained-weigh (g .rule .grain) (I .all), I .light h) in
+      omega (arith, small-next I (U .told) s′ (U .state) .0, scaled-small f k limit limit light (omega arith), U .margin, scaled-small f k (g .rule .margin) 40000000000000 light (I .rule .margin))
 
   -- whatever the nodes are said to be, they are those
   told-all : (out : Found) → Gives left₀ out (seenIn g v left₀ k (U .going .all) w) came₀ now → Told t g v k w c₀ e left₀ out came₀ now
@@ -581,7 +628,7 @@ module _ {t : Slices} {g : Rule} {v : Ends} {k : Kind} {w : Window} {c₀ e left
   some-left ne = spans-more t (stopOf t c) e (restOf (U .going .nodes)) (going-step (U .going) .rest) (λ h. ne (U .stop ∙ h))
 
   -- y is what `stopped` answered
-  stopped-is : {y z : Bool} → y ≡ stops m s′ → y ≡ z → stops (scaled (frameOf g v (U .going .all)) k (g .margin)) s′ ≡ z
+  stopped-is : {y z : Bool} → y ≡ stops m s′ → y ≡ z → stops (scaled (frameOf g v (U .going .all)) k (g .rule .margin)) s′ ≡ z
   stopped-is p q = ap (λ (n : ℕ). stops n s′) (sym (U .margin)) ∙ sym p ∙ q
 
   pub turn-cut : (x ≡ e → ⊥) → {y : Bool} → y ≡ stops m s′ → y ≡ true
@@ -634,7 +681,7 @@ windowFrom N s = record { alpha = heightSums .over N (s .alpha); beta = heightSu
 window-back : (v : Ends) (N : ℕ) (w : Window) {s : State} → 0 < N → s ≡ sumsAt v N (w .alpha) (w .beta) → windowFrom N s ≡ w
 window-back v N w p q = ap (windowFrom N) q ∙ λ i. record { alpha = mul-div-right (w .alpha) p i; beta = mul-div-right (w .beta) p i }
 
-module _ {t : Slices} {g : Rule} {v : Ends} {w : Window} {c e left room : ℕ} (R : ReadyChildren t g v CHANCE w c e left room) {N : ℕ}
+module _ {t : Slices} {g : Way} {v : Ends} {w : Window} {c e left room : ℕ} (R : ReadyChildren t g v CHANCE w c e left room) {N : ℕ}
     (sum-is : N ≡ weighAt (t .stops) (t .weights) 1024 c e) where
   ready-total : N ≡ weigh (R .nodes)
   ready-total = sum-is ∙ spans-weigh t 1024 c e (R .nodes) (R .spans) (omega (arith, R .holds .few))
@@ -645,17 +692,17 @@ module _ {t : Slices} {g : Rule} {v : Ends} {w : Window} {c e left room : ℕ} (
   ready-paid : 0 < N
   ready-paid =
       let st = step t c e (R .nodes) (R .spans) (R .some) in
-      omega (arith, ready-total, grained-weigh (g .grain) (R .nodes), fit-sound g v (R .ends) CHANCE (R .nodes) (st .some) (R .fit) .paid)
+      omega (arith, ready-total, grained-weigh (g .rule .grain) (R .nodes), fit-sound g v (R .ends .order) CHANCE (R .nodes) (st .some) (R .fit) .paid)
 
 -- before the first child, in the state s
-pub chance-begins : {t : Slices} {g : Rule} {v : Ends} {w : Window} {c e left : ℕ} {came : List ℕ} (R : ReadyChildren t g v CHANCE w c e left (length came)) → (left ≡ 0 → ⊥)
+pub chance-begins : {t : Slices} {g : Way} {v : Ends} {w : Window} {c e left : ℕ} {came : List ℕ} (R : ReadyChildren t g v CHANCE w c e left (length came)) → (left ≡ 0 → ⊥)
     → {N : ℕ} {s : State} → N ≡ weighAt (t .stops) (t .weights) 1024 c e → s ≡ sumsAt v N (w .alpha) (w .beta) → Going t g v CHANCE (windowFrom N s) c e left came s c left came
 chance-begins {t} {g} {v} {w} {c} {e} {left} {came} R more {N} {s} sum-is q =
     subst₂ (λ (y : Window) (z : State). Going t g v CHANCE y c e left came z c left came) (sym (window-back v N w (ready-paid R sum-is) q))
-    (ap (λ (n : ℕ). sumsAt v n (w .alpha) (w .beta)) (grained-weigh (g .grain) (R .nodes) ∙ sym (ready-total R sum-is)) ∙ sym q) (going-start CHANCE w R more)
+    (ap (λ (n : ℕ). sumsAt v n (w .alpha) (w .beta)) (grained-weigh (g .rule .grain) (R .nodes) ∙ sym (ready-total R sum-is)) ∙ sym q) (going-start CHANCE w R more)
 
 -- where it is left with the state s′: the two sums are divided, and that is what is told
-pub chance-tells : {t : Slices} {g : Rule} {v : Ends} {c₀ e left₀ m N : ℕ} {came₀ : List ℕ} {c x : ℕ} {r : Found} {s₀ s′ : State} {now : List ℕ}
+pub chance-tells : {t : Slices} {g : Way} {v : Ends} {c₀ e left₀ m N : ℕ} {came₀ : List ℕ} {c x : ℕ} {r : Found} {s₀ s′ : State} {now : List ℕ}
     (U : Turn t g v CHANCE (windowFrom N s₀) c₀ e left₀ m came₀ c x r s′ now) (w : Window) {out : Found} → N ≡ weighAt (t .stops) (t .weights) 1024 c₀ e → s₀ ≡ sumsAt v N (w .alpha) (w .beta)
     → out ≡ leftIn N s′ (r .left) (r .spent)
     → Told t g v CHANCE (windowFrom N s₀) c₀ e left₀ (outOf (frameOf g v (U .going .all)) CHANCE (s′ .low) (s′ .high) (s′ .play) (r .left) (r .spent)) came₀ now
@@ -665,4 +712,4 @@ chance-tells {t} {g} {v} {c₀} {e} {left₀} {m} {N} {came₀} {c} {x} {r} {s�
     let p = chance-total (U .going) sum-is in
     let u = chance-weight (U .going) in
     subst₂ (λ (y : Window) (z : Found). Told t g v CHANCE y c₀ e left₀ z came₀ now) (window-back v N w (omega (arith, p, u .0, u .1)) begun)
-    (sym (q ∙ ap (λ (n : ℕ). leftIn n s′ (r .left) (r .spent)) (p ∙ sym (grained-weigh (g .grain) (U .going .all))))) told
+    (sym (q ∙ ap (λ (n : ℕ). leftIn n s′ (r .left) (r .spent)) (p ∙ sym (grained-weigh (g .rule .grain) (U .going .all))))) told

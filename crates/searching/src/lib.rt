@@ -1,9 +1,11 @@
-// The bounded search over the decoded table: Algorithm 1 of document 000, whose lines are named here, in grains above the lowest end.
+// The bounded search over the decoded table: Algorithm 1 of document 000, whose lines are named here, in grains above the lowest end. One code for the plain
+// search and for that with an index (document 02, Item 14): with one an M, N or C has its own ends, which stand so many points above the table's lowest end as
+// `height` and `top` have for it; without one `top` is empty.
 ghost use Prim.Native.Nat.{_+_};
 ghost use lib.ListN.{length};
 ghost use Rattle.table.specs.Tree.{MAX, MIN, CHANCE};
 ghost use Rattle.table.specs.Inside.{slices};
-ghost use Rattle.searching.specs.Inside.{ReadyChildren, Told, ReadyRoot, Searched};
+ghost use Rattle.searching.specs.Inside.{ends, way, ReadyChildren, Told, ReadyRoot, Searched};
 use numbers::at8;
 use numbers::node_at;
 use numbers::wide8;
@@ -13,24 +15,31 @@ use steps::Rule;
 use steps::State;
 use steps::Window;
 
-// The children of an M of the ends v, entries c up to end, in the window w, with so many reads left. Whether the budget was spent is as the child met last
-// tells it: once a node was met with none left, every later one is.
+// The children of an M whose ends are `bottom` and `highest`, entries c up to end, in the window w, with so many reads left. Whether the budget was spent is
+// as the child met last tells it: once a node was met with none left, every later one is. The ends come as two numbers and no struct: else the compiled
+// code stores them for each child and reads them back (docs/SPEED.md).
 fn max_over(
     kind: &[u8],
     stop: &[u16],
     weight: &[u8],
     height: &[u32],
+    top: &[u32],
     leaves: &mut [u16],
     left: usize,
     g: Rule,
     c: usize,
     end: usize,
-    v: Ends,
+    bottom: u64,
+    highest: u64,
     w: Window,
 ) -> Found
-    requires { ⌜ ReadyChildren (slices (now kind) (now stop) (now weight) (now height)) g v MAX w c end left (length (now leaves)) ⌝ }
-    ensures { λ r. ⌜ Told (slices (now (kind .entry)) (now (stop .entry)) (now (weight .entry)) (now (height .entry))) g v MAX w c end left r (now (leaves .entry)) (now (leaves .exit)) ⌝ }
+    requires { ⌜ ReadyChildren (slices (now kind) (now stop) (now weight) (now height)) (way g (ends bottom highest) (now height) (now top)) (ends bottom highest) MAX w c end left (length (now leaves)) ⌝ }
+    ensures { λ r. ⌜ Told (slices (now (kind .entry)) (now (stop .entry)) (now (weight .entry)) (now (height .entry))) (way g (ends bottom highest) (now (height .entry)) (now (top .entry))) (ends bottom highest) MAX w c end left r (now (leaves .entry)) (now (leaves .exit)) ⌝ }
 {
+    let v = Ends {
+        bottom,
+        top: highest,
+    };
     if left == 0 {
         return steps::met_spent(v);
     }
@@ -55,12 +64,57 @@ fn max_over(
         let r: Found;
         if k == 0 {
             r = steps::leaf_at(height, leaves, n, i, g.grain, v);
-        } else if k == 1 {
-            r = max_over(kind, stop, weight, height, leaves, n, g, i + 1, e, v, y);
-        } else if k == 2 {
-            r = min_over(kind, stop, weight, height, leaves, n, g, i + 1, e, v, y);
         } else {
-            r = chance_over(kind, stop, weight, height, leaves, n, g, i + 1, e, v, y);
+            let u = steps::ends_at(height, top, v, g.grain, i);
+            if k == 1 {
+                r = max_over(
+                    kind,
+                    stop,
+                    weight,
+                    height,
+                    top,
+                    leaves,
+                    n,
+                    g,
+                    i + 1,
+                    e,
+                    u.bottom,
+                    u.top,
+                    y,
+                );
+            } else if k == 2 {
+                r = min_over(
+                    kind,
+                    stop,
+                    weight,
+                    height,
+                    top,
+                    leaves,
+                    n,
+                    g,
+                    i + 1,
+                    e,
+                    u.bottom,
+                    u.top,
+                    y,
+                );
+            } else {
+                r = chance_over(
+                    kind,
+                    stop,
+                    weight,
+                    height,
+                    top,
+                    leaves,
+                    n,
+                    g,
+                    i + 1,
+                    e,
+                    u.bottom,
+                    u.top,
+                    y,
+                );
+            }
         }
         t = steps::max_after(v, i, t, r.low, r.high);
         n = r.left;
@@ -92,17 +146,23 @@ fn min_over(
     stop: &[u16],
     weight: &[u8],
     height: &[u32],
+    top: &[u32],
     leaves: &mut [u16],
     left: usize,
     g: Rule,
     c: usize,
     end: usize,
-    v: Ends,
+    bottom: u64,
+    highest: u64,
     w: Window,
 ) -> Found
-    requires { ⌜ ReadyChildren (slices (now kind) (now stop) (now weight) (now height)) g v MIN w c end left (length (now leaves)) ⌝ }
-    ensures { λ r. ⌜ Told (slices (now (kind .entry)) (now (stop .entry)) (now (weight .entry)) (now (height .entry))) g v MIN w c end left r (now (leaves .entry)) (now (leaves .exit)) ⌝ }
+    requires { ⌜ ReadyChildren (slices (now kind) (now stop) (now weight) (now height)) (way g (ends bottom highest) (now height) (now top)) (ends bottom highest) MIN w c end left (length (now leaves)) ⌝ }
+    ensures { λ r. ⌜ Told (slices (now (kind .entry)) (now (stop .entry)) (now (weight .entry)) (now (height .entry))) (way g (ends bottom highest) (now (height .entry)) (now (top .entry))) (ends bottom highest) MIN w c end left r (now (leaves .entry)) (now (leaves .exit)) ⌝ }
 {
+    let v = Ends {
+        bottom,
+        top: highest,
+    };
     if left == 0 {
         return steps::met_spent(v);
     }
@@ -126,12 +186,57 @@ fn min_over(
         let r: Found;
         if k == 0 {
             r = steps::leaf_at(height, leaves, n, i, g.grain, v);
-        } else if k == 1 {
-            r = max_over(kind, stop, weight, height, leaves, n, g, i + 1, e, v, y);
-        } else if k == 2 {
-            r = min_over(kind, stop, weight, height, leaves, n, g, i + 1, e, v, y);
         } else {
-            r = chance_over(kind, stop, weight, height, leaves, n, g, i + 1, e, v, y);
+            let u = steps::ends_at(height, top, v, g.grain, i);
+            if k == 1 {
+                r = max_over(
+                    kind,
+                    stop,
+                    weight,
+                    height,
+                    top,
+                    leaves,
+                    n,
+                    g,
+                    i + 1,
+                    e,
+                    u.bottom,
+                    u.top,
+                    y,
+                );
+            } else if k == 2 {
+                r = min_over(
+                    kind,
+                    stop,
+                    weight,
+                    height,
+                    top,
+                    leaves,
+                    n,
+                    g,
+                    i + 1,
+                    e,
+                    u.bottom,
+                    u.top,
+                    y,
+                );
+            } else {
+                r = chance_over(
+                    kind,
+                    stop,
+                    weight,
+                    height,
+                    top,
+                    leaves,
+                    n,
+                    g,
+                    i + 1,
+                    e,
+                    u.bottom,
+                    u.top,
+                    y,
+                );
+            }
         }
         t = steps::min_after(v, i, t, r.low, r.high);
         n = r.left;
@@ -164,17 +269,23 @@ fn chance_over(
     stop: &[u16],
     weight: &[u8],
     height: &[u32],
+    top: &[u32],
     leaves: &mut [u16],
     left: usize,
     g: Rule,
     c: usize,
     end: usize,
-    v: Ends,
+    bottom: u64,
+    highest: u64,
     w: Window,
 ) -> Found
-    requires { ⌜ ReadyChildren (slices (now kind) (now stop) (now weight) (now height)) g v CHANCE w c end left (length (now leaves)) ⌝ }
-    ensures { λ r. ⌜ Told (slices (now (kind .entry)) (now (stop .entry)) (now (weight .entry)) (now (height .entry))) g v CHANCE w c end left r (now (leaves .entry)) (now (leaves .exit)) ⌝ }
+    requires { ⌜ ReadyChildren (slices (now kind) (now stop) (now weight) (now height)) (way g (ends bottom highest) (now height) (now top)) (ends bottom highest) CHANCE w c end left (length (now leaves)) ⌝ }
+    ensures { λ r. ⌜ Told (slices (now (kind .entry)) (now (stop .entry)) (now (weight .entry)) (now (height .entry))) (way g (ends bottom highest) (now (height .entry)) (now (top .entry))) (ends bottom highest) CHANCE w c end left r (now (leaves .entry)) (now (leaves .exit)) ⌝ }
 {
+    let v = Ends {
+        bottom,
+        top: highest,
+    };
     if left == 0 {
         return steps::met_spent(v);
     }
@@ -191,13 +302,56 @@ fn chance_over(
         if k == 0 {
             r = steps::leaf_at(height, leaves, n, i, g.grain, v);
         } else {
+            let u = steps::ends_at(height, top, v, g.grain, i);
             let y = steps::chance_window(v, t, x);
             if k == 1 {
-                r = max_over(kind, stop, weight, height, leaves, n, g, i + 1, e, v, y);
+                r = max_over(
+                    kind,
+                    stop,
+                    weight,
+                    height,
+                    top,
+                    leaves,
+                    n,
+                    g,
+                    i + 1,
+                    e,
+                    u.bottom,
+                    u.top,
+                    y,
+                );
             } else if k == 2 {
-                r = min_over(kind, stop, weight, height, leaves, n, g, i + 1, e, v, y);
+                r = min_over(
+                    kind,
+                    stop,
+                    weight,
+                    height,
+                    top,
+                    leaves,
+                    n,
+                    g,
+                    i + 1,
+                    e,
+                    u.bottom,
+                    u.top,
+                    y,
+                );
             } else {
-                r = chance_over(kind, stop, weight, height, leaves, n, g, i + 1, e, v, y);
+                r = chance_over(
+                    kind,
+                    stop,
+                    weight,
+                    height,
+                    top,
+                    leaves,
+                    n,
+                    g,
+                    i + 1,
+                    e,
+                    u.bottom,
+                    u.top,
+                    y,
+                );
             }
         }
         t = steps::chance_after(v, t, x, r.low, r.high);
@@ -212,35 +366,79 @@ fn chance_over(
     }
 }
 
-// The search of the table whose nodes are the entries up to n, between the ends v. The list has an entry for each read of the budget: the leaves read
-// are listed in reading sequence, and the rest of the list stays.
+// The search of the table whose nodes are the entries up to n and whose ends are v. The list has an entry for each read of the budget: the leaves read are
+// listed in reading sequence, and the rest of the list stays.
 pub fn search(
     kind: &[u8],
     stop: &[u16],
     weight: &[u8],
     height: &[u32],
+    top: &[u32],
     leaves: &mut [u16],
     n: usize,
     g: Rule,
     v: Ends,
 ) -> Found
-    requires { ⌜ ReadyRoot (slices (now kind) (now stop) (now weight) (now height)) g v n ⌝ }
-    ensures { λ r. ⌜ Searched (slices (now (kind .entry)) (now (stop .entry)) (now (weight .entry)) (now (height .entry))) g v n r (now (leaves .entry)) (now (leaves .exit)) ⌝ }
+    requires { ⌜ ReadyRoot (slices (now kind) (now stop) (now weight) (now height)) (way g v (now height) (now top)) v n ⌝ }
+    ensures { λ r. ⌜ Searched (slices (now (kind .entry)) (now (stop .entry)) (now (weight .entry)) (now (height .entry))) (way g v (now (height .entry)) (now (top .entry))) v n r (now (leaves .entry)) (now (leaves .exit)) ⌝ }
 {
     let left = leaves.len();
     let k = at8(kind, 0);
-    let w = Window {
-        alpha: v.bottom,
-        beta: v.top,
-    };
     if k == 0 {
         return steps::leaf_at(height, leaves, left, 0, g.grain, v);
     }
+    let u = steps::ends_at(height, top, v, g.grain, 0);
+    let w = Window {
+        alpha: u.bottom,
+        beta: u.top,
+    };
     if k == 1 {
-        return max_over(kind, stop, weight, height, leaves, left, g, 1, n, v, w);
+        return max_over(
+            kind,
+            stop,
+            weight,
+            height,
+            top,
+            leaves,
+            left,
+            g,
+            1,
+            n,
+            u.bottom,
+            u.top,
+            w,
+        );
     }
     if k == 2 {
-        return min_over(kind, stop, weight, height, leaves, left, g, 1, n, v, w);
+        return min_over(
+            kind,
+            stop,
+            weight,
+            height,
+            top,
+            leaves,
+            left,
+            g,
+            1,
+            n,
+            u.bottom,
+            u.top,
+            w,
+        );
     }
-    chance_over(kind, stop, weight, height, leaves, left, g, 1, n, v, w)
+    chance_over(
+        kind,
+        stop,
+        weight,
+        height,
+        top,
+        leaves,
+        left,
+        g,
+        1,
+        n,
+        u.bottom,
+        u.top,
+        w,
+    )
 }

@@ -1,16 +1,15 @@
 -- What the functions of one step of the search ask and tell, in the words of Algorithm 1 over heights, with the running sums of a C. No promise names these.
-use Prim.Native.Nat.{ℕ, suc, _+_, _-_, _≤_}
+use Prim.Native.Nat.{ℕ, suc, _+_, _*_, _-_, _≤_}
 use mathlib.Core.Path.{_≡_}
 use mathlib.Core.Bool.{Bool, true, false, _||_, cond}
 use mathlib.Core.List.{List, [], _∷_}
 use mathlib.Core.Option.{Option, none, some}
 use lib.Dec.{eqb, ltb}
-use lib.ListN.{length, set}
+use lib.ListN.{length, getD, set}
 use Rattle.table.specs.Tree.{Kind, MAX, MIN, CHANCE}
 use Rattle.search.specs.Search as alg
-use Rattle.search.specs.Search.{Frame, Play, noPlay, Seen, Rules, limited, below, point, met, lower, upper, update, nodeOf}
+use Rattle.search.specs.Search.{Frame, Play, noPlay, Seen, limited, below, point, met, lower, upper, update, nodeOf}
 use Rattle.search.specs.Inside.{natural, heightSums, naturalSums, heightRules}
-use Rattle.steps.specs.declared.Rule.{Rule}
 use Rattle.steps.specs.declared.Ends.{Ends}
 use Rattle.steps.specs.declared.State.{State}
 use Rattle.steps.specs.declared.Window.{Window}
@@ -68,9 +67,9 @@ stops margin s = natural .near margin (s .alpha) (s .beta)
 
 -- ---- results
 
--- what a search goes by that has so many reads left
-abbrev pub rulesOf : Rule → Ends → (left : ℕ) → Rules ℕ
-rulesOf g v left = heightRules (v .bottom) (v .top) (g .margin) (limited left)
+-- the ends of the node n, whose lists say how many points they stand above the table's lowest end; those of its parent, v, where the lists are empty
+abbrev pub endsAt : (grain : ℕ) (rises tops : List ℕ) → Ends → (n : ℕ) → Ends
+endsAt grain rises tops v n = cond (eqb (length tops) 0) v (record { bottom = getD rises n 0 * grain; top = getD tops n 0 * grain })
 
 -- l with the numbers xs written from index k on
 unfoldable pub putFrom : List ℕ → ℕ → List ℕ → List ℕ

@@ -7,7 +7,7 @@ ghost use lib.Dec.{eqb, ltb};
 ghost use lib.ListN.{length, getD};
 ghost use Rattle.table.specs.Tree.{MAX, MIN, CHANCE};
 ghost use Rattle.search.specs.Search.{below};
-ghost use Rattle.steps.specs.Inside.{frameAt, sumsAt, windowFor, after, stops, leftIn, metSpentIn, leafSeen, Gives, limit, OkEnds, OkSums};
+ghost use Rattle.steps.specs.Inside.{frameAt, sumsAt, windowFor, after, stops, leftIn, metSpentIn, leafSeen, Gives, endsAt, limit, OkEnds, OkSums};
 use numbers::max_of;
 use numbers::min_of;
 use numbers::monus;
@@ -222,6 +222,28 @@ pub fn chance_left(total: u64, s: State, left: usize, spent: bool) -> Found
     }
 }
 
+// The points at entry i in grains.
+fn grains_at(points: &[u32], i: usize, grain: u64) -> u64
+    requires { ⌜ (i < length (now points)) × (getD (now points) i 0 * grain < 9223372036854775808) ⌝ }
+    ensures { λ r. ⌜ r ≡ getD (now (points .entry)) i 0 * grain ⌝ }
+{
+    wide32(points[i]) * grain
+}
+
+// The least and the greatest value of the M, N or C at entry i, whose parent has the ends v: with an index how many points its own ends stand above the
+// table's lowest end, in grains. Without one, where the list is empty, every node has the table's ends.
+pub fn ends_at(rise: &[u32], top: &[u32], v: Ends, grain: u64, i: usize) -> Ends
+    requires { ⌜ (0 < length (now top) → (i < length (now rise)) × (i < length (now top)) × (getD (now rise) i 0 * grain ≤ limit) × (getD (now top) i 0 * grain ≤ limit)) ⌝ }
+    ensures { λ r. ⌜ r ≡ endsAt grain (now (rise .entry)) (now (top .entry)) v i ⌝ }
+{
+    if top.len() == 0 {
+        return v;
+    }
+    let b = grains_at(rise, i, grain);
+    let t = grains_at(top, i, grain);
+    Ends { bottom: b, top: t }
+}
+
 // A node met when no read is left: the two ends, and nothing is read.
 pub fn met_spent(v: Ends) -> Found
     ensures { λ r. ⌜ r ≡ metSpentIn v ⌝ }
@@ -253,7 +275,7 @@ pub fn leaf_at(
     }
     let used = leaves.len() - left;
     leaves[used] = c as u16;
-    let h = wide32(height[c]) * grain;
+    let h = grains_at(height, c, grain);
     let n = left - 1;
     Found {
         low: h,

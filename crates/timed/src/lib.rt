@@ -1,11 +1,12 @@
 // A table decoded once and searched many times, for ./bench alone: every other call reads the table's text before it searches, which takes longer than
 // the search.
+ghost use mathlib.Core.List.{[]};
 ghost use mathlib.Core.Path.{_≡_};
 ghost use lib.ListN.{length};
 ghost use Rattle.table.specs.Table.{readText};
 ghost use Rattle.table.specs.Slices.{laid};
 ghost use Rattle.table.specs.Inside.{slices};
-ghost use Rattle.searching.specs.Inside.{ReadyRoot};
+ghost use Rattle.searching.specs.Inside.{way, ReadyRoot};
 ghost use Rattle.search_call.specs.Call.{searchCall, searchReads};
 ghost use Rattle.codes.specs.Numbers.{searchCode, searchNumbers, put};
 use steps::Ends;
@@ -23,12 +24,14 @@ fn searches(
     v: Ends,
     times: u64,
 )
-    requires { ⌜ ReadyRoot (slices (now kind) (now stop) (now weight) (now height)) g v n ⌝ }
+    requires { ⌜ ReadyRoot (slices (now kind) (now stop) (now weight) (now height)) (way g v (now height) []) v n ⌝ }
 {
     let mut leaves = [0u16; 1024];
+    // no index
+    let none = [0u32; 0];
     let mut left = times;
     while left > 0 {
-        searching::search(kind, stop, weight, height, &mut leaves, n, g, v);
+        searching::search(kind, stop, weight, height, &none, &mut leaves, n, g, v);
         left -= 1;
     }
 }

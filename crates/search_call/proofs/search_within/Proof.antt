@@ -3,7 +3,6 @@ use Prim.Native.Nat.{ℕ, _-_, min, _≤_}
 use mathlib.Core.Path.{_≡_, sym, ap, ap₂, _∙_}
 use mathlib.Core.Bool.{false}
 use mathlib.Core.List.{List}
-use native.Mathlib.Nat.{le-trans}
 use native.Mathlib.Omega.{arith}
 use borrow.Author.Needs.{needs}
 use denote.Ref.{now}
@@ -20,12 +19,12 @@ use Rattle.table.specs.Slices.{laid}
 use Rattle.table.specs.Table.{Table, readText}
 use Rattle.table.specs.declared.Reading.the-variants.{Refused}
 use Rattle.scale.specs.Inside.{scaleFor}
-use Rattle.scale.proofs.Taken.{Taken, refused-by, taken-by, spread-at, grains-ready, grains-at}
+use Rattle.scale.proofs.Taken.{Taken, refused-by, taken-by, spread-at}
 use Rattle.steps.specs.declared.Found.{Found}
 use Rattle.search_call.specs.declared.Bounded.the-variants.{Found as Given}
 use Rattle.search_call.specs.Call.{badMargin, badBudget, Sought, soughtWithin, searchAnswer, searchList, withinCall, withinReads}
 use Rattle.search_call.specs.Inside.{ruleFor, endsFor}
-use Rattle.search_call.proofs.Call.{bad-margin, bad-budget, no-room, apart-back, part-length, search-ready, found-small, given-at, reads-at}
+use Rattle.search_call.proofs.Call.{bad-margin, bad-budget, no-room, part-length, search-ready, found-small, given-at, reads-at}
 use Rattle.search_call.proofs.search_within.Statement.{statement}
 use Rattle.search_call.proofs.search_within.Tie as tie
 
@@ -136,17 +135,17 @@ most-is N =
 
 -- that many are in the list
 relend : tie.Need-slice-relend-prefix-search
-relend c = omega (arith, most-is (c .before .before .before .before))
+relend c = omega (arith, most-is (c .before .before .before .before .before))
 
-counts : tie.Need-slice-aggregate-search-5
+counts : tie.Need-slice-aggregate-search-6
 counts c =
-    let N = c .before .before .before .before .before in
+    let N = c .before .before .before .before .before .before in
     let R = read-of (known-of (N .before)) in
     sym (part-length (N .reads-of .result) (toNat (budget-of R)) (list-of R) (most-is N))
 
 search-requires : tie.Need-search-requires
 search-requires c κs =
-    let L = c .before .before .before .before .before .before in
+    let L = c .before .before .before .before .before .before .before in
     let K = known-of L in
     let R = read-of K in
     search-ready (taken K) (margin-of R) (budget-of R) (good-margin (budgeted-of L .before .before)) (good-budget (budgeted-of L)) (rule-is L) (ends-are L)
@@ -154,7 +153,7 @@ search-requires c κs =
 -- ---- what it found
 
 abbrev most-at : tie.After-search → tie.After-reads-of
-most-at W = W .before .before .before .before .before .before
+most-at W = W .before .before .before .before .before .before .before
 
 small : (W : tie.After-search)
     → (W .search .result .low ≤ W .search .result .high) × (W .search .result .high ≤ 35184372088832) × (W .search .result .left ≤ most-at W .reads-of .result)
@@ -163,21 +162,13 @@ small W =
     let K = known-of L in
     let R = read-of K in
     found-small (taken K) (margin-of R) (budget-of R) (good-margin (budgeted-of L .before .before)) (good-budget (budgeted-of L)) (rule-is L) (ends-are L) (W .search .result)
-    (most-at W .reads-of .result) (list-of R) (W .search .last .1 .1 .1 .1 .0) (most-is (most-at W)) (room-of L .if3 .left) (W .search .ensures)
+    (most-at W .reads-of .result) (list-of R) (W .search .last .1 .1 .1 .1 .1 .0) (most-is (most-at W)) (room-of L .if3 .left) (W .search .ensures)
 
-in-grains-requires : tie.Need-in-grains-requires
-in-grains-requires c κs =
-    let W = c .before .before .before in
-    grains-ready (taken (known-of (most-at W .before))) (le-trans (small W .0) (small W .1))
-
-in-grains-requires-2 : tie.Need-in-grains-requires-2
-in-grains-requires-2 c κs = let W = c .before .before .before .before .before in grains-ready (taken (known-of (most-at W .before))) (small W .1)
-
-apart-requires : tie.Need-apart-requires
-apart-requires c κs = let u = small (c .before .before .before .before .before .before) in (u .0, u .1)
-
-sub-read : tie.Need-sub-read
-sub-read c = small (c .before .before .before .before .before .before .before .before) .2
+bounds-of-requires : tie.Need-bounds-of-requires
+bounds-of-requires c κs =
+    let W = c .before .before in
+    let u = small W in
+    (spread-at (taken (known-of (most-at W .before))), u .0, u .1, u .2)
 
 returns-4 : tie.Need-returns-4
 returns-4 c =
@@ -188,8 +179,7 @@ returns-4 c =
 
 returns-5 : tie.Need-returns-5
 returns-5 c =
-    let A = c .before .before in
-    let W = A .before .before .before .before .before .before .before in
+    let W = c .before .before .before in
     let N = most-at W in
     let L = N .before in
     let K = known-of L in
@@ -197,20 +187,10 @@ returns-5 c =
     let G = taken K in
     let f : Found = W .search .result in
     let x = good-margin (budgeted-of L .before .before) in
-    let y = good-budget (budgeted-of L) in
-    let low = grains-at G (le-trans (small W .0) (small W .1)) (A .before .before .before .in-grains .ensures) in
-    let high = grains-at G (small W .1) (A .before .in-grains2 .ensures) in (
-      (λ i. Given (record {
-        low = low i;
-        high = high i;
-        difference = apart-back (f .low) (f .high) (small W .1) (A .apart .ensures) i;
-        play = (c .play-at .ensures) i;
-        leaves = N .reads-of .result - f .left;
-        spent = f .spent;
-        grain = summary-of K .grain;
-      }))
-          ∙ given-at G (margin-of R) (budget-of R) x y (rule-is L) (ends-are L) f (N .reads-of .result) (list-of R) (W .search .last .1 .1 .1 .1 .0) (most-is N) (room-of L .if3 .left) (W .search .ensures),
-      reads-at G (margin-of R) (budget-of R) x y (rule-is L) (ends-are L) f (N .reads-of .result) (list-of R) (W .search .last .1 .1 .1 .1 .0) (most-is N) (room-of L .if3 .left) (W .search .ensures),
+    let y = good-budget (budgeted-of L) in (
+      ap Given (c .bounds-of .ensures)
+          ∙ given-at G (margin-of R) (budget-of R) x y (rule-is L) (ends-are L) f (N .reads-of .result) (list-of R) (W .search .last .1 .1 .1 .1 .1 .0) (most-is N) (room-of L .if3 .left) (W .search .ensures),
+      reads-at G (margin-of R) (budget-of R) x y (rule-is L) (ends-are L) f (N .reads-of .result) (list-of R) (W .search .last .1 .1 .1 .1 .1 .0) (most-is N) (room-of L .if3 .left) (W .search .ensures),
     )
 
 pub search-within-spec : {M : Type 1} → statement M
@@ -237,14 +217,11 @@ search-within-spec =
     (λ c. search needs)
     (λ c. search needs)
     (λ c. search needs)
+    (λ c. search needs)
     relend
     counts
     search-requires
-    in-grains-requires
-    in-grains-requires-2
-    apart-requires
-    sub-read
-    (λ c κs. search needs)
+    bounds-of-requires
     returns-4
     (λ c. search needs)
     returns-5)

@@ -23,12 +23,14 @@ use Rattle.steps.proofs.chance_left.Reads as chance-left-reads
 use Rattle.steps.proofs.chance_margin.Reads as chance-margin-reads
 use Rattle.steps.proofs.chance_start.Reads as chance-start-reads
 use Rattle.steps.proofs.chance_window.Reads as chance-window-reads
+use Rattle.steps.proofs.ends_at.Reads as ends-at-reads
 use Rattle.steps.proofs.leaf_at.Reads as leaf-at-reads
 use Rattle.steps.proofs.max_after.Reads as max-after-reads
 use Rattle.steps.proofs.min_after.Reads as min-after-reads
 use Rattle.steps.proofs.stopped.Reads as stopped-reads
 use Rattle.steps.proofs.met_spent.Reads as met-spent-reads
-use Rattle.searching.proofs.Rules.{NodeTold, told-same, told-leaf, told-inner, told-spent, Going, going-start, chance-small, chance-weight, chance-total, window-small, Child, child-of, child-asks, child-three, child-leaf, ChildTold, max-told, min-told, chance-told, max-state, min-state, chance-state, chance-margin-is, told-within, windowFrom, ready-light, chance-begins, chance-tells, Turn, turn-same, turn-less, turn-margin, turn-last, turn-cut, turn-on}
+use Rattle.searching.specs.Inside.{ends, way}
+use Rattle.searching.proofs.Rules.{NodeTold, told-same, told-leaf, told-inner, told-spent, Going, going-start, chance-small, chance-weight, chance-total, window-small, Child, child-of, child-asks, child-own, child-three, child-leaf, ChildTold, max-told, min-told, chance-told, max-state, min-state, chance-state, chance-margin-is, told-within, windowFrom, ready-light, chance-begins, chance-tells, Turn, turn-same, turn-less, turn-margin, turn-last, turn-cut, turn-on}
 use Rattle.searching.proofs.chance_over.Reads as chance-over
 use Rattle.searching.proofs.chance_over.Kinds as chance-over-kinds
 use Rattle.searching.proofs.+chance_over+max_over+min_over.Lts-chance_over as chance-over-lts
@@ -42,32 +44,32 @@ use Rattle.searching.proofs.+chance_over+max_over+min_over.{statement}
 use Rattle.searching.proofs.+chance_over+max_over+min_over.Tie.{close}
 
 -- what falls at each call: the number of entries
-abbrev μ-chance-over : Measures 5 chance-over-kinds.ps ℕ
-μ-chance-over κs a = a .1 .1 .1 .1 .1 .1 .1 .1 .0 - a .1 .1 .1 .1 .1 .1 .1 .0
+abbrev μ-chance-over : Measures 6 chance-over-kinds.ps ℕ
+μ-chance-over κs a = a .1 .1 .1 .1 .1 .1 .1 .1 .1 .0 - a .1 .1 .1 .1 .1 .1 .1 .1 .0
 
-abbrev μ-max-over : Measures 5 max-over-kinds.ps ℕ
-μ-max-over κs a = a .1 .1 .1 .1 .1 .1 .1 .1 .0 - a .1 .1 .1 .1 .1 .1 .1 .0
+abbrev μ-max-over : Measures 6 max-over-kinds.ps ℕ
+μ-max-over κs a = a .1 .1 .1 .1 .1 .1 .1 .1 .1 .0 - a .1 .1 .1 .1 .1 .1 .1 .1 .0
 
-abbrev μ-min-over : Measures 5 min-over-kinds.ps ℕ
-μ-min-over κs a = a .1 .1 .1 .1 .1 .1 .1 .1 .0 - a .1 .1 .1 .1 .1 .1 .1 .0
+abbrev μ-min-over : Measures 6 min-over-kinds.ps ℕ
+μ-min-over κs a = a .1 .1 .1 .1 .1 .1 .1 .1 .1 .0 - a .1 .1 .1 .1 .1 .1 .1 .1 .0
 
-abbrev chance-over-at : ℕ → In 5 chance-over-kinds.ps
-chance-over-at t = and 5 chance-over-kinds.ps (is 5 chance-over-kinds.ps μ-chance-over t) chance-over.Pre
+abbrev chance-over-at : ℕ → In 6 chance-over-kinds.ps
+chance-over-at t = and 6 chance-over-kinds.ps (is 6 chance-over-kinds.ps μ-chance-over t) chance-over.Pre
 
-abbrev chance-over-below : ℕ → In 5 chance-over-kinds.ps
-chance-over-below t = and 5 chance-over-kinds.ps (falls 5 chance-over-kinds.ps _<_ μ-chance-over t) chance-over.Pre
+abbrev chance-over-below : ℕ → In 6 chance-over-kinds.ps
+chance-over-below t = and 6 chance-over-kinds.ps (falls 6 chance-over-kinds.ps _<_ μ-chance-over t) chance-over.Pre
 
-abbrev max-over-at : ℕ → In 5 max-over-kinds.ps
-max-over-at t = and 5 max-over-kinds.ps (is 5 max-over-kinds.ps μ-max-over t) max-over.Pre
+abbrev max-over-at : ℕ → In 6 max-over-kinds.ps
+max-over-at t = and 6 max-over-kinds.ps (is 6 max-over-kinds.ps μ-max-over t) max-over.Pre
 
-abbrev max-over-below : ℕ → In 5 max-over-kinds.ps
-max-over-below t = and 5 max-over-kinds.ps (falls 5 max-over-kinds.ps _<_ μ-max-over t) max-over.Pre
+abbrev max-over-below : ℕ → In 6 max-over-kinds.ps
+max-over-below t = and 6 max-over-kinds.ps (falls 6 max-over-kinds.ps _<_ μ-max-over t) max-over.Pre
 
-abbrev min-over-at : ℕ → In 5 min-over-kinds.ps
-min-over-at t = and 5 min-over-kinds.ps (is 5 min-over-kinds.ps μ-min-over t) min-over.Pre
+abbrev min-over-at : ℕ → In 6 min-over-kinds.ps
+min-over-at t = and 6 min-over-kinds.ps (is 6 min-over-kinds.ps μ-min-over t) min-over.Pre
 
-abbrev min-over-below : ℕ → In 5 min-over-kinds.ps
-min-over-below t = and 5 min-over-kinds.ps (falls 5 min-over-kinds.ps _<_ μ-min-over t) min-over.Pre
+abbrev min-over-below : ℕ → In 6 min-over-kinds.ps
+min-over-below t = and 6 min-over-kinds.ps (falls 6 min-over-kinds.ps _<_ μ-min-over t) min-over.Pre
 
 -- the window in which a search began, from its first state
 abbrev windowOf : State → Window
@@ -94,6 +96,8 @@ chance-over-claims t = (
   wide8-reads.Learnt,
   leaf-at-reads.Asked,
   leaf-at-reads.Learnt,
+  ends-at-reads.Asked,
+  ends-at-reads.Learnt,
   chance-window-reads.Asked,
   chance-window-reads.Learnt,
   max-over-below t,
@@ -111,38 +115,38 @@ chance-over-claims t = (
 )
 
 abbrev chance-over-Inv-loop : chance-over-lts.InvT-loop
-chance-over-Inv-loop kind stop weight height leaves₀ left g c end v total margin t₀ i₀ n₀ leaves t i n =
-    Going (slices kind stop weight height) g v CHANCE (windowFrom total t₀) c end left leaves₀ t i n leaves
+chance-over-Inv-loop kind stop weight height top leaves₀ left g c end bottom highest v total margin t₀ i₀ n₀ leaves t i n =
+    Going (slices kind stop weight height) (way g v height top) v CHANCE (windowFrom total t₀) c end left leaves₀ t i n leaves
 
 abbrev chance-over-μ-loop : chance-over-lts.MeasureT-loop
-chance-over-μ-loop kind stop weight height leaves₀ left g c end v total margin t₀ i₀ n₀ leaves t i n = end - i
+chance-over-μ-loop kind stop weight height top leaves₀ left g c end bottom highest v total margin t₀ i₀ n₀ leaves t i n = end - i
 
 chance-over-met-spent-requires : (t : ℕ) → chance-over-lts.Need-met-spent-requires (chance-over-claims t) (chance-over-at t) chance-over.Post chance-over-Inv-loop chance-over-μ-loop
 chance-over-met-spent-requires t c κs = search needs
 
 chance-over-returns : (t : ℕ) → chance-over-lts.Need-returns (chance-over-claims t) (chance-over-at t) chance-over.Post chance-over-Inv-loop chance-over-μ-loop
-chance-over-returns t c = let a = c .before .before .before .before .before .before .before .args in
-    told-spent (slices (a .kind .now) (a .stop .now) (a .weight .now) (a .height .now)) (a .g) CHANCE (a .w) (a .c) (a .end) (c .before .if1 .taken) (c .met-spent .ensures)
+chance-over-returns t c = let a = c .before .before .before .before .before .before .before .before .args in
+    told-spent (slices (a .kind .now) (a .stop .now) (a .weight .now) (a .height .now)) (way (a .g) (ends (a .bottom) (a .highest)) (a .height .now) (a .top .now)) CHANCE (a .w) (a .c) (a .end) (c .before .if1 .taken) (c .met-spent .ensures)
 
 chance-over-sum-weights-requires : (t : ℕ) → chance-over-lts.Need-sum-weights-requires (chance-over-claims t) (chance-over-at t) chance-over.Post chance-over-Inv-loop chance-over-μ-loop
 chance-over-sum-weights-requires t c κs =
-    let p = c .before .before .before .before .before .before in
+    let p = c .before .before .before .before .before .before .before in
     let R = p .pre .1 in
     (R .holds .kinds, R .holds .stops, R .holds .weights, R .holds .few, record { heights = p .args .height .now; forest = R .nodes; spans = R .spans })
 
 chance-over-chance-margin-requires : (t : ℕ) → chance-over-lts.Need-chance-margin-requires (chance-over-claims t) (chance-over-at t) chance-over.Post chance-over-Inv-loop chance-over-μ-loop
 chance-over-chance-margin-requires t c κs =
-    let R = c .before .before .before .before .before .before .before .pre .1 in
+    let R = c .before .before .before .before .before .before .before .before .pre .1 in
     (ready-light R (c .sum-weights .ensures), R .rule .margin)
 
 chance-over-chance-start-requires : (t : ℕ) → chance-over-lts.Need-chance-start-requires (chance-over-claims t) (chance-over-at t) chance-over.Post chance-over-Inv-loop chance-over-μ-loop
 chance-over-chance-start-requires t c κs =
-    let R = c .before .before .before .before .before .before .before .before .pre .1 in
+    let R = c .before .before .before .before .before .before .before .before .before .pre .1 in
     (R .ends, ready-light R (c .before .sum-weights .ensures), R .alpha, R .beta)
 
 chance-over-loop-holds : (t : ℕ) → chance-over-lts.Need-loop-holds (chance-over-claims t) (chance-over-at t) chance-over.Post chance-over-Inv-loop chance-over-μ-loop
 chance-over-loop-holds t c =
-    let p = c .before .before .before .before .before .before .before .before .before in
+    let p = c .before .before .before .before .before .before .before .before .before .before in
     chance-begins (p .pre .1) (c .before .before .before .if1 .left) (c .before .before .sum-weights .ensures) (c .chance-start .ensures)
 
 chance-over-node-at-requires : (t : ℕ) → chance-over-lts.Need-node-at-requires (chance-over-claims t) (chance-over-at t) chance-over.Post chance-over-Inv-loop chance-over-μ-loop
@@ -159,7 +163,7 @@ chance-over-wide8-requires t c κs = search needs
 
 -- at the place where the child's weight was read: it is the one in the slice, and the total is the sum of all
 chance-over-weight : (t : ℕ) (c : chance-over-lts.After-wide8 (chance-over-claims t) (chance-over-at t) chance-over.Post chance-over-Inv-loop chance-over-μ-loop)
-    → c .wide8 .result ≡ getD (c .before .before .before .before .before .before .before .before .before .before .before .before .before .before .args .weight .now) (c .before .before .before .before .loop .i) 0
+    → c .wide8 .result ≡ getD (c .before .before .before .before .before .before .before .before .before .before .before .before .before .before .before .args .weight .now) (c .before .before .before .before .loop .i) 0
 chance-over-weight t c = c .wide8 .ensures ∙ c .before .at82 .ensures
 
 chance-over-total : (t : ℕ) (c : chance-over-lts.After-wide8 (chance-over-claims t) (chance-over-at t) chance-over.Post chance-over-Inv-loop chance-over-μ-loop)
@@ -176,9 +180,9 @@ chance-over-sizes t c =
 
 -- for a leaf the window does not matter
 chance-over-near : (t : ℕ) (c : chance-over-lts.After-wide8 (chance-over-claims t) (chance-over-at t) chance-over.Post chance-over-Inv-loop chance-over-μ-loop)
-    → let a = c .before .before .before .before .before .before .before .before .before .before .before .before .before .before .args in
+    → let a = c .before .before .before .before .before .before .before .before .before .before .before .before .before .before .before .args in
     let l = c .before .before .before .before .loop in
-    Child (slices (a .kind .now) (a .stop .now) (a .weight .now) (a .height .now)) (a .g) (a .v) (a .c) (a .end) (l .i) (c .before .before .before .node-at .result) (l .n) (length (l .leaves)) (record { alpha = 0; beta = 0 })
+    Child (slices (a .kind .now) (a .stop .now) (a .weight .now) (a .height .now)) (way (a .g) (ends (a .bottom) (a .highest)) (a .height .now) (a .top .now)) (ends (a .bottom) (a .highest)) (a .c) (a .end) (l .i) (c .before .before .before .node-at .result) (l .n) (length (l .leaves)) (record { alpha = 0; beta = 0 })
 chance-over-near t c =
     let x = c .before .before .before .node-at in
     child-of (c .before .before .before .before .loop .inv) (x .result) (record { alpha = 0; beta = 0 }) (x .ensures) (omega arith) (omega arith)
@@ -186,26 +190,31 @@ chance-over-near t c =
 chance-over-leaf-at-requires : (t : ℕ) → chance-over-lts.Need-leaf-at-requires (chance-over-claims t) (chance-over-at t) chance-over.Post chance-over-Inv-loop chance-over-μ-loop
 chance-over-leaf-at-requires t c κs = child-leaf (chance-over-near t (c .before .before)) _ (c .before .before .before .before .at8 .ensures) (c .before .if2 .taken)
 
+chance-over-ends-at-requires : (t : ℕ) → chance-over-lts.Need-ends-at-requires (chance-over-claims t) (chance-over-at t) chance-over.Post chance-over-Inv-loop chance-over-μ-loop
+chance-over-ends-at-requires t c κs =
+    let W = c .before in
+    child-own (chance-over-near t W) _ (W .before .before .at8 .ensures) (c .if2 .left)
+
 chance-over-chance-window-requires : (t : ℕ) → chance-over-lts.Need-chance-window-requires (chance-over-claims t) (chance-over-at t) chance-over.Post chance-over-Inv-loop chance-over-μ-loop
 chance-over-chance-window-requires t c κs =
-    let W = c .before in
+    let W = c .before .before in
     let I = W .before .before .before .before .loop .inv in
     let u = chance-over-sizes t W in
     (I .ends, chance-small I, u .0, omega (arith, u .1, u .2))
 
 -- at the place where the child's window was made
 chance-over-child : (t : ℕ) (c : chance-over-lts.After-chance-window (chance-over-claims t) (chance-over-at t) chance-over.Post chance-over-Inv-loop chance-over-μ-loop)
-    → let W = c .before .before in
-    let a = W .before .before .before .before .before .before .before .before .before .before .before .before .before .before .args in
+    → let W = c .before .before .before in
+    let a = W .before .before .before .before .before .before .before .before .before .before .before .before .before .before .before .args in
     let l = W .before .before .before .before .loop in
-    Child (slices (a .kind .now) (a .stop .now) (a .weight .now) (a .height .now)) (a .g) (a .v) (a .c) (a .end) (l .i) (W .before .before .before .node-at .result) (l .n) (length (l .leaves)) (c .chance-window .result)
+    Child (slices (a .kind .now) (a .stop .now) (a .weight .now) (a .height .now)) (way (a .g) (ends (a .bottom) (a .highest)) (a .height .now) (a .top .now)) (ends (a .bottom) (a .highest)) (a .c) (a .end) (l .i) (W .before .before .before .node-at .result) (l .n) (length (l .leaves)) (c .chance-window .result)
 chance-over-child t c =
-    let W = c .before .before in
-    let a = W .before .before .before .before .before .before .before .before .before .before .before .before .before .before .args in
+    let W = c .before .before .before in
+    let a = W .before .before .before .before .before .before .before .before .before .before .before .before .before .before .before .args in
     let l = W .before .before .before .before .loop in
     let x = W .before .before .before .node-at in
     let y = c .chance-window in
-    let q = window-small (a .v) (W .wide8 .result) (l .t) (l .inv .ends) in
+    let q = window-small (ends (a .bottom) (a .highest)) (W .wide8 .result) (l .t) (l .inv .ends) in
     child-of (l .inv) (x .result) (y .result) (x .ensures)
     (subst (λ (z : Window). z .alpha ≤ limit) (sym (y .ensures)) (q .0)) (subst (λ (z : Window). z .beta ≤ limit) (sym (y .ensures)) (q .1))
 
@@ -215,8 +224,9 @@ chance-over-add-max-over t c = omega (arith, chance-over-child t (c .before .bef
 chance-over-max-over-requires : (t : ℕ) → chance-over-lts.Need-max-over-requires (chance-over-claims t) (chance-over-at t) chance-over.Post chance-over-Inv-loop chance-over-μ-loop
 chance-over-max-over-requires t c κs =
     let C = c .before .before in
-    let W = C .before .before in
-    child-asks (chance-over-child t C) t (W .before .before .before .before .before .before .before .before .before .before .before .before .before .before .pre .0) MAX (sym (W .before .before .at8 .ensures) ∙ c .before .if3 .taken)
+    let o = C .before in
+    let W = o .before .before in
+    child-asks (chance-over-child t C) t (W .before .before .before .before .before .before .before .before .before .before .before .before .before .before .before .pre .0) MAX (o .ends-at .ensures) (sym (W .before .before .at8 .ensures) ∙ c .before .if3 .taken)
 
 chance-over-add-min-over : (t : ℕ) → chance-over-lts.Need-add-min-over (chance-over-claims t) (chance-over-at t) chance-over.Post chance-over-Inv-loop chance-over-μ-loop
 chance-over-add-min-over t c = omega (arith, chance-over-child t (c .before .before .before) .small)
@@ -224,8 +234,9 @@ chance-over-add-min-over t c = omega (arith, chance-over-child t (c .before .bef
 chance-over-min-over-requires : (t : ℕ) → chance-over-lts.Need-min-over-requires (chance-over-claims t) (chance-over-at t) chance-over.Post chance-over-Inv-loop chance-over-μ-loop
 chance-over-min-over-requires t c κs =
     let C = c .before .before .before in
-    let W = C .before .before in
-    child-asks (chance-over-child t C) t (W .before .before .before .before .before .before .before .before .before .before .before .before .before .before .pre .0) MIN (sym (W .before .before .at8 .ensures) ∙ c .before .if4 .taken)
+    let o = C .before in
+    let W = o .before .before in
+    child-asks (chance-over-child t C) t (W .before .before .before .before .before .before .before .before .before .before .before .before .before .before .before .pre .0) MIN (o .ends-at .ensures) (sym (W .before .before .at8 .ensures) ∙ c .before .if4 .taken)
 
 chance-over-add-chance-over : (t : ℕ) → chance-over-lts.Need-add-chance-over (chance-over-claims t) (chance-over-at t) chance-over.Post chance-over-Inv-loop chance-over-μ-loop
 chance-over-add-chance-over t c = omega (arith, chance-over-child t (c .before .before .before) .small)
@@ -233,10 +244,11 @@ chance-over-add-chance-over t c = omega (arith, chance-over-child t (c .before .
 chance-over-chance-over-requires : (t : ℕ) → chance-over-lts.Need-chance-over-requires (chance-over-claims t) (chance-over-at t) chance-over.Post chance-over-Inv-loop chance-over-μ-loop
 chance-over-chance-over-requires t c κs =
     let C = c .before .before .before in
-    let W = C .before .before in
+    let o = C .before in
+    let W = o .before .before in
     let D = chance-over-child t C in
-    child-asks D t (W .before .before .before .before .before .before .before .before .before .before .before .before .before .before .pre .0) CHANCE
-    (child-three D _ (W .before .before .at8 .ensures) (C .before .if2 .left) (c .before .before .if3 .left) (c .before .if4 .left))
+    child-asks D t (W .before .before .before .before .before .before .before .before .before .before .before .before .before .before .before .pre .0) CHANCE (o .ends-at .ensures)
+    (child-three D _ (W .before .before .at8 .ensures) (o .before .if2 .left) (c .before .before .if3 .left) (c .before .if4 .left))
 
 -- at the place where the four ways meet: what the search of the child told
 chance-over-joined : (t : ℕ) (c : chance-over-lts.Joined2 (chance-over-claims t) (chance-over-at t) chance-over.Post chance-over-Inv-loop chance-over-μ-loop) → ChildTold (c .before .before .before .before .before .loop .inv) (c .if2 .r) (c .if2 .leaves)
@@ -249,11 +261,11 @@ chance-over-joined t c =
     ⊎-elim
     (λ w. told-same (w .6) (w .5) (told-leaf (sym (k .ensures) ∙ w .0 .taken) (w .2 .ensures)))
     (⊎-elim
-    (λ w. told-same (w .8) (w .7) (chance-told I q (w .1 .ensures) (told-inner MAX (sym (k .ensures) ∙ w .2 .taken) (x .ensures) (w .4 .ensures))))
+    (λ w. told-same (w .9) (w .8) (chance-told I q (w .2 .ensures) (told-inner MAX (w .1 .ensures) (sym (k .ensures) ∙ w .3 .taken) (x .ensures) (w .5 .ensures))))
     (⊎-elim
-    (λ w. told-same (w .9) (w .8) (chance-told I q (w .1 .ensures) (told-inner MIN (sym (k .ensures) ∙ w .3 .taken) (x .ensures) (w .5 .ensures))))
-    (λ w. told-same (w .9) (w .8) (chance-told I q (w .1 .ensures)
-    (told-inner CHANCE (child-three (chance-over-near t W) _ (k .ensures) (w .0 .left) (w .2 .left) (w .3 .left)) (x .ensures) (w .5 .ensures))))))
+    (λ w. told-same (w .10) (w .9) (chance-told I q (w .2 .ensures) (told-inner MIN (w .1 .ensures) (sym (k .ensures) ∙ w .4 .taken) (x .ensures) (w .6 .ensures))))
+    (λ w. told-same (w .10) (w .9) (chance-told I q (w .2 .ensures)
+    (told-inner CHANCE (w .1 .ensures) (child-three (chance-over-near t W) _ (k .ensures) (w .0 .left) (w .3 .left) (w .4 .left)) (x .ensures) (w .6 .ensures))))))
     (c .if2 .came)
 
 chance-over-chance-after-requires : (t : ℕ) → chance-over-lts.Need-chance-after-requires (chance-over-claims t) (chance-over-at t) chance-over.Post chance-over-Inv-loop chance-over-μ-loop
@@ -267,9 +279,9 @@ chance-over-chance-after-requires t c κs =
 -- after the child: one turn of the loop
 chance-over-turn : (t : ℕ) (c : chance-over-lts.After-chance-after (chance-over-claims t) (chance-over-at t) chance-over.Post chance-over-Inv-loop chance-over-μ-loop)
     → let W = c .before .before in
-    let a = W .before .before .before .before .before .before .before .before .before .before .before .before .before .before .args in
+    let a = W .before .before .before .before .before .before .before .before .before .before .before .before .before .before .before .args in
     let B = W .before .before .before .before .before in
-    Turn (slices (a .kind .now) (a .stop .now) (a .weight .now) (a .height .now)) (a .g) (a .v) CHANCE (windowFrom (B .before .before .sum-weights .result) (B .chance-start .result)) (a .c) (a .end) (a .left) (B .before .chance-margin .result) (a .leaves .now)
+    Turn (slices (a .kind .now) (a .stop .now) (a .weight .now) (a .height .now)) (way (a .g) (ends (a .bottom) (a .highest)) (a .height .now) (a .top .now)) (ends (a .bottom) (a .highest)) CHANCE (windowFrom (B .before .before .sum-weights .result) (B .chance-start .result)) (a .c) (a .end) (a .left) (B .before .chance-margin .result) (a .leaves .now)
     (W .before .before .before .before .loop .i) (W .before .before .before .node-at .result) (c .before .if2 .r) (c .chance-after .result) (c .before .if2 .leaves)
 chance-over-turn t c =
     let W = c .before .before in
@@ -295,7 +307,7 @@ chance-over-returns-2 : (t : ℕ) → chance-over-lts.Need-returns-2 (chance-ove
 chance-over-returns-2 t c =
     let U = chance-over-turn t (c .before .before) in
     let B = c .before .before .before .before .before .before .before .before .before in
-    chance-tells U (B .before .before .before .before .before .before .before .before .before .args .w) (B .before .before .sum-weights .ensures) (B .chance-start .ensures) (c .chance-left .ensures)
+    chance-tells U (B .before .before .before .before .before .before .before .before .before .before .args .w) (B .before .before .sum-weights .ensures) (B .chance-start .ensures) (c .chance-left .ensures)
     (turn-last U (c .before .if5 .taken))
 
 chance-over-stopped-requires : (t : ℕ) → chance-over-lts.Need-stopped-requires (chance-over-claims t) (chance-over-at t) chance-over.Post chance-over-Inv-loop chance-over-μ-loop
@@ -312,7 +324,7 @@ unfolding runLow runHigh
 chance-over-returns-3 t c =
     let U = chance-over-turn t (c .before .before .before .before) in
     let B = c .before .before .before .before .before .before .before .before .before .before .before in
-    chance-tells U (B .before .before .before .before .before .before .before .before .before .args .w) (B .before .before .sum-weights .ensures) (B .chance-start .ensures) (c .chance-left2 .ensures)
+    chance-tells U (B .before .before .before .before .before .before .before .before .before .before .args .w) (B .before .before .sum-weights .ensures) (B .chance-start .ensures) (c .chance-left2 .ensures)
     (turn-cut U (c .before .before .before .if5 .left) (c .before .before .stopped .ensures) (c .before .if6 .taken))
 
 chance-over-loop-less : (t : ℕ) → chance-over-lts.Need-loop-less (chance-over-claims t) (chance-over-at t) chance-over.Post chance-over-Inv-loop chance-over-μ-loop
@@ -334,6 +346,8 @@ max-over-claims t = (
   at8-reads.Learnt,
   leaf-at-reads.Asked,
   leaf-at-reads.Learnt,
+  ends-at-reads.Asked,
+  ends-at-reads.Learnt,
   max-over-below t,
   max-over.Post,
   min-over-below t,
@@ -347,21 +361,21 @@ max-over-claims t = (
 )
 
 abbrev max-over-Inv-loop : max-over-lts.InvT-loop
-max-over-Inv-loop kind stop weight height leaves₀ left g c end v t₀ i₀ n₀ leaves t i n =
-    Going (slices kind stop weight height) g v MAX (windowOf t₀) c end left leaves₀ t i n leaves
+max-over-Inv-loop kind stop weight height top leaves₀ left g c end bottom highest v t₀ i₀ n₀ leaves t i n =
+    Going (slices kind stop weight height) (way g v height top) v MAX (windowOf t₀) c end left leaves₀ t i n leaves
 
 abbrev max-over-μ-loop : max-over-lts.MeasureT-loop
-max-over-μ-loop kind stop weight height leaves₀ left g c end v t₀ i₀ n₀ leaves t i n = end - i
+max-over-μ-loop kind stop weight height top leaves₀ left g c end bottom highest v t₀ i₀ n₀ leaves t i n = end - i
 
 max-over-met-spent-requires : (t : ℕ) → max-over-lts.Need-met-spent-requires (max-over-claims t) (max-over-at t) max-over.Post max-over-Inv-loop max-over-μ-loop
 max-over-met-spent-requires t c κs = search needs
 
 max-over-returns : (t : ℕ) → max-over-lts.Need-returns (max-over-claims t) (max-over-at t) max-over.Post max-over-Inv-loop max-over-μ-loop
-max-over-returns t c = let a = c .before .before .before .before .before .before .before .args in
-    told-spent (slices (a .kind .now) (a .stop .now) (a .weight .now) (a .height .now)) (a .g) MAX (a .w) (a .c) (a .end) (c .before .if1 .taken) (c .met-spent .ensures)
+max-over-returns t c = let a = c .before .before .before .before .before .before .before .before .args in
+    told-spent (slices (a .kind .now) (a .stop .now) (a .weight .now) (a .height .now)) (way (a .g) (ends (a .bottom) (a .highest)) (a .height .now) (a .top .now)) MAX (a .w) (a .c) (a .end) (c .before .if1 .taken) (c .met-spent .ensures)
 
 max-over-loop-holds : (t : ℕ) → max-over-lts.Need-loop-holds (max-over-claims t) (max-over-at t) max-over.Post max-over-Inv-loop max-over-μ-loop
-max-over-loop-holds t c = let p = c .before .before .before .before .before .before in going-start MAX (p .args .w) (p .pre .1) (c .if1 .left)
+max-over-loop-holds t c = let p = c .before .before .before .before .before .before .before in going-start MAX (p .args .w) (p .pre .1) (c .if1 .left)
 
 max-over-node-at-requires : (t : ℕ) → max-over-lts.Need-node-at-requires (max-over-claims t) (max-over-at t) max-over.Post max-over-Inv-loop max-over-μ-loop
 max-over-node-at-requires t c κs = let I = c .loop .inv in omega (arith, I .some, I .holds .stops)
@@ -371,9 +385,9 @@ max-over-at8-requires t c κs = let I = c .before .loop .inv in omega (arith, I 
 
 -- at the place where the child's kind was read
 max-over-child : (t : ℕ) (c : max-over-lts.After-at8 (max-over-claims t) (max-over-at t) max-over.Post max-over-Inv-loop max-over-μ-loop)
-    → let a = c .before .before .before .before .before .before .before .before .before .args in
+    → let a = c .before .before .before .before .before .before .before .before .before .before .args in
     let l = c .before .before .loop in
-    Child (slices (a .kind .now) (a .stop .now) (a .weight .now) (a .height .now)) (a .g) (a .v) (a .c) (a .end) (l .i) (c .before .node-at .result) (l .n) (length (l .leaves)) (windowOf (l .t))
+    Child (slices (a .kind .now) (a .stop .now) (a .weight .now) (a .height .now)) (way (a .g) (ends (a .bottom) (a .highest)) (a .height .now) (a .top .now)) (ends (a .bottom) (a .highest)) (a .c) (a .end) (l .i) (c .before .node-at .result) (l .n) (length (l .leaves)) (windowOf (l .t))
 unfolding scaled
 max-over-child t c =
     let l = c .before .before .loop in
@@ -383,48 +397,54 @@ max-over-child t c =
 max-over-leaf-at-requires : (t : ℕ) → max-over-lts.Need-leaf-at-requires (max-over-claims t) (max-over-at t) max-over.Post max-over-Inv-loop max-over-μ-loop
 max-over-leaf-at-requires t c κs = child-leaf (max-over-child t (c .before .before)) _ (c .before .before .at8 .ensures) (c .before .if2 .taken)
 
+max-over-ends-at-requires : (t : ℕ) → max-over-lts.Need-ends-at-requires (max-over-claims t) (max-over-at t) max-over.Post max-over-Inv-loop max-over-μ-loop
+max-over-ends-at-requires t c κs = child-own (max-over-child t (c .before)) _ (c .before .at8 .ensures) (c .if2 .left)
+
 max-over-add-max-over : (t : ℕ) → max-over-lts.Need-add-max-over (max-over-claims t) (max-over-at t) max-over.Post max-over-Inv-loop max-over-μ-loop
-max-over-add-max-over t c = omega (arith, max-over-child t (c .before .before .before) .small)
+max-over-add-max-over t c = omega (arith, max-over-child t (c .before .before .before .before) .small)
 
 max-over-max-over-requires : (t : ℕ) → max-over-lts.Need-max-over-requires (max-over-claims t) (max-over-at t) max-over.Post max-over-Inv-loop max-over-μ-loop
 max-over-max-over-requires t c κs =
-    let p = c .before .before .before in
-    child-asks (max-over-child t p) t (p .before .before .before .before .before .before .before .before .before .pre .0) MAX (sym (p .at8 .ensures) ∙ c .before .if3 .taken)
+    let o = c .before .before in
+    let p = o .before .before in
+    child-asks (max-over-child t p) t (p .before .before .before .before .before .before .before .before .before .before .pre .0) MAX (o .ends-at .ensures) (sym (p .at8 .ensures) ∙ c .before .if3 .taken)
 
 max-over-add-min-over : (t : ℕ) → max-over-lts.Need-add-min-over (max-over-claims t) (max-over-at t) max-over.Post max-over-Inv-loop max-over-μ-loop
-max-over-add-min-over t c = omega (arith, max-over-child t (c .before .before .before .before) .small)
+max-over-add-min-over t c = omega (arith, max-over-child t (c .before .before .before .before .before) .small)
 
 max-over-min-over-requires : (t : ℕ) → max-over-lts.Need-min-over-requires (max-over-claims t) (max-over-at t) max-over.Post max-over-Inv-loop max-over-μ-loop
 max-over-min-over-requires t c κs =
-    let p = c .before .before .before .before in
-    child-asks (max-over-child t p) t (p .before .before .before .before .before .before .before .before .before .pre .0) MIN (sym (p .at8 .ensures) ∙ c .before .if4 .taken)
+    let o = c .before .before .before in
+    let p = o .before .before in
+    child-asks (max-over-child t p) t (p .before .before .before .before .before .before .before .before .before .before .pre .0) MIN (o .ends-at .ensures) (sym (p .at8 .ensures) ∙ c .before .if4 .taken)
 
 max-over-add-chance-over : (t : ℕ) → max-over-lts.Need-add-chance-over (max-over-claims t) (max-over-at t) max-over.Post max-over-Inv-loop max-over-μ-loop
-max-over-add-chance-over t c = omega (arith, max-over-child t (c .before .before .before .before) .small)
+max-over-add-chance-over t c = omega (arith, max-over-child t (c .before .before .before .before .before) .small)
 
 max-over-chance-over-requires : (t : ℕ) → max-over-lts.Need-chance-over-requires (max-over-claims t) (max-over-at t) max-over.Post max-over-Inv-loop max-over-μ-loop
 max-over-chance-over-requires t c κs =
-    let p = c .before .before .before .before in
+    let o = c .before .before .before in
+    let p = o .before .before in
     let C = max-over-child t p in
-    child-asks C t (p .before .before .before .before .before .before .before .before .before .pre .0) CHANCE
-    (child-three C _ (p .at8 .ensures) (c .before .before .before .if2 .left) (c .before .before .if3 .left) (c .before .if4 .left))
+    child-asks C t (p .before .before .before .before .before .before .before .before .before .before .pre .0) CHANCE (o .ends-at .ensures)
+    (child-three C _ (p .at8 .ensures) (o .before .if2 .left) (c .before .before .if3 .left) (c .before .if4 .left))
 
 -- at the place where the four ways meet: what the search of the child told
 max-over-joined : (t : ℕ) (c : max-over-lts.Joined2 (max-over-claims t) (max-over-at t) max-over.Post max-over-Inv-loop max-over-μ-loop)
-    → let a = c .before .before .before .before .before .before .before .before .before .before .args in
+    → let a = c .before .before .before .before .before .before .before .before .before .before .before .args in
     let l = c .before .before .before .loop in
-    NodeTold (slices (a .kind .now) (a .stop .now) (a .weight .now) (a .height .now)) (a .g) (a .v) (windowOf (l .t)) (l .i) (l .n) (c .if2 .r) (l .leaves) (c .if2 .leaves)
+    NodeTold (slices (a .kind .now) (a .stop .now) (a .weight .now) (a .height .now)) (way (a .g) (ends (a .bottom) (a .highest)) (a .height .now) (a .top .now)) (ends (a .bottom) (a .highest)) (windowOf (l .t)) (l .i) (l .n) (c .if2 .r) (l .leaves) (c .if2 .leaves)
 max-over-joined t c =
     let k = c .before .at8 in
     let x = c .before .before .node-at in
     ⊎-elim
     (λ w. told-same (w .6) (w .5) (told-leaf (sym (k .ensures) ∙ w .0 .taken) (w .2 .ensures)))
     (⊎-elim
-    (λ w. told-same (w .7) (w .6) (told-inner MAX (sym (k .ensures) ∙ w .1 .taken) (x .ensures) (w .3 .ensures)))
+    (λ w. told-same (w .8) (w .7) (told-inner MAX (w .1 .ensures) (sym (k .ensures) ∙ w .2 .taken) (x .ensures) (w .4 .ensures)))
     (⊎-elim
-    (λ w. told-same (w .8) (w .7) (told-inner MIN (sym (k .ensures) ∙ w .2 .taken) (x .ensures) (w .4 .ensures)))
-    (λ w. told-same (w .8) (w .7) (told-inner CHANCE (child-three (max-over-child t (c .before)) _ (k .ensures) (w .0 .left) (w .1 .left) (w .2 .left))
-    (x .ensures) (w .4 .ensures)))))
+    (λ w. told-same (w .9) (w .8) (told-inner MIN (w .1 .ensures) (sym (k .ensures) ∙ w .3 .taken) (x .ensures) (w .5 .ensures)))
+    (λ w. told-same (w .9) (w .8) (told-inner CHANCE (w .1 .ensures) (child-three (max-over-child t (c .before)) _ (k .ensures) (w .0 .left) (w .2 .left) (w .3 .left))
+    (x .ensures) (w .5 .ensures)))))
     (c .if2 .came)
 
 max-over-max-after-requires : (t : ℕ) → max-over-lts.Need-max-after-requires (max-over-claims t) (max-over-at t) max-over.Post max-over-Inv-loop max-over-μ-loop
@@ -432,8 +452,8 @@ max-over-max-after-requires t c κs = search needs
 
 -- after the child: one turn of the loop
 max-over-turn : (t : ℕ) (c : max-over-lts.After-max-after (max-over-claims t) (max-over-at t) max-over.Post max-over-Inv-loop max-over-μ-loop)
-    → let a = c .before .before .before .before .before .before .before .before .before .before .before .args in
-    Turn (slices (a .kind .now) (a .stop .now) (a .weight .now) (a .height .now)) (a .g) (a .v) MAX (a .w) (a .c) (a .end) (a .left) (a .g .margin) (a .leaves .now)
+    → let a = c .before .before .before .before .before .before .before .before .before .before .before .before .args in
+    Turn (slices (a .kind .now) (a .stop .now) (a .weight .now) (a .height .now)) (way (a .g) (ends (a .bottom) (a .highest)) (a .height .now) (a .top .now)) (ends (a .bottom) (a .highest)) MAX (a .w) (a .c) (a .end) (a .left) (a .g .margin) (a .leaves .now)
     (c .before .before .before .before .loop .i) (c .before .before .before .node-at .result) (c .before .if2 .r) (c .max-after .result) (c .before .if2 .leaves)
 unfolding scaled
 max-over-turn t c =
@@ -486,6 +506,8 @@ min-over-claims t = (
   at8-reads.Learnt,
   leaf-at-reads.Asked,
   leaf-at-reads.Learnt,
+  ends-at-reads.Asked,
+  ends-at-reads.Learnt,
   max-over-below t,
   max-over.Post,
   min-over-below t,
@@ -499,21 +521,21 @@ min-over-claims t = (
 )
 
 abbrev min-over-Inv-loop : min-over-lts.InvT-loop
-min-over-Inv-loop kind stop weight height leaves₀ left g c end v t₀ i₀ n₀ leaves t i n =
-    Going (slices kind stop weight height) g v MIN (windowOf t₀) c end left leaves₀ t i n leaves
+min-over-Inv-loop kind stop weight height top leaves₀ left g c end bottom highest v t₀ i₀ n₀ leaves t i n =
+    Going (slices kind stop weight height) (way g v height top) v MIN (windowOf t₀) c end left leaves₀ t i n leaves
 
 abbrev min-over-μ-loop : min-over-lts.MeasureT-loop
-min-over-μ-loop kind stop weight height leaves₀ left g c end v t₀ i₀ n₀ leaves t i n = end - i
+min-over-μ-loop kind stop weight height top leaves₀ left g c end bottom highest v t₀ i₀ n₀ leaves t i n = end - i
 
 min-over-met-spent-requires : (t : ℕ) → min-over-lts.Need-met-spent-requires (min-over-claims t) (min-over-at t) min-over.Post min-over-Inv-loop min-over-μ-loop
 min-over-met-spent-requires t c κs = search needs
 
 min-over-returns : (t : ℕ) → min-over-lts.Need-returns (min-over-claims t) (min-over-at t) min-over.Post min-over-Inv-loop min-over-μ-loop
-min-over-returns t c = let a = c .before .before .before .before .before .before .before .args in
-    told-spent (slices (a .kind .now) (a .stop .now) (a .weight .now) (a .height .now)) (a .g) MIN (a .w) (a .c) (a .end) (c .before .if1 .taken) (c .met-spent .ensures)
+min-over-returns t c = let a = c .before .before .before .before .before .before .before .before .args in
+    told-spent (slices (a .kind .now) (a .stop .now) (a .weight .now) (a .height .now)) (way (a .g) (ends (a .bottom) (a .highest)) (a .height .now) (a .top .now)) MIN (a .w) (a .c) (a .end) (c .before .if1 .taken) (c .met-spent .ensures)
 
 min-over-loop-holds : (t : ℕ) → min-over-lts.Need-loop-holds (min-over-claims t) (min-over-at t) min-over.Post min-over-Inv-loop min-over-μ-loop
-min-over-loop-holds t c = let p = c .before .before .before .before .before .before in going-start MIN (p .args .w) (p .pre .1) (c .if1 .left)
+min-over-loop-holds t c = let p = c .before .before .before .before .before .before .before in going-start MIN (p .args .w) (p .pre .1) (c .if1 .left)
 
 min-over-node-at-requires : (t : ℕ) → min-over-lts.Need-node-at-requires (min-over-claims t) (min-over-at t) min-over.Post min-over-Inv-loop min-over-μ-loop
 min-over-node-at-requires t c κs = let I = c .loop .inv in omega (arith, I .some, I .holds .stops)
@@ -523,9 +545,9 @@ min-over-at8-requires t c κs = let I = c .before .loop .inv in omega (arith, I 
 
 -- at the place where the child's kind was read
 min-over-child : (t : ℕ) (c : min-over-lts.After-at8 (min-over-claims t) (min-over-at t) min-over.Post min-over-Inv-loop min-over-μ-loop)
-    → let a = c .before .before .before .before .before .before .before .before .before .args in
+    → let a = c .before .before .before .before .before .before .before .before .before .before .args in
     let l = c .before .before .loop in
-    Child (slices (a .kind .now) (a .stop .now) (a .weight .now) (a .height .now)) (a .g) (a .v) (a .c) (a .end) (l .i) (c .before .node-at .result) (l .n) (length (l .leaves)) (windowOf (l .t))
+    Child (slices (a .kind .now) (a .stop .now) (a .weight .now) (a .height .now)) (way (a .g) (ends (a .bottom) (a .highest)) (a .height .now) (a .top .now)) (ends (a .bottom) (a .highest)) (a .c) (a .end) (l .i) (c .before .node-at .result) (l .n) (length (l .leaves)) (windowOf (l .t))
 unfolding scaled
 min-over-child t c =
     let l = c .before .before .loop in
@@ -535,48 +557,54 @@ min-over-child t c =
 min-over-leaf-at-requires : (t : ℕ) → min-over-lts.Need-leaf-at-requires (min-over-claims t) (min-over-at t) min-over.Post min-over-Inv-loop min-over-μ-loop
 min-over-leaf-at-requires t c κs = child-leaf (min-over-child t (c .before .before)) _ (c .before .before .at8 .ensures) (c .before .if2 .taken)
 
+min-over-ends-at-requires : (t : ℕ) → min-over-lts.Need-ends-at-requires (min-over-claims t) (min-over-at t) min-over.Post min-over-Inv-loop min-over-μ-loop
+min-over-ends-at-requires t c κs = child-own (min-over-child t (c .before)) _ (c .before .at8 .ensures) (c .if2 .left)
+
 min-over-add-max-over : (t : ℕ) → min-over-lts.Need-add-max-over (min-over-claims t) (min-over-at t) min-over.Post min-over-Inv-loop min-over-μ-loop
-min-over-add-max-over t c = omega (arith, min-over-child t (c .before .before .before) .small)
+min-over-add-max-over t c = omega (arith, min-over-child t (c .before .before .before .before) .small)
 
 min-over-max-over-requires : (t : ℕ) → min-over-lts.Need-max-over-requires (min-over-claims t) (min-over-at t) min-over.Post min-over-Inv-loop min-over-μ-loop
 min-over-max-over-requires t c κs =
-    let p = c .before .before .before in
-    child-asks (min-over-child t p) t (p .before .before .before .before .before .before .before .before .before .pre .0) MAX (sym (p .at8 .ensures) ∙ c .before .if3 .taken)
+    let o = c .before .before in
+    let p = o .before .before in
+    child-asks (min-over-child t p) t (p .before .before .before .before .before .before .before .before .before .before .pre .0) MAX (o .ends-at .ensures) (sym (p .at8 .ensures) ∙ c .before .if3 .taken)
 
 min-over-add-min-over : (t : ℕ) → min-over-lts.Need-add-min-over (min-over-claims t) (min-over-at t) min-over.Post min-over-Inv-loop min-over-μ-loop
-min-over-add-min-over t c = omega (arith, min-over-child t (c .before .before .before .before) .small)
+min-over-add-min-over t c = omega (arith, min-over-child t (c .before .before .before .before .before) .small)
 
 min-over-min-over-requires : (t : ℕ) → min-over-lts.Need-min-over-requires (min-over-claims t) (min-over-at t) min-over.Post min-over-Inv-loop min-over-μ-loop
 min-over-min-over-requires t c κs =
-    let p = c .before .before .before .before in
-    child-asks (min-over-child t p) t (p .before .before .before .before .before .before .before .before .before .pre .0) MIN (sym (p .at8 .ensures) ∙ c .before .if4 .taken)
+    let o = c .before .before .before in
+    let p = o .before .before in
+    child-asks (min-over-child t p) t (p .before .before .before .before .before .before .before .before .before .before .pre .0) MIN (o .ends-at .ensures) (sym (p .at8 .ensures) ∙ c .before .if4 .taken)
 
 min-over-add-chance-over : (t : ℕ) → min-over-lts.Need-add-chance-over (min-over-claims t) (min-over-at t) min-over.Post min-over-Inv-loop min-over-μ-loop
-min-over-add-chance-over t c = omega (arith, min-over-child t (c .before .before .before .before) .small)
+min-over-add-chance-over t c = omega (arith, min-over-child t (c .before .before .before .before .before) .small)
 
 min-over-chance-over-requires : (t : ℕ) → min-over-lts.Need-chance-over-requires (min-over-claims t) (min-over-at t) min-over.Post min-over-Inv-loop min-over-μ-loop
 min-over-chance-over-requires t c κs =
-    let p = c .before .before .before .before in
+    let o = c .before .before .before in
+    let p = o .before .before in
     let C = min-over-child t p in
-    child-asks C t (p .before .before .before .before .before .before .before .before .before .pre .0) CHANCE
-    (child-three C _ (p .at8 .ensures) (c .before .before .before .if2 .left) (c .before .before .if3 .left) (c .before .if4 .left))
+    child-asks C t (p .before .before .before .before .before .before .before .before .before .before .pre .0) CHANCE (o .ends-at .ensures)
+    (child-three C _ (p .at8 .ensures) (o .before .if2 .left) (c .before .before .if3 .left) (c .before .if4 .left))
 
 -- at the place where the four ways meet: what the search of the child told
 min-over-joined : (t : ℕ) (c : min-over-lts.Joined2 (min-over-claims t) (min-over-at t) min-over.Post min-over-Inv-loop min-over-μ-loop)
-    → let a = c .before .before .before .before .before .before .before .before .before .before .args in
+    → let a = c .before .before .before .before .before .before .before .before .before .before .before .args in
     let l = c .before .before .before .loop in
-    NodeTold (slices (a .kind .now) (a .stop .now) (a .weight .now) (a .height .now)) (a .g) (a .v) (windowOf (l .t)) (l .i) (l .n) (c .if2 .r) (l .leaves) (c .if2 .leaves)
+    NodeTold (slices (a .kind .now) (a .stop .now) (a .weight .now) (a .height .now)) (way (a .g) (ends (a .bottom) (a .highest)) (a .height .now) (a .top .now)) (ends (a .bottom) (a .highest)) (windowOf (l .t)) (l .i) (l .n) (c .if2 .r) (l .leaves) (c .if2 .leaves)
 min-over-joined t c =
     let k = c .before .at8 in
     let x = c .before .before .node-at in
     ⊎-elim
     (λ w. told-same (w .6) (w .5) (told-leaf (sym (k .ensures) ∙ w .0 .taken) (w .2 .ensures)))
     (⊎-elim
-    (λ w. told-same (w .7) (w .6) (told-inner MAX (sym (k .ensures) ∙ w .1 .taken) (x .ensures) (w .3 .ensures)))
+    (λ w. told-same (w .8) (w .7) (told-inner MAX (w .1 .ensures) (sym (k .ensures) ∙ w .2 .taken) (x .ensures) (w .4 .ensures)))
     (⊎-elim
-    (λ w. told-same (w .8) (w .7) (told-inner MIN (sym (k .ensures) ∙ w .2 .taken) (x .ensures) (w .4 .ensures)))
-    (λ w. told-same (w .8) (w .7) (told-inner CHANCE (child-three (min-over-child t (c .before)) _ (k .ensures) (w .0 .left) (w .1 .left) (w .2 .left))
-    (x .ensures) (w .4 .ensures)))))
+    (λ w. told-same (w .9) (w .8) (told-inner MIN (w .1 .ensures) (sym (k .ensures) ∙ w .3 .taken) (x .ensures) (w .5 .ensures)))
+    (λ w. told-same (w .9) (w .8) (told-inner CHANCE (w .1 .ensures) (child-three (min-over-child t (c .before)) _ (k .ensures) (w .0 .left) (w .2 .left) (w .3 .left))
+    (x .ensures) (w .5 .ensures)))))
     (c .if2 .came)
 
 min-over-min-after-requires : (t : ℕ) → min-over-lts.Need-min-after-requires (min-over-claims t) (min-over-at t) min-over.Post min-over-Inv-loop min-over-μ-loop
@@ -584,8 +612,8 @@ min-over-min-after-requires t c κs = search needs
 
 -- after the child: one turn of the loop
 min-over-turn : (t : ℕ) (c : min-over-lts.After-min-after (min-over-claims t) (min-over-at t) min-over.Post min-over-Inv-loop min-over-μ-loop)
-    → let a = c .before .before .before .before .before .before .before .before .before .before .before .args in
-    Turn (slices (a .kind .now) (a .stop .now) (a .weight .now) (a .height .now)) (a .g) (a .v) MIN (a .w) (a .c) (a .end) (a .left) (a .g .margin) (a .leaves .now)
+    → let a = c .before .before .before .before .before .before .before .before .before .before .before .before .args in
+    Turn (slices (a .kind .now) (a .stop .now) (a .weight .now) (a .height .now)) (way (a .g) (ends (a .bottom) (a .highest)) (a .height .now) (a .top .now)) (ends (a .bottom) (a .highest)) MIN (a .w) (a .c) (a .end) (a .left) (a .g .margin) (a .leaves .now)
     (c .before .before .before .before .loop .i) (c .before .before .before .node-at .result) (c .before .if2 .r) (c .min-after .result) (c .before .if2 .leaves)
 unfolding scaled
 min-over-turn t c =
@@ -643,6 +671,7 @@ pub +chance-over+max-over+min-over-spec : {M : Type 1} → statement M
     (chance-over-at8-requires-2 t)
     (chance-over-wide8-requires t)
     (chance-over-leaf-at-requires t)
+    (chance-over-ends-at-requires t)
     (chance-over-chance-window-requires t)
     (chance-over-add-max-over t)
     (chance-over-max-over-requires t)
@@ -670,6 +699,7 @@ pub +chance-over+max-over+min-over-spec : {M : Type 1} → statement M
     (max-over-node-at-requires t)
     (max-over-at8-requires t)
     (max-over-leaf-at-requires t)
+    (max-over-ends-at-requires t)
     (max-over-add-max-over t)
     (max-over-max-over-requires t)
     (max-over-add-min-over t)
@@ -694,6 +724,7 @@ pub +chance-over+max-over+min-over-spec : {M : Type 1} → statement M
     (min-over-node-at-requires t)
     (min-over-at8-requires t)
     (min-over-leaf-at-requires t)
+    (min-over-ends-at-requires t)
     (min-over-add-max-over t)
     (min-over-max-over-requires t)
     (min-over-add-min-over t)

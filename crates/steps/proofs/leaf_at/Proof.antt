@@ -1,10 +1,7 @@
 -- `steps::leaf_at` meets its contract. Assumes nothing.
-use Prim.Native.Nat.{ℕ, _*_}
-use mathlib.Core.Path.{_≡_, refl, ap}
+use mathlib.Core.Path.{refl}
 use native.Mathlib.Omega.{arith}
 use borrow.Author.Needs.{needs}
-use denote.Ref.{now}
-use lib.ListN.{getD}
 use Rattle.steps.proofs.Leaf.{gives-spent, gives-read}
 use Rattle.steps.proofs.leaf_at.Statement.{statement}
 use Rattle.steps.proofs.leaf_at.Tie as tie
@@ -27,23 +24,8 @@ mul-leaves c = search needs
 slice-write-leaves : tie.Need-slice-write-leaves
 slice-write-leaves c = search needs
 
-mul-wide32 : tie.Need-mul-wide32
-mul-wide32 c = search needs
-
-shared-slice-read-wide32 : tie.Need-shared-slice-read-wide32
-shared-slice-read-wide32 c = search needs
-
-wide32-requires : tie.Need-wide32-requires
-wide32-requires c κs = search needs
-
--- the grains that are computed are those that are meant
-grains : (c : tie.After-wide32)
-    → let a = c .before .before .before .before .before .args in
-    c .wide32 .result * a .grain ≡ getD (now (a .height)) (a .c) 0 * a .grain
-grains c = ap (λ (h : ℕ). h * c .before .before .before .before .before .args .grain) (c .wide32 .ensures)
-
-mul-h : tie.Need-mul-h
-mul-h c = record { fits = omega (arith, grains c, c .before .before .before .before .before .pre .3) }
+grains-at-requires : tie.Need-grains-at-requires
+grains-at-requires c κs = search needs
 
 sub-n : tie.Need-sub-n
 sub-n c = search needs
@@ -52,7 +34,7 @@ same-length : tie.Need-same-length
 same-length c = search needs
 
 returns-2 : tie.Need-returns-2
-returns-2 c = gives-read _ _ _ _ _ _ _ (omega (arith, c .before .before .if1 .left)) (grains c) (grains c) refl refl refl refl
+returns-2 c = gives-read _ _ _ _ _ _ _ (omega (arith, c .before .if1 .left)) (c .grains-at .ensures) (c .grains-at .ensures) refl refl refl refl
 
 pub leaf-at-spec : {M : Type 1} → statement M
 leaf-at-spec =
@@ -64,10 +46,7 @@ leaf-at-spec =
     cast-leaves
     mul-leaves
     slice-write-leaves
-    mul-wide32
-    shared-slice-read-wide32
-    wide32-requires
-    mul-h
+    grains-at-requires
     sub-n
     same-length
     returns-2)

@@ -6,10 +6,10 @@ use Rattle.timed.proofs.searches.Statement.{statement}
 use Rattle.timed.proofs.searches.Tie as tie
 
 abbrev Inv-loop : tie.InvT-loop
-Inv-loop kind stop weight height n g v times leaves₀ left₀ leaves left = length leaves ≡ 1024
+Inv-loop kind stop weight height n g v times leaves₀ none left₀ leaves left = length leaves ≡ 1024
 
 abbrev μ-loop : tie.MeasureT-loop
-μ-loop kind stop weight height n g v times leaves₀ left₀ leaves left = left
+μ-loop kind stop weight height n g v times leaves₀ none left₀ leaves left = left
 
 pub searches-spec : {M : Type 1} → statement M
 searches-spec =
@@ -17,6 +17,7 @@ searches-spec =
     (tie.spec
     Inv-loop
     μ-loop
+    (λ c. search needs)
     (λ c. search needs)
     (λ c. search needs)
     (λ c κs. search needs)
