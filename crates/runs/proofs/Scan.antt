@@ -131,7 +131,7 @@ module _ (S : Slices) where
   leaf-stop j e (leaf n w v rest) l h z = h .2
   leaf-stop j e (inner n w k under rest) l h z = absurd (omega (arith, code-pos k, h .1))
 
-  -- what stands under the C at entry i
+  -- what stands under the inner node at entry i
   pub record Under (i e : ℕ) : Type 0 where
     pub forest : Forest ℕ
     pub spans : Spans S (i + 1) (getD (S .stops) i 0) forest
@@ -140,19 +140,19 @@ module _ (S : Slices) where
   under-wider : (i d e : ℕ) → d ≤ e → Under i d → Under i e
   under-wider i d e l u = record { forest = u .forest; spans = u .spans; within = omega (arith, u .within) }
 
-  pub spans-under : (c e : ℕ) (f : Forest ℕ) → Spans S c e f → (i : ℕ) → c ≤ i → i < e → getD (S .kinds) i 0 ≡ 3 → Under i e
+  pub spans-under : (c e : ℕ) (f : Forest ℕ) → Spans S c e f → (i : ℕ) → c ≤ i → i < e → (getD (S .kinds) i 0 ≡ 0 → ⊥) → Under i e
   unfolding Spans
   spans-under c e end h i a b k = absurd (omega arith)
   spans-under c e (leaf n w v rest) h i a b k = go (spans-under (c + 1) e rest (h .5) i) (decLe (c + 1) i)
     where
-      go : (c + 1 ≤ i → i < e → getD (S .kinds) i 0 ≡ 3 → Under i e) → Dec (c + 1 ≤ i) → Under i e
+      go : (c + 1 ≤ i → i < e → (getD (S .kinds) i 0 ≡ 0 → ⊥) → Under i e) → Dec (c + 1 ≤ i) → Under i e
       go ih (yes l) = ih l b k
-      go ih (no l) = let z : i ≡ c = omega arith in absurd (omega (arith, h .1, k, ap (λ (x : ℕ). getD (S .kinds) x 0) z))
+      go ih (no l) = let z : i ≡ c = omega arith in absurd (k (ap (λ (x : ℕ). getD (S .kinds) x 0) z ∙ h .1))
   spans-under c e (inner n w j under rest) h i a b k =
       go (spans-under (c + 1) (getD (S .stops) c 0) under (h .3) i) (spans-under (getD (S .stops) c 0) e rest (h .4) i) (decLe (c + 1) i) (decLe (getD (S .stops) c 0) i)
     where
-      go : (c + 1 ≤ i → i < getD (S .stops) c 0 → getD (S .kinds) i 0 ≡ 3 → Under i (getD (S .stops) c 0))
-          → (getD (S .stops) c 0 ≤ i → i < e → getD (S .kinds) i 0 ≡ 3 → Under i e) → Dec (c + 1 ≤ i) → Dec (getD (S .stops) c 0 ≤ i) → Under i e
+      go : (c + 1 ≤ i → i < getD (S .stops) c 0 → (getD (S .kinds) i 0 ≡ 0 → ⊥) → Under i (getD (S .stops) c 0))
+          → (getD (S .stops) c 0 ≤ i → i < e → (getD (S .kinds) i 0 ≡ 0 → ⊥) → Under i e) → Dec (c + 1 ≤ i) → Dec (getD (S .stops) c 0 ≤ i) → Under i e
       go ih jh (yes l) (yes m) = jh m b k
       go ih jh (yes l) (no m) =
           under-wider i (getD (S .stops) c 0) e (spans-le S (getD (S .stops) c 0) e rest (h .4)) (ih l (omega arith) k)

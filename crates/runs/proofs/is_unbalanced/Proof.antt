@@ -36,7 +36,7 @@ sum-weights-requires c κs =
     let p = s .pre in
     let h = p .5 in
     let S : Slices = record { kinds = now (a .kind); stops = now (a .stop); weights = now (a .weight); heights = h .heights } in
-    let u = spans-under S 0 (a .n) (h .forest) (h .spans) (a .i) (omega arith) (p .0) (c .before .before .if1 .left) in
+    let u = spans-under S 0 (a .n) (h .forest) (h .spans) (a .i) (omega arith) (p .0) (λ z. omega (arith, z, c .before .before .if1 .left)) in
     rw (c .index .ensures) (omega (arith, u .within, p .1), omega (arith, u .within, p .2), omega (arith, u .within, p .3), omega (arith, u .within, p .4), record { heights = h .heights; forest = u .forest; spans = u .spans })
 
 returns-2 : tie.Need-returns-2

@@ -1,0 +1,4 @@
+pub mod Least
+pub mod Ended
+pub mod Signed
+pub mod Entries
