@@ -1,0 +1,3 @@
+pub mod Own
+pub mod Call
+pub mod Answered
