@@ -22,6 +22,8 @@ use Rattle.search_call.specs.declared.Bounded
 use Rattle.search_call.specs.declared.Bounded.{Bounded}
 use Rattle.search_call.specs.Call.{withinCall}
 use Rattle.search_call.proofs.Answered.{PlayBelow, within-line, within-sizes}
+use Rattle.index_call.specs.Call.{indexCall, indexedCall}
+use Rattle.index_call.proofs.Answered.{index-cases, indexed-cases}
 use Rattle.rolled.specs.declared.Rolled
 use Rattle.rolled.specs.declared.Rolled.{Rolled}
 use Rattle.rolled.specs.Call.{rollCall}
@@ -31,7 +33,7 @@ use Rattle.report_call.specs.declared.Reported.{Reported}
 use Rattle.report_call.specs.Call.{reportCall}
 use Rattle.report_call.proofs.Answered.{report-refused, report-totals}
 use Rattle.codes.specs.Numbers.{nodeNumber}
-use Rattle.codes.specs.Inside.{SmallReading, SmallExact, SmallOpinion, SmallBounded, SmallRolled, SmallTurned, SmallReported}
+use Rattle.codes.specs.Inside.{SmallReading, SmallExact, SmallOpinion, SmallBounded, SmallRolled, SmallTurned, SmallIndexed, SmallReported}
 
 node-small : (p : Play) → PlayBelow 1024 p → nodeNumber p < 1024
 node-small (Child n) h = h
@@ -83,6 +85,14 @@ module _ (s : List ℕ) where
       go (Bounded.the-variants.Found b) e =
           let z = within-sizes s m n room b e in
           record { play = omega (arith, node-small (b .play) (z .play)); leaves = omega (arith, z .leaves); grain = omega (arith, z .grain) }
+
+  pub built-small : (room : ℕ) → SmallIndexed (indexCall (readText s) room)
+  built-small room = index-cases s room SmallIndexed (λ r p. refused-line s r p) (omega arith) tt
+
+  pub indexed-small : (m : ℤ) (lows highs : List ℤ) (room : ℕ) → SmallBounded (indexedCall (readText s) m lows highs room)
+  indexed-small m lows highs room =
+      indexed-cases s m lows highs room SmallBounded (λ r p. refused-line s r p) (λ r z. omega arith) (λ b z.
+      record { play = omega (arith, node-small (b .play) (z .play)); leaves = omega (arith, z .leaves); grain = omega (arith, z .grain) })
 
   pub rolled-small : (p : List ℕ) (list room : ℕ) → SmallRolled (rollCall (readText s) p list room)
   rolled-small p list room = rolled-sized (rollCall (readText s) p list room) (roll-sizes s p list room)

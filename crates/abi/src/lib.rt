@@ -8,11 +8,14 @@ ghost use Rattle.table.specs.Slices.{laid, fitted, kindsOf, stopsOf, weightsOf,
 ghost use Rattle.worth.specs.Call.{exactCall};
 ghost use Rattle.judge.specs.Call.{judgeCall};
 ghost use Rattle.search_call.specs.Call.{searchCall, searchReads, withinCall, withinReads};
+ghost use Rattle.index.specs.Index.{written};
+ghost use Rattle.index_call.specs.Call.{roomIn, indexCall, indexLows, indexHighs, indexedCall, indexedReads};
 ghost use Rattle.rolled.specs.Call.{rollCall, rollReads, rollStore};
 ghost use Rattle.rollout_call.specs.Records.{recorded};
-ghost use Rattle.report_call.specs.Call.{roomIn, reportCall, reportKinds, reportLosses, reportMarks};
+ghost use Rattle.report_call.specs.Call as files;
+ghost use Rattle.report_call.specs.Call.{reportCall, reportKinds, reportLosses, reportMarks};
 ghost use Rattle.turn_call.specs.Call.{turnCall, turnBytes};
-ghost use Rattle.codes.specs.Numbers.{readCode, numbersOf, worthCode, worthNumbers, judgeCode, judgeNumbers, searchCode, searchNumbers, rollCode, rollNumbers, turnedCode, reportCode, reportNumbers, put};
+ghost use Rattle.codes.specs.Numbers.{readCode, numbersOf, worthCode, worthNumbers, judgeCode, judgeNumbers, searchCode, searchNumbers, indexCode, rollCode, rollNumbers, turnedCode, reportCode, reportNumbers, put};
 use rollout_call::Record;
 
 // An accepted table: its numbers of nodes, T, the lowest and the highest end, K, G, its number of leaves and its second total (0 for none) go to
@@ -90,6 +93,37 @@ pub extern "C" fn margin_search_within(
     )
 }
 
+// The index of a table: the lowest and the highest utility under each M, N and C go to `lows` and `highs`, by node number; the entries of leaves stay. Where
+// the call is refused, nothing is written.
+#[no_mangle]
+pub extern "C" fn margin_index(text: &[u8], lows: &mut [i64], highs: &mut [i64]) -> u64
+    ensures code { λ r. ⌜ r ≡ indexCode (indexCall (readText (now (text .entry))) (roomIn (now (lows .entry)) (now (highs .entry)))) ⌝ }
+    ensures lows { λ _. ⌜ now (lows .exit) ≡ written (indexLows (readText (now (text .entry))) (roomIn (now (lows .entry)) (now (highs .entry)))) (now (lows .entry)) ⌝ }
+    ensures highs { λ _. ⌜ now (highs .exit) ≡ written (indexHighs (readText (now (text .entry))) (roomIn (now (lows .entry)) (now (highs .entry)))) (now (highs .entry)) ⌝ }
+{
+    codes::index_code(index_call::build_index(text, lows, highs))
+}
+
+// The search at a margin in grains with a lent index: numbers and leaves as in `margin_search`. Where the call is refused, nothing is written.
+#[no_mangle]
+pub extern "C" fn margin_search_indexed(
+    text: &[u8],
+    margin: i64,
+    lows: &[i64],
+    highs: &[i64],
+    leaves: &mut [u16],
+    numbers: &mut [i64],
+) -> u64
+    ensures code { λ r. ⌜ r ≡ searchCode (indexedCall (readText (now (text .entry))) margin (now (lows .entry)) (now (highs .entry)) (length (now (leaves .entry)))) ⌝ }
+    ensures numbers { λ _. ⌜ now (numbers .exit) ≡ put 0 (searchNumbers (indexedCall (readText (now (text .entry))) margin (now (lows .entry)) (now (highs .entry)) (length (now (leaves .entry))))) (now (numbers .entry)) ⌝ }
+    ensures lists { λ _. ⌜ now (leaves .exit) ≡ laid (indexedReads (readText (now (text .entry))) margin (now (lows .entry)) (now (highs .entry)) (length (now (leaves .entry)))) (now (leaves .entry)) ⌝ }
+{
+    codes::put_bounded(
+        index_call::search_indexed(text, margin, lows, highs, leaves),
+        numbers,
+    )
+}
+
 // The turned table's text, as long as the text, goes to the start of `buffer`. Where the call is refused, nothing is written.
 #[no_mangle]
 pub extern "C" fn margin_turn(text: &[u8], buffer: &mut [u8]) -> u64
@@ -129,11 +163,11 @@ pub extern "C" fn margin_report(
     marks: &mut [u8],
     numbers: &mut [i64],
 ) -> u64
-    ensures code { λ r. ⌜ r ≡ reportCode (reportCall (now (file .entry)) scale (roomIn (now (kinds .entry)) (now (losses .entry)) (now (marks .entry)))) ⌝ }
-    ensures numbers { λ _. ⌜ now (numbers .exit) ≡ put 0 (reportNumbers (reportCall (now (file .entry)) scale (roomIn (now (kinds .entry)) (now (losses .entry)) (now (marks .entry))))) (now (numbers .entry)) ⌝ }
-    ensures kinds { λ _. ⌜ now (kinds .exit) ≡ laid (reportKinds (now (file .entry)) scale (roomIn (now (kinds .entry)) (now (losses .entry)) (now (marks .entry)))) (now (kinds .entry)) ⌝ }
-    ensures losses { λ _. ⌜ now (losses .exit) ≡ laid (reportLosses (now (file .entry)) scale (roomIn (now (kinds .entry)) (now (losses .entry)) (now (marks .entry)))) (now (losses .entry)) ⌝ }
-    ensures marks { λ _. ⌜ now (marks .exit) ≡ laid (reportMarks (now (file .entry)) scale (roomIn (now (kinds .entry)) (now (losses .entry)) (now (marks .entry)))) (now (marks .entry)) ⌝ }
+    ensures code { λ r. ⌜ r ≡ reportCode (reportCall (now (file .entry)) scale (files.roomIn (now (kinds .entry)) (now (losses .entry)) (now (marks .entry)))) ⌝ }
+    ensures numbers { λ _. ⌜ now (numbers .exit) ≡ put 0 (reportNumbers (reportCall (now (file .entry)) scale (files.roomIn (now (kinds .entry)) (now (losses .entry)) (now (marks .entry))))) (now (numbers .entry)) ⌝ }
+    ensures kinds { λ _. ⌜ now (kinds .exit) ≡ laid (reportKinds (now (file .entry)) scale (files.roomIn (now (kinds .entry)) (now (losses .entry)) (now (marks .entry)))) (now (kinds .entry)) ⌝ }
+    ensures losses { λ _. ⌜ now (losses .exit) ≡ laid (reportLosses (now (file .entry)) scale (files.roomIn (now (kinds .entry)) (now (losses .entry)) (now (marks .entry)))) (now (losses .entry)) ⌝ }
+    ensures marks { λ _. ⌜ now (marks .exit) ≡ laid (reportMarks (now (file .entry)) scale (files.roomIn (now (kinds .entry)) (now (losses .entry)) (now (marks .entry)))) (now (marks .entry)) ⌝ }
 {
     codes::put_reported(
         report_call::report(file, scale, kinds, losses, marks),

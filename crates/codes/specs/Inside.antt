@@ -15,6 +15,8 @@ use Rattle.rolled.specs.declared.Rolled
 use Rattle.rolled.specs.declared.Rolled.{Rolled}
 use Rattle.turn_call.specs.declared.Turned
 use Rattle.turn_call.specs.declared.Turned.{Turned}
+use Rattle.index_call.specs.declared.Indexed
+use Rattle.index_call.specs.declared.Indexed.{Indexed}
 use Rattle.report.specs.Inside.{SmallTotals}
 use Rattle.report_call.specs.declared.Reported
 use Rattle.report_call.specs.declared.Reported.{Reported}
@@ -59,6 +61,10 @@ SmallRolled (Rolled.the-variants.Refused r) = lineOf r ≤ 1024
 abbrev pub SmallTurned : Turned → Type 0
 SmallTurned (Turned.the-variants.Written n) = Unit {0}
 SmallTurned (Turned.the-variants.Refused r) = lineOf r ≤ 1024
+
+abbrev pub SmallIndexed : Indexed → Type 0
+SmallIndexed Indexed.the-variants.Built = Unit {0}
+SmallIndexed (Indexed.the-variants.Refused r) = lineOf r ≤ 1024
 
 -- a report's position is at most 501
 abbrev pub SmallReported : Reported → Type 0

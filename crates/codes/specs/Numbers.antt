@@ -23,6 +23,8 @@ use Rattle.search_call.specs.declared.Bounds.{Bounds}
 use Rattle.search_call.specs.declared.Bounded
 use Rattle.search_call.specs.declared.Bounded.{Bounded}
 use Rattle.search_call.specs.Call.{searchNumber, searchLine}
+use Rattle.index_call.specs.declared.Indexed.{Indexed}
+use Rattle.index_call.specs.Call.{indexNumber, indexLine}
 use Rattle.report.specs.declared.Totals.{Totals}
 use Rattle.report_call.specs.declared.Reported
 use Rattle.report_call.specs.declared.Reported.{Reported}
@@ -90,6 +92,10 @@ rollNumbers (Rolled.the-variants.Refused r) = []
 -- the same of turning
 abbrev pub turnedCode : Turned → ℕ
 turnedCode t = 100 * turnedLine t + turnedNumber t
+
+-- the same of building an index
+abbrev pub indexCode : Indexed → ℕ
+indexCode i = 100 * indexLine i + indexNumber i
 
 -- the same of a report, with the position before the line, so that 2000309 is refusal 9 at line 3 of position 2
 abbrev pub reportCode : Reported → ℕ

@@ -5,9 +5,10 @@ ghost use Prim.Native.Nat.{_<_, _≤_, _^_};
 ghost use lib.ListN.{set};
 ghost use lib.IntN.{pos};
 ghost use Rattle.line.specs.Refusal.{lineOf};
-ghost use Rattle.codes.specs.Numbers.{readCode, numbersOf, worthCode, worthNumbers, judgeCode, judgedNumbers, judgeNumbers, nodeNumber, boundsNumbers, searchCode, searchNumbers, rollCode, rollNumbers, turnedCode, totalsNumbers, reportCode, reportNumbers, put};
-ghost use Rattle.codes.specs.Inside.{SmallSummary, SmallBounds, SmallReading, SmallExact, SmallOpinion, SmallBounded, SmallRolled, SmallTurned, SmallReported};
+ghost use Rattle.codes.specs.Numbers.{readCode, numbersOf, worthCode, worthNumbers, judgeCode, judgedNumbers, judgeNumbers, nodeNumber, boundsNumbers, searchCode, searchNumbers, rollCode, rollNumbers, turnedCode, indexCode, totalsNumbers, reportCode, reportNumbers, put};
+ghost use Rattle.codes.specs.Inside.{SmallSummary, SmallBounds, SmallReading, SmallExact, SmallOpinion, SmallBounded, SmallRolled, SmallTurned, SmallIndexed, SmallReported};
 ghost use Rattle.report.specs.Inside.{SmallTotals};
+use index_call::Indexed;
 use judge::Judged;
 use judge::Opinion;
 use line::Refusal;
@@ -209,6 +210,17 @@ pub fn turned_code(t: Turned) -> u64
     match t {
         Turned::Refused(r) => refusal_code(r),
         Turned::Written(_) => 0,
+    }
+}
+
+// Neither has building an index.
+pub fn index_code(i: Indexed) -> u64
+    requires { ⌜ SmallIndexed i ⌝ }
+    ensures { λ n. ⌜ n ≡ indexCode i ⌝ }
+{
+    match i {
+        Indexed::Refused(r) => refusal_code(r),
+        Indexed::Built => 0,
     }
 }
 
