@@ -12,3 +12,6 @@ pub mod Budget
 pub mod Safer
 pub mod Sums
 pub mod Totals
+pub mod Index
+pub mod Indexed
+pub mod Narrow

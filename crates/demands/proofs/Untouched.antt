@@ -1,7 +1,7 @@
 -- Demand 1: what a refused call was lent is as it was. Assumes nothing.
 use Prim.Native.Nat.{ℕ}
 use mathlib.Core.Path.{_≡_, refl, sym, ap, _∙_}
-use mathlib.Core.List.{List, []}
+use mathlib.Core.List.{List, [], _∷_}
 use native.Mathlib.Omega.{arith}
 use lib.ListN.{length}
 use lib.IntN.{ℤ}
@@ -19,6 +19,8 @@ use Rattle.judge.specs.declared.Opinion.{Opinion}
 use Rattle.judge.specs.Call.{judgeCall}
 use Rattle.turn_call.specs.Call.{turnOf, turnAnswer, turnWritten}
 use Rattle.search_call.specs.Call.{Sought, sought, soughtWithin, searchAnswer, searchList}
+use Rattle.index.specs.Index.{lowsOf, highsOf, written}
+use Rattle.index_call.specs.Call.{indexed, indexAnswer, indexEntries, soughtIndexed, roomIn as roomForIndex}
 use Rattle.rollout_call.specs.declared.Record.{Record}
 use Rattle.rolled.specs.Call.{rolls, rollAnswer, rollList, rollRecords}
 use Rattle.rollout_call.specs.Records.{recorded}
@@ -27,8 +29,8 @@ use Rattle.mark.specs.declared.Choice
 use Rattle.mark.specs.declared.Choice.{Choice}
 use Rattle.mark.specs.Marks.{choiceOf}
 use Rattle.report_call.specs.Call.{roomIn, reported, reportAnswer, filled, marksBy}
-use Rattle.codes.specs.Numbers.{readCode, numbersOf, worthCode, worthNumbers, judgeCode, judgeNumbers, searchCode, searchNumbers, rollCode, rollNumbers, turnedCode, reportCode, reportNumbers, put}
-use Rattle.demands.specs.Untouched.{Refuses, CodesRefuse, ReportCodesRefuse, SlicesKept, ReadUntouched, SearchUntouched, WithinUntouched, TurnUntouched, RollUntouched, ReportUntouched, CReadUntouched, CWorthUntouched, CJudgeUntouched, CSearchUntouched, CWithinUntouched, CTurnUntouched, CRollUntouched, CReportUntouched}
+use Rattle.codes.specs.Numbers.{readCode, numbersOf, worthCode, worthNumbers, judgeCode, judgeNumbers, searchCode, searchNumbers, rollCode, rollNumbers, turnedCode, indexCode, reportCode, reportNumbers, put}
+use Rattle.demands.specs.Untouched.{Refuses, CodesRefuse, ReportCodesRefuse, SlicesKept, ReadUntouched, SearchUntouched, WithinUntouched, TurnUntouched, IndexUntouched, IndexedUntouched, RollUntouched, ReportUntouched, CReadUntouched, CWorthUntouched, CJudgeUntouched, CSearchUntouched, CWithinUntouched, CTurnUntouched, CIndexUntouched, CIndexedUntouched, CRollUntouched, CReportUntouched}
 
 slices-kept : (r : Refusal) (kind stop weight height : List ℕ) → SlicesKept (refused r) kind stop weight height
 slices-kept r kind stop weight height =
@@ -65,6 +67,16 @@ turn-code : (v : Verdict (List ℕ)) (buffer : List ℕ) → Refuses (turnedCode
 turn-code (refused r) buffer c = refl
 turn-code (fine s) buffer c = absurd (c refl)
 
+written-none : (l : List ℤ) → written [] l ≡ l
+unfolding written
+written-none [] = refl
+written-none (z ∷ l) = refl
+
+index-code : (v : Verdict Table) (lows highs : List ℤ) → Refuses (indexCode (indexAnswer v))
+    → (written (indexEntries lowsOf v) lows ≡ lows) × (written (indexEntries highsOf v) highs ≡ highs)
+index-code (refused r) lows highs c = (written-none lows, written-none highs)
+index-code (fine t) lows highs c = absurd (c refl)
+
 roll-code : (p : List ℕ) (v : Verdict Table) (list : List ℕ) (store : List Record) (numbers : List ℤ) → Refuses (rollCode (rollAnswer p v))
     → (put 0 (rollNumbers (rollAnswer p v)) numbers ≡ numbers) × (laid (rollList p v) list ≡ list) × (recorded (rollRecords p v) store ≡ store)
 roll-code p (refused r) list store numbers c = (refl, refl, refl)
@@ -95,6 +107,12 @@ c-within-untouched s m b list numbers c = search-code (soughtWithin (readText s)
 pub c-turn-untouched : CTurnUntouched
 c-turn-untouched s buffer c = turn-code (turnOf (readText s) (length buffer)) buffer c
 
+pub c-index-untouched : CIndexUntouched
+c-index-untouched s lows highs c = index-code (indexed (readText s) (roomForIndex lows highs)) lows highs c
+
+pub c-indexed-untouched : CIndexedUntouched
+c-indexed-untouched s m lows highs list numbers c = search-code (soughtIndexed (readText s) m lows highs (length list)) list numbers c
+
 pub c-roll-untouched : CRollUntouched
 c-roll-untouched s p list store numbers c = roll-code p (rolls (readText s) (length list) (length store)) list store numbers c
 
@@ -116,6 +134,12 @@ within-untouched s m b list r e = c-within-untouched s m b list [] (λ z. codes-
 
 pub turn-untouched : TurnUntouched
 turn-untouched s buffer r e = c-turn-untouched s buffer (λ z. codes-refuse r (sym (ap turnedCode e) ∙ z))
+
+pub index-untouched : IndexUntouched
+index-untouched s lows highs r e = c-index-untouched s lows highs (λ z. codes-refuse r (sym (ap indexCode e) ∙ z))
+
+pub indexed-untouched : IndexedUntouched
+indexed-untouched s m lows highs list r e = c-indexed-untouched s m lows highs list [] (λ z. codes-refuse r (sym (ap searchCode e) ∙ z)) .1
 
 pub roll-untouched : RollUntouched
 roll-untouched s p list store r e =

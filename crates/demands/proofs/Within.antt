@@ -43,7 +43,7 @@ use Rattle.demands.proofs.Utilities.{tree-alike}
 
 -- ---- what an answer promises
 
-child-some : (p : Option ℕ) (n : ℕ) → playOf p ≡ Child n → p ≡ some n
+pub child-some : (p : Option ℕ) (n : ℕ) → playOf p ≡ Child n → p ≡ some n
 child-some none n e = let x : _≡_ {A = ℕ} 0 1 = cc in absurd (omega arith)
 child-some (some m) n e = cc
 
@@ -108,7 +108,7 @@ within-kept s m b room a e =
 
 -- ---- other utilities
 
-same-sought : (t u : Table) (x y : Seen ℤ) → grain u ≡ grain t → y ≡ x → boundsOf (record { table = u; seen = y }) ≡ boundsOf (record { table = t; seen = x })
+pub same-sought : (t u : Table) (x y : Seen ℤ) → grain u ≡ grain t → y ≡ x → boundsOf (record { table = u; seen = y }) ≡ boundsOf (record { table = t; seen = x })
 same-sought t u x y g e =
     ap₂ (λ (r : Seen ℤ) (k : ℕ). record {
       low = r .low;
@@ -158,7 +158,7 @@ written t size u e = go (ltb size (length (turnedText t))) e
     go true e = no-text NoRoom u e
     go false e = text-same (turnedText t) u e
 
-same-grains : (y z : ℤ) (g h : ℕ) → Grains y g ≡ Grains z h → y ≡ z
+pub same-grains : (y z : ℤ) (g h : ℕ) → Grains y g ≡ Grains z h → y ≡ z
 same-grains y z g h e = cc
 
 pub within-turned : Within3

@@ -9,3 +9,4 @@ pub mod Budget
 pub mod Safer
 pub mod Sums
 pub mod Totals
+pub mod Indexed

@@ -16,13 +16,16 @@ use Rattle.turn_call.specs.declared.Turned
 use Rattle.turn_call.specs.Call.{turnCall, turnBytes}
 use Rattle.search_call.specs.declared.Bounded
 use Rattle.search_call.specs.Call.{searchCall, searchReads, withinCall, withinReads}
+use Rattle.index_call.specs.declared.Indexed
+use Rattle.index_call.specs.Call.{indexCall, indexLows, indexHighs, indexedCall, indexedReads, roomIn as roomForIndex}
+use Rattle.index.specs.Index.{written}
 use Rattle.rollout_call.specs.declared.Record.{Record}
 use Rattle.rolled.specs.declared.Rolled
 use Rattle.rolled.specs.Call.{rollCall, rollReads, rollStore}
 use Rattle.rollout_call.specs.Records.{recorded}
 use Rattle.report_call.specs.declared.Reported
 use Rattle.report_call.specs.Call.{roomIn, reportCall, reportKinds, reportLosses, reportMarks}
-use Rattle.codes.specs.Numbers.{readCode, numbersOf, worthCode, worthNumbers, judgeCode, judgeNumbers, searchCode, searchNumbers, rollCode, rollNumbers, turnedCode, reportCode, reportNumbers, put}
+use Rattle.codes.specs.Numbers.{readCode, numbersOf, worthCode, worthNumbers, judgeCode, judgeNumbers, searchCode, searchNumbers, rollCode, rollNumbers, turnedCode, indexCode, reportCode, reportNumbers, put}
 
 -- ---- the calls of Rattle; the exact worth and the judgement are lent nothing but the text
 
@@ -60,6 +63,23 @@ RollUntouched =
     (s p list : List ℕ) (store : List Record) (r : Refusal) → rollCall (readText s) p (length list) (length store) ≡ Rolled.the-variants.Refused r
     → (laid (rollReads (readText s) p (length list) (length store)) list ≡ list)
     × (recorded (rollStore (readText s) p (length list) (length store)) store ≡ store)
+
+-- the two lists that an index is built in (document 02, Item 14)
+abbrev pub IndexKept : (s : List ℕ) (lows highs : List ℤ) → Type 0
+IndexKept s lows highs =
+    let room = roomForIndex lows highs in
+    (written (indexLows (readText s) room) lows ≡ lows) × (written (indexHighs (readText s) room) highs ≡ highs)
+
+abbrev pub IndexUntouched : Type 0
+IndexUntouched =
+    (s : List ℕ) (lows highs : List ℤ) (r : Refusal) → indexCall (readText s) (roomForIndex lows highs) ≡ Indexed.the-variants.Refused r → IndexKept s lows highs
+
+-- the search with an index, which is lent for reading alone
+abbrev pub IndexedUntouched : Type 0
+IndexedUntouched =
+    (s : List ℕ) (m : ℤ) (lows highs : List ℤ) (list : List ℕ) (r : Refusal)
+    → indexedCall (readText s) m lows highs (length list) ≡ Bounded.the-variants.Refused r
+    → laid (indexedReads (readText s) m lows highs (length list)) list ≡ list
 
 -- the three lists of a match report (document 02, Items 1 and 11)
 abbrev pub ListsKept : (file : List ℕ) (scale : ℤ) (kinds : List ℕ) (losses : List ℤ) (marks : List ℕ) → Type 0
@@ -112,6 +132,16 @@ CWithinUntouched =
     (s : List ℕ) (m b : ℤ) (list : List ℕ) (numbers : List ℤ) → Refuses (searchCode (withinCall (readText s) m b (length list)))
     → (put 0 (searchNumbers (withinCall (readText s) m b (length list))) numbers ≡ numbers)
     × (laid (withinReads (readText s) m b (length list)) list ≡ list)
+
+abbrev pub CIndexUntouched : Type 0
+CIndexUntouched =
+    (s : List ℕ) (lows highs : List ℤ) → Refuses (indexCode (indexCall (readText s) (roomForIndex lows highs))) → IndexKept s lows highs
+
+abbrev pub CIndexedUntouched : Type 0
+CIndexedUntouched =
+    (s : List ℕ) (m : ℤ) (lows highs : List ℤ) (list : List ℕ) (numbers : List ℤ) → Refuses (searchCode (indexedCall (readText s) m lows highs (length list)))
+    → (put 0 (searchNumbers (indexedCall (readText s) m lows highs (length list))) numbers ≡ numbers)
+    × (laid (indexedReads (readText s) m lows highs (length list)) list ≡ list)
 
 abbrev pub CTurnUntouched : Type 0
 CTurnUntouched =
