@@ -2,7 +2,8 @@
 //! the raw calls of the package `margin-engine`, which calls the C interface.
 
 pub use margin_engine::raw::{
-    exact_worth as worth, read as read_into, report, rollout, search, search_within, turn, Record,
+    exact_worth as worth, index, read as read_into, report, rollout, search, search_indexed,
+    search_within, turn, Record,
 };
 
 use crate::second::MOST_NODES;

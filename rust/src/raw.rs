@@ -6,7 +6,7 @@
 //! writes nothing. What is written, and where, stands in
 //! `include/margin_engine.h`. Entries past an answer keep what they held.
 //!
-//! The only `unsafe` of this package is here. All nine blocks are sound for the
+//! The only `unsafe` of this package is here. All eleven blocks are sound for the
 //! same reasons: the declarations are those of the header, and that of the benchmark's
 //! call is of `crates/timed`; `Record` has the layout of its struct; each pointer
 //! stands with the length of what it points to; it comes from a slice and so is not
@@ -76,6 +76,29 @@ mod abi {
             text_len: usize,
             margin: i64,
             budget: i64,
+            leaves: *mut u16,
+            leaves_len: usize,
+            numbers: *mut i64,
+            numbers_len: usize,
+        ) -> u64;
+
+        pub fn margin_index(
+            text: *const u8,
+            text_len: usize,
+            lows: *mut i64,
+            lows_len: usize,
+            highs: *mut i64,
+            highs_len: usize,
+        ) -> u64;
+
+        pub fn margin_search_indexed(
+            text: *const u8,
+            text_len: usize,
+            margin: i64,
+            lows: *const i64,
+            lows_len: usize,
+            highs: *const i64,
+            highs_len: usize,
             leaves: *mut u16,
             leaves_len: usize,
             numbers: *mut i64,
@@ -221,6 +244,49 @@ pub fn search_within(
             text.len(),
             margin,
             budget,
+            leaves.as_mut_ptr(),
+            leaves.len(),
+            numbers.as_mut_ptr(),
+            numbers.len(),
+        )
+    }
+}
+
+/// Builds the index of a table. `lows` and `highs` have an entry for each node: the
+/// lowest and the highest utility, in points, among the leaves under it. The entries
+/// of leaves are not written.
+pub fn index(text: &[u8], lows: &mut [i64], highs: &mut [i64]) -> u64 {
+    unsafe {
+        abi::margin_index(
+            text.as_ptr(),
+            text.len(),
+            lows.as_mut_ptr(),
+            lows.len(),
+            highs.as_mut_ptr(),
+            highs.len(),
+        )
+    }
+}
+
+/// Searches to this margin, in grains, with the table's index as [`index`] builds it;
+/// the entries of leaves are not looked at. `numbers` and `leaves` as in [`search`].
+pub fn search_indexed(
+    text: &[u8],
+    margin: i64,
+    lows: &[i64],
+    highs: &[i64],
+    leaves: &mut [u16],
+    numbers: &mut [i64],
+) -> u64 {
+    unsafe {
+        abi::margin_search_indexed(
+            text.as_ptr(),
+            text.len(),
+            margin,
+            lows.as_ptr(),
+            lows.len(),
+            highs.as_ptr(),
+            highs.len(),
             leaves.as_mut_ptr(),
             leaves.len(),
             numbers.as_mut_ptr(),
