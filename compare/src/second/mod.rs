@@ -5,6 +5,7 @@
 
 pub mod desk;
 mod faults;
+mod index;
 mod judge;
 mod marking;
 mod program;
@@ -17,6 +18,7 @@ mod turn;
 mod worth;
 
 pub use faults::{grains_by, leaves_remainder, worth_divided_by, Divisor, GrainCount};
+pub use index::{ends_under, index, is_index, search_indexed};
 pub use judge::{judge, Judgement};
 pub use marking::{mark, steps, Mark, MARKS};
 pub use program::output;
@@ -26,8 +28,8 @@ pub use report::{
 };
 pub use rollout::{rollout, Rolled};
 pub use search::{
-    search, search_watched, search_within, Bounds, Entered, Found, Rounding, Scale, Step, Sums,
-    Terms, Ties, Window, GREATEST_BUDGET, GREATEST_MARGIN,
+    search, search_watched, search_within, Bounds, Ends, Entered, Found, Rounding, Scale, Step,
+    Sums, Terms, Ties, Window, WrongEnds, GREATEST_BUDGET, GREATEST_MARGIN,
 };
 pub use table::*;
 pub use turn::turn;

@@ -1,7 +1,16 @@
 //! The bounded search, Algorithm 1 of document 000 in grains, with its leaf budget
-//! (document 02, Item 3) and its choice among equal plays (Item 6): refusals 12, 17
-//! and 11.
+//! (document 02, Item 3), its choice among equal plays (Item 6) and the ends that it has
+//! at each line, the table's or the line's own (Item 14): refusals 12, 17 and 11.
+//!
+//! The faults that tests count are in modules of their own.
 
+mod sums;
+mod wrong_ends;
+
+pub use sums::Sums;
+pub use wrong_ends::WrongEnds;
+
+use super::index::ends_under;
 use super::table::*;
 
 /// The greatest margin, in grains.
@@ -51,6 +60,7 @@ pub struct Terms {
     pub rounding: Rounding,
     pub ties: Ties,
     pub sums: Sums,
+    pub ends: Ends,
 }
 
 impl Terms {
@@ -62,6 +72,15 @@ impl Terms {
             rounding: Rounding::Outward,
             ties: Ties::Safer,
             sums: Sums::Right,
+            ends: Ends::Table,
+        }
+    }
+
+    /// With the table's index, and without a budget.
+    pub fn indexed(margin: i64) -> Terms {
+        Terms {
+            ends: Ends::Own,
+            ..Terms::of(margin)
         }
     }
 
@@ -71,6 +90,17 @@ impl Terms {
             ..Terms::of(margin)
         }
     }
+}
+
+/// What a line has for Algorithm 1's least and greatest values.
+#[derive(Clone, Copy, Debug, PartialEq, Eq)]
+pub enum Ends {
+    /// The table's ends.
+    Table,
+    /// The lowest and the highest utility under the line (document 02, Item 14).
+    Own,
+    /// The same with a fault.
+    Wrong(WrongEnds),
 }
 
 /// How the quotients of lines 9 and 10 are rounded. Document 01 wants them outward,
@@ -126,43 +156,6 @@ impl Ties {
     }
 }
 
-/// How a C takes its numbers: as they are, as Algorithm 1 does. An engine may keep T times
-/// them instead (document 02, Item 4) and must answer alike. The other ways are what it
-/// answers if it takes a number for T times that number, or the other way round, or the
-/// other total for its own; they are there for tests to count where one would have changed
-/// an answer. The faults count from the lowest end, as an engine does whose sums begin with
-/// 0.
-#[derive(Clone, Copy, Debug, PartialEq, Eq)]
-pub enum Sums {
-    Right,
-    /// The cut test of a C is T × beta <= T × alpha + the margin.
-    BareMargin,
-    /// A C hands T times the margin on to its children.
-    MarginBelow,
-    /// A C takes the alpha that it is handed for T times it.
-    BareAlpha,
-    /// The same with beta.
-    BareBeta,
-    /// The low and the high of a C are divided by T once more where it is left.
-    DividedAgain,
-    /// The same, but only where it is cut.
-    DividedAgainAtCut,
-    /// A C takes the larger of two totals for its own sum (document 02, Item 5), in its
-    /// sums and in the windows below it.
-    LargerTotal,
-    /// The smaller.
-    SmallerTotal,
-    /// The larger in its sums alone.
-    LargerInSums,
-    SmallerInSums,
-    /// The larger in the windows below it alone.
-    LargerInWindows,
-    SmallerInWindows,
-    /// The larger times the margin, beside T times alpha and beta, in its cut test alone.
-    LargerAtMargin,
-    SmallerAtMargin,
-}
-
 /// A child of the root that was entered, and what was found there. By Item 6 one that is
 /// met when no read is left counts as entered, with the two ends as its bounds.
 #[derive(Clone, Copy, Debug, PartialEq, Eq)]
@@ -203,18 +196,32 @@ pub fn search_watched(
         return refused(11);
     }
 
-    let ends = Bounds {
-        low: table.lowest * table.grains,
-        high: table.highest * table.grains,
+    let whole = Bounds {
+        low: table.lowest,
+        high: table.highest,
     };
-    let whole = Window {
-        alpha: ends.low,
-        beta: ends.high,
+    let whole = whole.times(table.grains);
+    let ends = match terms.ends {
+        Ends::Table => Values::Same(whole),
+        Ends::Own | Ends::Wrong(_) => {
+            let own = ends_under(table);
+            Values::ByNode(own.iter().map(|ends| ends.times(table.grains)).collect())
+        }
+    };
+    let wrong = match terms.ends {
+        Ends::Wrong(wrong) => Some(wrong),
+        Ends::Table | Ends::Own => None,
+    };
+    let root = match wrong {
+        Some(WrongEnds::TableAtRoot) => whole,
+        _ => ends.at(0),
     };
     let mut search = Search {
         nodes: &table.nodes,
         grains: table.grains,
+        whole,
         ends,
+        wrong,
         rounding: terms.rounding,
         totals: (table.smaller_total(), table.larger_total()),
         margin: terms.margin,
@@ -226,7 +233,10 @@ pub fn search_watched(
         entered: Vec::new(),
         watch,
     };
-    let bounds = search.enter(0, || whole);
+    let bounds = search.enter(0, || Window {
+        alpha: root.low,
+        beta: root.high,
+    });
     Ok(Found {
         low: bounds.low,
         high: bounds.high,
@@ -236,8 +246,8 @@ pub fn search_watched(
     })
 }
 
-/// The least and the greatest value there is, in grains, the T of a C, and how a window
-/// under it is rounded.
+/// The least and the greatest value at a C, in grains, its T, and how a window under it is
+/// rounded.
 #[derive(Clone, Copy, Debug)]
 pub struct Scale {
     pub least: i64,
@@ -250,25 +260,35 @@ pub struct Scale {
 /// most 2,000,000 times the greatest grain count, and it is multiplied by 64 at most.
 impl Scale {
     /// Line 9: alpha for a child of this weight, from the alpha and the high of
-    /// the chance node above it. Document 01 has the quotient rounded down.
+    /// the chance node above it. Document 01 has the quotient rounded down. Document 02,
+    /// Item 14 has alpha at most the greatest value too, and with the table's ends it never
+    /// is above.
     pub fn alpha_below(&self, weight: i64, alpha: i64, high: i64) -> i64 {
-        let dividend = (alpha - high) * self.total;
-        let quotient = match self.rounding {
-            Rounding::AlphaUp => ceiling(dividend, weight),
-            _ => floor(dividend, weight),
-        };
-        self.least.max(quotient + self.greatest)
+        let unlimited = self.quotient_below_alpha(weight, alpha, high) + self.greatest;
+        self.greatest.min(self.least.max(unlimited))
     }
 
     /// Line 10: beta likewise, from beta and low. Document 01 has the quotient rounded
-    /// up.
+    /// up, and Item 14 has beta at least the least value.
     pub fn beta_below(&self, weight: i64, beta: i64, low: i64) -> i64 {
+        let unlimited = self.quotient_below_beta(weight, beta, low) + self.least;
+        self.least.max(self.greatest.min(unlimited))
+    }
+
+    fn quotient_below_alpha(&self, weight: i64, alpha: i64, high: i64) -> i64 {
+        let dividend = (alpha - high) * self.total;
+        match self.rounding {
+            Rounding::AlphaUp => ceiling(dividend, weight),
+            _ => floor(dividend, weight),
+        }
+    }
+
+    fn quotient_below_beta(&self, weight: i64, beta: i64, low: i64) -> i64 {
         let dividend = (beta - low) * self.total;
-        let quotient = match self.rounding {
+        match self.rounding {
             Rounding::BetaDown => floor(dividend, weight),
             _ => ceiling(dividend, weight),
-        };
-        self.greatest.min(quotient + self.least)
+        }
     }
 
     /// A child's part, weight in T, of so many grains; it is a whole number.
@@ -289,11 +309,36 @@ fn ceiling(dividend: i64, divisor: i64) -> i64 {
     -floor(-dividend, divisor)
 }
 
-/// L and U of a node.
+/// L and U of a node, or two ends.
 #[derive(Clone, Copy, Debug, PartialEq, Eq)]
 pub struct Bounds {
     pub low: i64,
     pub high: i64,
+}
+
+impl Bounds {
+    /// Both in grains, from points.
+    fn times(self, grains: i64) -> Bounds {
+        Bounds {
+            low: self.low * grains,
+            high: self.high * grains,
+        }
+    }
+}
+
+/// The least and the greatest value at each node, in grains.
+enum Values {
+    Same(Bounds),
+    ByNode(Vec<Bounds>),
+}
+
+impl Values {
+    fn at(&self, node: usize) -> Bounds {
+        match self {
+            Values::Same(ends) => *ends,
+            Values::ByNode(ends) => ends[node],
+        }
+    }
 }
 
 /// Alpha and beta of a node.
@@ -314,8 +359,11 @@ impl Window {
 struct Search<'a, W> {
     nodes: &'a [Node],
     grains: i64,
-    /// The least and the greatest value: the bounds of a node of which nothing is known.
-    ends: Bounds,
+    /// The table's ends: the bounds of a node met when no read is left.
+    whole: Bounds,
+    /// The least and the greatest value at each node: its bounds while nothing is known.
+    ends: Values,
+    wrong: Option<WrongEnds>,
     rounding: Rounding,
     /// The smaller total and the larger, for the faults.
     totals: (i64, i64),
@@ -338,6 +386,7 @@ impl<W: FnMut(Step)> Search<'_, W> {
         let bounds = match self.nodes[node].kind {
             _ if self.read == self.most => self.unread(node),
             Kind::Leaf => self.leaf(node),
+            kind if self.wrong.is_some() => self.with_wrong_ends(node, kind, window()),
             Kind::Max => self.max(node, window()),
             Kind::Min => self.min(node, window()),
             Kind::Chance if self.sums == Sums::Right => self.chance(node, window()),
@@ -355,7 +404,7 @@ impl<W: FnMut(Step)> Search<'_, W> {
     fn unread(&mut self, node: usize) -> Bounds {
         self.spent = true;
         (self.watch)(Step::Unread(node));
-        self.ends
+        self.whole
     }
 
     fn leaf(&mut self, node: usize) -> Bounds {
@@ -371,8 +420,8 @@ impl<W: FnMut(Step)> Search<'_, W> {
 
     fn max(&mut self, node: usize, mut window: Window) -> Bounds {
         let stop = self.nodes[node].stop;
-        let mut bounds = self.ends;
-        let mut best_high = self.ends.low;
+        let mut bounds = self.ends.at(node);
+        let mut best_high = bounds.low;
         let mut child = node + 1;
         loop {
             let found = self.enter(child, || window);
@@ -392,8 +441,8 @@ impl<W: FnMut(Step)> Search<'_, W> {
 
     fn min(&mut self, node: usize, mut window: Window) -> Bounds {
         let stop = self.nodes[node].stop;
-        let mut bounds = self.ends;
-        let mut best_low = self.ends.high;
+        let mut bounds = self.ends.at(node);
+        let mut best_low = bounds.high;
         let mut child = node + 1;
         loop {
             let found = self.enter(child, || window);
@@ -412,9 +461,9 @@ impl<W: FnMut(Step)> Search<'_, W> {
     }
 
     fn chance(&mut self, node: usize, mut window: Window) -> Bounds {
-        let scale = self.scale(self.nodes[node].sum);
-        let stop = self.nodes[node].stop;
-        let mut bounds = self.ends;
+        let Node { sum, stop, .. } = self.nodes[node];
+        let mut bounds = self.ends.at(node);
+        let scale = self.scale(bounds, sum);
         let mut child = node + 1;
         loop {
             let weight = self.nodes[child].weight;
@@ -433,11 +482,11 @@ impl<W: FnMut(Step)> Search<'_, W> {
         }
     }
 
-    /// The scale at a C with this T.
-    fn scale(&self, total: i64) -> Scale {
+    /// The scale at a C with these ends and this T.
+    fn scale(&self, ends: Bounds, total: i64) -> Scale {
         Scale {
-            least: self.ends.low,
-            greatest: self.ends.high,
+            least: ends.low,
+            greatest: ends.high,
             total,
             rounding: self.rounding,
         }
@@ -447,87 +496,5 @@ impl<W: FnMut(Step)> Search<'_, W> {
     fn cuts(&mut self, node: usize, window: Window) -> bool {
         (self.watch)(Step::Test(node, window));
         window.beta <= window.alpha + self.margin
-    }
-}
-
-// ---------------------------------------------------------------------------
-// A C with a fault of `Sums`
-// ---------------------------------------------------------------------------
-
-impl Scale {
-    /// What a value that is taken for T times it amounts to, counted from the least and
-    /// rounded down.
-    fn divided(&self, value: i64) -> i64 {
-        self.least + floor(value - self.least, self.total)
-    }
-}
-
-impl<W: FnMut(Step)> Search<'_, W> {
-    /// As `chance`, but for the fault. It stands apart, so that the right way is not
-    /// slowed by the wrong ones.
-    fn faulty_chance(&mut self, node: usize, mut window: Window) -> Bounds {
-        let Node { sum, stop, .. } = self.nodes[node];
-        let ((smaller, larger), margin) = (self.totals, self.margin);
-        // T in the sums, and in the windows below.
-        let (total, below) = match self.sums {
-            Sums::LargerTotal => (larger, larger),
-            Sums::SmallerTotal => (smaller, smaller),
-            Sums::LargerInSums => (larger, sum),
-            Sums::SmallerInSums => (smaller, sum),
-            Sums::LargerInWindows => (sum, larger),
-            Sums::SmallerInWindows => (sum, smaller),
-            _ => (sum, sum),
-        };
-        let (scale, windows) = (self.scale(total), self.scale(below));
-        let mut bounds = self.ends;
-        let mut child = node + 1;
-        match self.sums {
-            Sums::BareAlpha => window.alpha = scale.divided(window.alpha),
-            Sums::BareBeta => window.beta = scale.divided(window.beta),
-            _ => (),
-        }
-        // The greatest margin is past every span, so a greater one cuts no more.
-        let below = match self.sums {
-            Sums::MarginBelow => (margin * scale.total).min(GREATEST_MARGIN),
-            _ => margin,
-        };
-        let cut = loop {
-            let weight = self.nodes[child].weight;
-            let weight = weight.expect("a child of a C has a weight");
-            self.margin = below;
-            let found = self.enter(child, || Window {
-                alpha: windows.alpha_below(weight, window.alpha, bounds.high),
-                beta: windows.beta_below(weight, window.beta, bounds.low),
-            });
-            self.margin = margin;
-            // What is divided once too often, or by another total, may leave a remainder.
-            bounds.low += weight * (found.low - scale.least) / scale.total;
-            bounds.high -= weight * (scale.greatest - found.high) / scale.total;
-            // A divisor that is too small leads past the ends, where numbers would soon be
-            // too large.
-            bounds.low = bounds.low.min(scale.greatest);
-            bounds.high = bounds.high.max(scale.least);
-            window.narrow(bounds);
-            child = self.nodes[child].stop;
-            if child == stop {
-                break false;
-            }
-            let cuts = self.cuts(node, window);
-            let Window { alpha, beta } = window;
-            let cuts_by = |times| scale.total * beta <= scale.total * alpha + times * margin;
-            if match self.sums {
-                Sums::BareMargin => cuts_by(1),
-                Sums::LargerAtMargin => cuts_by(larger),
-                Sums::SmallerAtMargin => cuts_by(smaller),
-                _ => cuts,
-            } {
-                break true;
-            }
-        };
-        if self.sums == Sums::DividedAgain || self.sums == Sums::DividedAgainAtCut && cut {
-            bounds.low = scale.divided(bounds.low);
-            bounds.high = scale.divided(bounds.high);
-        }
-        bounds
     }
 }
