@@ -405,12 +405,16 @@ impl Steps {
 /// The margins, from the least, at each of which a cut test of the search within this
 /// budget, or without one, just begins to cut.
 pub fn turning_points(table: &Table, budget: Option<i64>) -> Vec<i64> {
+    turning_points_by(table, |margin| Terms {
+        budget,
+        ..Terms::of(margin)
+    })
+}
+
+/// The same for the searches by these terms.
+pub fn turning_points_by(table: &Table, terms: impl Fn(i64) -> Terms) -> Vec<i64> {
     let next = |margin: i64| {
-        let terms = Terms {
-            budget,
-            ..Terms::of(margin)
-        };
-        let tests = Steps::of(table, terms).tests;
+        let tests = Steps::of(table, terms(margin)).tests;
         let gaps = tests.iter().map(|test| test.gap);
         gaps.filter(|gap| *gap > margin).min()
     };

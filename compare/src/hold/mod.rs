@@ -4,6 +4,7 @@
 
 pub mod budget;
 pub mod desk;
+pub mod indexed;
 pub mod judging;
 pub mod numbers;
 pub mod reading;

@@ -224,21 +224,26 @@ impl Comparison {
         table
     }
 
-    /// Counts the cut tests of one search: by the kind of the node those that
-    /// cut, those where the margin is just enough, and those that would have cut
-    /// at a margin that is greater by one grain.
+    /// Counts the cut tests of one search.
     pub fn count_tests(&mut self, table: &Table, margin: i64) {
-        let gaps = gaps(table, margin);
-        for kind in [Kind::Max, Kind::Min, Kind::Chance] {
-            let here = || gaps.iter().filter(|(k, _)| *k == kind).map(|(_, gap)| gap);
-            let mut add = |sort: &str, count: usize| {
-                self.tests.add(&format!("{sort} at {kind:?}"), count as u64);
-            };
-            add("cut", here().filter(|gap| **gap <= margin).count());
-            add("just cut", here().filter(|gap| **gap == margin).count());
-            let not = here().filter(|gap| **gap == margin + 1).count();
-            add("just not cut", not);
-        }
+        count_tests(&mut self.tests, table, Terms::of(margin));
+    }
+}
+
+/// Counts the cut tests of one search: by the kind of the node those that cut, those where
+/// the margin is just enough, and those that would have cut at a margin that is greater by
+/// one grain.
+pub fn count_tests(seen: &mut Seen, table: &Table, terms: Terms) {
+    let (gaps, margin) = (gaps(table, terms), terms.margin);
+    for kind in [Kind::Max, Kind::Min, Kind::Chance] {
+        let here = || gaps.iter().filter(|(k, _)| *k == kind).map(|(_, gap)| gap);
+        let mut add = |sort: &str, count: usize| {
+            seen.add(&format!("{sort} at {kind:?}"), count as u64);
+        };
+        add("cut", here().filter(|gap| **gap <= margin).count());
+        add("just cut", here().filter(|gap| **gap == margin).count());
+        let not = here().filter(|gap| **gap == margin + 1).count();
+        add("just not cut", not);
     }
 }
 
@@ -361,7 +366,7 @@ pub fn count_list(seen: &mut Seen, room: usize, leaves: usize) {
     seen.count("no list", room == 0);
 }
 
-fn count_answer(seen: &mut Seen, table: &Table, margin: i64, found: Found) {
+pub fn count_answer(seen: &mut Seen, table: &Table, margin: i64, found: Found) {
     let width = found.high - found.low;
     seen.count("bounds equal", width == 0);
     seen.count("bounds within the margin", 0 < width && width < margin);
@@ -381,10 +386,10 @@ fn count_answer(seen: &mut Seen, table: &Table, margin: i64, found: Found) {
 }
 
 /// The cut tests of a search: the kind of the node, and beta minus alpha.
-fn gaps(table: &Table, margin: i64) -> Vec<(Kind, i64)> {
+fn gaps(table: &Table, terms: Terms) -> Vec<(Kind, i64)> {
     let mut gaps = Vec::new();
     let mut list = [PATTERN; MOST_NODES];
-    let _ = second::search_watched(table, Terms::of(margin), &mut list, |step| {
+    let _ = second::search_watched(table, terms, &mut list, |step| {
         if let Step::Test(node, window) = step {
             gaps.push((table.nodes[node].kind, window.beta - window.alpha));
         }
@@ -395,6 +400,11 @@ fn gaps(table: &Table, margin: i64) -> Vec<(Kind, i64)> {
 /// Margins for a table: the least ones, the greatest, some around the gaps of
 /// cut tests and around the whole span, and one that is refused.
 pub fn margins(random: &mut Random, table: &Table) -> Vec<i64> {
+    margins_by(random, table, Terms::of)
+}
+
+/// The same for the searches by these terms.
+pub fn margins_by(random: &mut Random, table: &Table, terms: fn(i64) -> Terms) -> Vec<i64> {
     let span = span(table);
     let any = random.between(0, span);
     let mut margins = vec![0, 1, any, GREATEST_MARGIN];
@@ -403,7 +413,7 @@ pub fn margins(random: &mut Random, table: &Table) -> Vec<i64> {
     // The first gaps are those of a full search, the others those of one that
     // is cut more; what a search cuts at its own gap shows only by trying it.
     for margin in [0, any] {
-        let gaps = gaps(table, margin);
+        let gaps = gaps(table, terms(margin));
         if !gaps.is_empty() {
             let (_, gap) = random.pick(&gaps);
             margins.extend([gap - 1, gap, gap + 1]);

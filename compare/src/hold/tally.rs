@@ -13,7 +13,7 @@ pub const OF_TABLES: [usize; 10] = [1, 2, 3, 4, 5, 6, 7, 8, 9, 10];
 pub const OF_GRAINS: [usize; 1] = [18];
 
 /// The last refusal's number.
-const LAST: usize = 20;
+const LAST: usize = 22;
 
 /// Counts the texts of a test, and what the engines returned for them: once for
 /// each text, or for each question asked of it.

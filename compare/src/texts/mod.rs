@@ -7,7 +7,7 @@
 //! those of `level` are made otherwise, by a plan of what their plays lose, and some
 //! matches of such tables; those of `windows`, whose windows under C are narrow;
 //! those of `ties`, whose plays are much alike; and those of `totals`, whose two totals
-//! have a planned number of uses.
+//! have a planned number of uses. `parts` gives any of them other utilities.
 
 pub mod bench;
 pub mod broken;
@@ -20,6 +20,7 @@ pub mod knobs;
 pub mod largest;
 pub mod level;
 pub mod matches;
+pub mod parts;
 mod settings;
 pub mod small;
 pub mod ties;
@@ -51,6 +52,11 @@ pub fn case(random: &mut Random) -> Case {
 /// A table by this setting of the knobs.
 pub fn make(setting: fn(&mut Random) -> Knobs, random: &mut Random) -> Vec<u8> {
     setting(random).text(random)
+}
+
+/// Writes other ends in the header.
+pub fn put_ends(text: &mut [u8], (lowest, highest): (i64, i64)) {
+    text[8..24].copy_from_slice(format!("{lowest:>8}{highest:>8}").as_bytes());
 }
 
 /// Writes another utility in the line of a leaf.
