@@ -1,7 +1,9 @@
 //! What document 01 says of several calls together, held to the proved engine's
-//! answers: the exact worth, the search, turning and rollouts.
+//! answers: the exact worth, the search, turning and rollouts; and the same of the search
+//! with an index (document 02, Item 14).
 
 use compare::engine::{self, Record};
+use compare::hold::indexed::{self, Index};
 use compare::hold::rolling::{policies, LEAF, RECORD};
 use compare::hold::searching::change_unread;
 use compare::hold::seen::Seen;
@@ -9,7 +11,7 @@ use compare::hold::span;
 use compare::hold::tally::Tally;
 use compare::hold::turning::turned;
 use compare::random::Random;
-use compare::second::{self, Kind, Table, GREATEST_MARGIN};
+use compare::second::{self, Kind, Table, GREATEST_MARGIN, LINE};
 use compare::texts;
 use compare::texts::examples::escaped;
 use compare::texts::knobs::Knobs;
@@ -28,11 +30,29 @@ struct Answer {
     leaves: Vec<u16>,
 }
 
+/// How the proved engine is asked to search a text, with a margin.
+type Search = fn(&[u8], i64, &mut [u16], &mut [i64]) -> u64;
+
+/// The search with the index that the proved engine builds of the text.
+fn with_its_index(text: &[u8], margin: i64, leaves: &mut [u16], numbers: &mut [i64]) -> u64 {
+    let Index { lows, highs } = built(text);
+    engine::search_indexed(text, margin, &lows, &highs, leaves, numbers)
+}
+
+/// The proved engine's index of the table.
+fn built(text: &[u8]) -> Index {
+    let nodes = text.len() / LINE - 1;
+    let mut index = Index::unbuilt((nodes, nodes));
+    let returned = engine::index(text, &mut index.lows, &mut index.highs);
+    assert_eq!(returned, 0, "a valid table");
+    index
+}
+
 impl Answer {
-    fn of(text: &[u8], margin: i64, room: usize) -> Answer {
+    fn of(search: Search, text: &[u8], margin: i64, room: usize) -> Answer {
         let mut leaves = vec![0; room];
         let mut numbers = [0; 7];
-        let returned = engine::search(text, margin, &mut leaves, &mut numbers);
+        let returned = search(text, margin, &mut leaves, &mut numbers);
         assert_eq!(returned, 0, "a valid table");
         let [low, high, play, read, grains, apart, spent] = numbers;
         assert_eq!((apart, spent), (high - low, 0), "without a budget");
@@ -70,9 +90,28 @@ fn worth(text: &[u8]) -> i64 {
 /// read the answer is the same, and all this still true.
 #[test]
 fn searching_turned_tables_and_other_unread_leaves() {
-    let mut tally = Tally::new("searching turned tables, and with other unread leaves");
+    let name = "searching turned tables, and with other unread leaves";
+    hold_searches(name, 15_000, engine::search, change_unread);
+}
+
+/// The same with the index of each table, where other unread leaves leave it as it was.
+#[test]
+fn searching_with_an_index() {
+    let name = "searching turned tables, and with other unread leaves, by index";
+    hold_searches(name, 8_000, with_its_index, |text, table, read, random| {
+        let before = built(text);
+        indexed::change_unread(text, table, read, random);
+        assert_eq!(built(text), before, "{}", escaped(text));
+    });
+}
+
+/// Changes the leaves of a table that were not read.
+type Change = fn(&mut [u8], &Table, &[u16], &mut Random);
+
+fn hold_searches(name: &'static str, cases: u64, search: Search, change: Change) {
+    let mut tally = Tally::new(name);
     let mut seen = Seen::default();
-    for number in 0..15_000 {
+    for number in 0..cases {
         let mut random = Random::of_case(tally.seed, number);
         let text = match number % 4 {
             0 => texts::make(Knobs::any, &mut random),
@@ -90,15 +129,20 @@ fn searching_turned_tables_and_other_unread_leaves() {
         ];
         let room = table.leaves + random.below(3);
         for margin in margins {
-            let answer = Answer::of(&text, margin, room);
+            let answer = Answer::of(search, &text, margin, room);
             let mut other = text.clone();
-            change_unread(&mut other, &table, &answer.leaves, &mut random);
+            change(&mut other, &table, &answer.leaves, &mut random);
             for text in [&text, &other] {
                 let place = || format!("{}, margin {margin}\n{}", tally.place(), escaped(text));
                 let turned = turned(text);
-                assert_eq!(Answer::of(text, margin, room), answer, "{}", place());
                 assert_eq!(
-                    Answer::of(&turned, margin, room + 1),
+                    Answer::of(search, text, margin, room),
+                    answer,
+                    "{}",
+                    place()
+                );
+                assert_eq!(
+                    Answer::of(search, &turned, margin, room + 1),
                     answer.turned(),
                     "{}",
                     place()

@@ -10,6 +10,7 @@ use std::ops::RangeInclusive;
 
 use compare::engine::{self, Record};
 use compare::hold::budget::{self, turning_points, Asked, Known, NONE};
+use compare::hold::indexed::{self, Built, Index};
 use compare::hold::numbers::{agree, ROOM};
 use compare::hold::searching::{self, Expected, PATTERN};
 use compare::hold::seen::Seen;
@@ -72,6 +73,8 @@ fn random_tables_by_every_call() {
         "two totals, judging",
         "two totals, searching",
         "two totals, searching within a budget",
+        "two totals, indexing",
+        "two totals, searching with an index",
         "two totals, turning",
         "two totals, rolling out",
         "two totals, reports",
@@ -106,6 +109,8 @@ fn largest_tables() {
         "the largest of two totals, judging",
         "the largest of two totals, searching",
         "the largest of two totals, searching within a budget",
+        "the largest of two totals, indexing",
+        "the largest of two totals, searching with an index",
         "the largest of two totals, turning",
         "the largest of two totals, rolling out",
         "the largest of two totals, reports",
@@ -145,6 +150,8 @@ fn every_small_table() {
         "every small table of two totals, judging",
         "every small table of two totals, searching",
         "every small table of two totals, searching within a budget",
+        "every small table of two totals, indexing",
+        "every small table of two totals, searching with an index",
         "every small table of two totals, turning",
         "every small table of two totals, rolling out",
         "every small table of two totals, reports",
@@ -371,7 +378,7 @@ fn every_content_of_columns_5_to_8() {
 
 /// Holds one call to what the second engine says of the text, by turns.
 fn hold_another(tally: &mut Tally, text: &[u8], table: &Result<Table, Refusal>) {
-    let code = match tally.cases % 5 {
+    let code = match tally.cases % 7 {
         0 => return drop(worth::hold(tally, text)),
         1 => {
             let answer = match table {
@@ -392,6 +399,17 @@ fn hold_another(tally: &mut Tally, text: &[u8], table: &Result<Table, Refusal>) 
             let turned = second::turn(text, &mut buffer).map(|()| &buffer[..]);
             turning::hold_to(tally, text, text.len(), &turned);
             compare::hold::code(&turned)
+        }
+        4 => {
+            let built = Built::by(table.as_ref(), (MOST_NODES, MOST_NODES));
+            indexed::hold_built(tally, text, &built);
+            compare::hold::code(&built.answer)
+        }
+        5 => {
+            let Built { index, .. } = Built::by(table.as_ref(), (MOST_NODES, MOST_NODES));
+            let expected = indexed::expected(table.as_ref(), 0, &index, MOST_NODES);
+            indexed::hold_to(tally, text, 0, &index, (MOST_NODES, ROOM), &expected);
+            compare::hold::code(&expected.answer)
         }
         _ => {
             let rooms = rolling::Rooms {
@@ -535,8 +553,9 @@ fn every_grain_count() {
 }
 
 /// A table that is refused 18 is so by every call, whatever else the call would refuse:
-/// no such child, no margin, no budget, a C in rollouts, and all that is lent too short. In
-/// a match it has its position and line 0. A sum that is neither total comes before it.
+/// no such child, no margin, no budget, another index, a C in rollouts, and all that is lent
+/// too short. In a match it has its position and line 0. A sum that is neither total comes
+/// before it.
 #[test]
 fn refused_in_sequence() {
     let mut tally = Tally::new("grain counts refused in sequence");
@@ -548,7 +567,7 @@ fn refused_in_sequence() {
         };
         assert_eq!(second::read(&text), Err(refusal), "{}", escaped(&text));
         let code = 100 * refusal.line as u64 + u64::from(refusal.number);
-        let codes = [code; 8];
+        let codes = [code; 10];
         let (_, kept) = reading::expected(&Err(refusal));
         let mut lent = Box::new(kept.clone());
         assert_eq!(engine::read(&text, &mut lent), code, "{}", escaped(&text));
@@ -565,6 +584,14 @@ fn refused_in_sequence() {
                     let asked = Asked { margin, budget };
                     budget::hold_to(&tally, &text, asked, (room, ROOM), &refused);
                 }
+                for lengths in [(0, 0), (MOST_NODES, room), (MOST_NODES, MOST_NODES)] {
+                    let index = Index::unbuilt(lengths);
+                    indexed::hold_to(&tally, &text, margin, &index, (room, ROOM), &refused);
+                }
+            }
+            for lengths in [(room, room), (MOST_NODES, room), (MOST_NODES, MOST_NODES)] {
+                let built = Built::by(Err(&refusal), lengths);
+                indexed::hold_built(&tally, &text, &built);
             }
             for room in [0, text.len() - 1, text.len(), text.len() + room] {
                 turning::hold_to(&tally, &text, room, &Err(refusal));
@@ -581,9 +608,9 @@ fn refused_in_sequence() {
         tally.add(&codes);
     }
     tally.report();
-    // Eight calls each.
+    // Ten calls each.
     tally.demand_refusals(&[9, 18]);
-    assert!(tally.counts[18] >= 8 * 100 && tally.counts[9] >= 8 * 100);
+    assert!(tally.counts[18] >= 10 * 100 && tally.counts[9] >= 10 * 100);
 }
 
 /// Reports that stop at this text, whatever its play number and whatever follows.
@@ -620,6 +647,8 @@ struct Answers {
     worth: Vec<i64>,
     judged: Vec<Vec<i64>>,
     found: Vec<(u64, Vec<i64>, Vec<u16>)>,
+    index: (u64, Index),
+    found_by_index: Vec<(u64, Vec<i64>, Vec<u16>)>,
     rolled: (u64, Vec<i64>, Vec<Record>, Vec<u16>),
     report: reporting::Answer,
     /// Past the totals.
@@ -646,6 +675,15 @@ impl Answers {
             let code = engine::search(text, margin, &mut list, &mut numbers);
             (code, numbers, list)
         });
+        let mut index = Index::unbuilt((nodes, nodes));
+        let built = engine::index(text, &mut index.lows, &mut index.highs);
+        let by_index = margins.iter().map(|&margin| {
+            let (mut list, mut numbers) = (vec![PATTERN; leaves], vec![0; 7]);
+            let (lows, highs) = (&index.lows, &index.highs);
+            let code = engine::search_indexed(text, margin, lows, highs, &mut list, &mut numbers);
+            (code, numbers, list)
+        });
+        let by_index = by_index.collect();
         let mut records = vec![Record::default(); nodes];
         let (mut list, mut numbers) = (vec![PATTERN; leaves], vec![0; 2]);
         let code = engine::rollout(text, &[1, 2], &mut records, &mut list, &mut numbers);
@@ -655,6 +693,8 @@ impl Answers {
             worth,
             judged: judged.collect(),
             found: found.collect(),
+            index: (built, index),
+            found_by_index: by_index,
             rolled: (code, numbers, records, list),
             report: reporting::proved(&file(&[position]), 1),
             turned: turning::turned(text)[8..].to_vec(),

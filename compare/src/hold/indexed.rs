@@ -11,6 +11,7 @@ use super::searching::{
     PATTERN,
 };
 use super::seen::Seen;
+use super::sums::{count_wrong, FAULTS, FAULTS_OF_TOTALS};
 use super::tally::Tally;
 use super::{code, span};
 use crate::engine;
@@ -623,7 +624,7 @@ impl Subject<'_> {
 
 /// Gives leaves that were not read other utilities so that the index stays the same: each is
 /// between the ends of the line above it, and each end of a line stays that of some leaf.
-fn change_unread(text: &mut [u8], table: &Table, read: &[u16], random: &mut Random) {
+pub fn change_unread(text: &mut [u8], table: &Table, read: &[u16], random: &mut Random) {
     let ends = ends_under(table);
     let above = |node: usize| std::iter::successors(table.nodes[node].parent, parent_in(table));
     let mut utilities: Vec<Option<i64>> = table.nodes.iter().map(|node| node.utility).collect();
@@ -683,7 +684,7 @@ fn change_ends(text: &mut [u8], table: &Table, random: &mut Random) {
 // ---------------------------------------------------------------------------
 
 /// Ways with the ends that Item 14 is not.
-const OTHER_ENDS: [(&str, WrongEnds); 11] = [
+const OTHER_ENDS: [(&str, WrongEnds); 7] = [
     ("the child's ends in windows", WrongEnds::ChildInWindows),
     ("the table's ends in windows", WrongEnds::TableInWindows),
     ("the table's ends in sums", WrongEnds::TableInSums),
@@ -691,33 +692,39 @@ const OTHER_ENDS: [(&str, WrongEnds); 11] = [
     ("the table's ends at M and N", WrongEnds::TableAtSides),
     ("a beta not lowered at M", WrongEnds::HighAtMax),
     ("an alpha not raised at N", WrongEnds::LowAtMin),
-    (
-        "an alpha above the greatest value",
-        WrongEnds::AlphaPastGreatest,
-    ),
-    ("a beta below the least value", WrongEnds::BetaPastLeast),
-    ("the table's ends as root window", WrongEnds::TableAtRoot),
+];
+
+/// Ways that it is not either, but that change no answer.
+const HARMLESS: [(&str, WrongEnds); 4] = [
+    ("alpha past the greatest", WrongEnds::AlphaPastGreatest),
+    ("beta past the least", WrongEnds::BetaPastLeast),
+    ("the table's ends at the root", WrongEnds::TableAtRoot),
     ("windows met with the ends", WrongEnds::MetWindow),
 ];
 
-/// Counts the other ways, of the ends and of rounding, that would have changed the answer of
-/// the search with an index to this margin. Fails the test where one would that must not.
+/// Counts where the search with an index to this margin would have answered otherwise: by the
+/// other ways with the ends, and by windows that are rounded the wrong way. Fails the test
+/// where one of the harmless ways would.
 pub fn count_others(seen: &mut Seen, sort: &str, table: &Table, margin: i64) {
-    let by = |terms| Expected::by(Ok(table), terms, table.leaves);
     let terms = Terms::indexed(margin);
-    let right = by(terms);
-    for (other, wrong) in OTHER_ENDS {
+    let by = |(other, wrong)| {
         let ends = Ends::Wrong(wrong);
-        let differs = by(Terms { ends, ..terms }) != right;
-        assert!(!(differs && wrong.is_harmless()), "{other}, {margin}");
-        if !wrong.is_harmless() {
-            seen.count(&format!("{sort}, {other}"), differs);
-        }
-    }
-    for (other, rounding) in OTHER_ROUNDINGS {
-        let differs = by(Terms { rounding, ..terms }) != right;
-        seen.count(&format!("{sort}, {other}"), differs);
-    }
+        (other, Terms { ends, ..terms })
+    };
+    count_wrong(seen, sort, table, terms, &OTHER_ENDS.map(by));
+    let roundings = OTHER_ROUNDINGS.map(|(other, rounding)| (other, Terms { rounding, ..terms }));
+    count_wrong(seen, sort, table, terms, &roundings);
+    let mut none = Seen::default();
+    let differs = count_wrong(&mut none, sort, table, terms, &HARMLESS.map(by));
+    assert!(!differs, "margin {margin}, {table:?}");
+}
+
+/// The same by what an engine with T times the numbers of a C may have wrong (Items 4 and 5).
+pub fn count_sums(seen: &mut Seen, sort: &str, table: &Table, margin: i64) {
+    let terms = Terms::indexed(margin);
+    let by = |(other, sums)| (other, Terms { sums, ..terms });
+    count_wrong(seen, sort, table, terms, &FAULTS.map(by));
+    count_wrong(seen, sort, table, terms, &FAULTS_OF_TOTALS.map(by));
 }
 
 /// The margins, from the least, at each of which a cut test of the search with an index just

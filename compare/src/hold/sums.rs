@@ -16,7 +16,7 @@ use crate::texts::knobs::WAYS;
 const BARE_ALPHA: &str = "a bare alpha at a C";
 
 /// What an engine with T times the numbers of a C may have wrong.
-const FAULTS: [(&str, Sums); 6] = [
+pub const FAULTS: [(&str, Sums); 6] = [
     ("the bare margin at a C", Sums::BareMargin),
     ("T times the margin below a C", Sums::MarginBelow),
     (BARE_ALPHA, Sums::BareAlpha),
@@ -26,7 +26,7 @@ const FAULTS: [(&str, Sums); 6] = [
 ];
 
 /// What it may have wrong with two totals (document 02, Item 5).
-const FAULTS_OF_TOTALS: [(&str, Sums); 8] = [
+pub const FAULTS_OF_TOTALS: [(&str, Sums); 8] = [
     ("the larger total", Sums::LargerTotal),
     ("the smaller total", Sums::SmallerTotal),
     ("the larger total in sums", Sums::LargerInSums),
@@ -158,7 +158,7 @@ impl Comparison {
 
 /// Counts the wrong engines, each given by its terms, that would have answered otherwise.
 /// Returns whether there was one.
-fn count_wrong(
+pub fn count_wrong(
     seen: &mut Seen,
     sort: &str,
     table: &Table,

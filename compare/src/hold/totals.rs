@@ -3,6 +3,7 @@
 //! grain count would have answered otherwise.
 
 use super::budget::{self, questions_at};
+use super::indexed;
 use super::judging;
 use super::reading;
 use super::reporting;
@@ -54,6 +55,8 @@ pub struct Everything {
     pub judging: judging::Comparison,
     pub plain: searching::Comparison,
     pub within: budget::Comparison,
+    /// Two calls: building and searching.
+    pub indexed: indexed::Comparison,
     pub turning: turning::Comparison,
     pub rolling: rolling::Comparison,
     pub reporting: reporting::Comparison,
@@ -66,14 +69,16 @@ pub struct Everything {
 
 impl Everything {
     /// The names say what is compared, in the sequence of the calls above.
-    pub fn new(names: [&'static str; 8]) -> Everything {
-        let [reading, worth, judging, plain, within, turning, rolling, reporting] = names;
+    pub fn new(names: [&'static str; 10]) -> Everything {
+        let [reading, worth, judging, plain, within, names @ ..] = names;
+        let [building, indexed, turning, rolling, reporting] = names;
         Everything {
             reading: reading::Comparison::new(reading),
             worth: Tally::new(worth),
             judging: judging::Comparison::new(judging),
             plain: searching::Comparison::new(plain),
             within: budget::Comparison::new(within),
+            indexed: indexed::Comparison::new(building, indexed),
             turning: turning::Comparison::new(turning),
             rolling: rolling::Comparison::new(rolling),
             reporting: reporting::Comparison::new(reporting),
@@ -107,8 +112,10 @@ impl Everything {
                 budget: random.pick(&[0, 1, -1, i64::MAX]),
             }],
         };
+        let with_index = vec![random.pick(&margins), random.pick(&margins)];
         let _ = self.plain.hold(text, |_| margins);
         let _ = self.within.hold(text, random, |_, _| asked);
+        let _ = self.indexed.hold(text, random, |_, _| with_index);
 
         let _ = self.turning.hold(text);
         let policies = policies(random);
@@ -158,13 +165,15 @@ impl Everything {
     }
 
     /// The tallies, one for each call.
-    pub fn tallies(&self) -> [&Tally; 8] {
+    pub fn tallies(&self) -> [&Tally; 10] {
         [
             &self.reading.tally,
             &self.worth,
             &self.judging.tally,
             &self.plain.tally,
             &self.within.tally,
+            &self.indexed.building,
+            &self.indexed.searching,
             &self.turning.tally,
             &self.rolling.tally,
             &self.reporting.tally,

@@ -4,8 +4,13 @@
 use super::{Bounds, Search, Step, Window};
 use crate::second::table::{Kind, Node};
 
-/// Ways that Item 14 is not. The last four, from `AlphaPastGreatest` on, change nothing: see
-/// `is_harmless`.
+/// Ways that Item 14 is not. The last four, from `AlphaPastGreatest` on, change no answer. A
+/// line's window decides nothing before its first child is known, and then alpha is at least
+/// the line's least value and beta at most its greatest, so that what the window had beyond
+/// these is lost. It is lost for the first child too, whose ends lie within the line's, also
+/// below a C, where a window that reaches past the C's ends gives just these. And where alpha
+/// is not below the line's greatest value, or beta not above its least, the line is cut after
+/// its first child, and so is every line entered under it, however far out the window is.
 #[derive(Clone, Copy, Debug, PartialEq, Eq)]
 pub enum WrongEnds {
     /// Lines 9 and 10 take the child's ends, not those of the C above it.
@@ -30,26 +35,6 @@ pub enum WrongEnds {
     TableAtRoot,
     /// The window handed down is met with the line's own ends.
     MetWindow,
-}
-
-impl WrongEnds {
-    /// Whether it gives every answer that Item 14 gives.
-    ///
-    /// A line's window decides nothing before its first child is known, and then alpha is at
-    /// least the line's least value and beta at most its greatest. So what a window has beyond
-    /// these is lost there; it is lost for a child too, whose ends lie within, also below a
-    /// C, where a window that is no narrower than the C's ends gives just these. And where
-    /// alpha is not below the line's greatest value, the line is cut after its first child,
-    /// and so are all that are entered under it, however great alpha is; likewise with beta.
-    pub fn is_harmless(self) -> bool {
-        matches!(
-            self,
-            WrongEnds::AlphaPastGreatest
-                | WrongEnds::BetaPastLeast
-                | WrongEnds::TableAtRoot
-                | WrongEnds::MetWindow
-        )
-    }
 }
 
 /// A window without its limits may widen at each C on a path. Nothing is as far out as this,
