@@ -18,7 +18,8 @@ use compare::hold::tally::{say, Tally, OF_GRAINS, OF_TABLES};
 use compare::hold::totals::on_one_path;
 use compare::random::{number_from_environment, Random};
 use compare::second::{
-    self, ends_under, Bounds, Kind, Refusal, Table, Terms, GREATEST_MARGIN, MOST_NODES,
+    self, ends_under, Bounds, Kind, Refusal, Rounding, Scale, Table, Terms, GREATEST_MARGIN,
+    MOST_NODES,
 };
 use compare::texts;
 use compare::texts::broken::broken;
@@ -411,6 +412,27 @@ fn second_engine_looks_at_every_leaf() {
             }
         }
     }
+}
+
+/// A new alpha is at most the C's greatest value, a new beta at least its least, where the
+/// window that the C is handed lies to one side of its ends. No answer hangs on it.
+#[test]
+fn second_engine_limits_windows() {
+    let scale = Scale {
+        least: 2,
+        greatest: 8,
+        total: 2,
+        rounding: Rounding::Outward,
+    };
+    // As in the play to one side, below: (14 - 8) × 2 / 1 + 8 is 20.
+    assert_eq!(scale.alpha_below(1, 14, 8), 8);
+    assert_eq!(scale.beta_below(1, 18, 2), 8);
+    // And (-4 - 2) × 2 / 1 + 2 is -10.
+    assert_eq!(scale.beta_below(1, -4, 2), 2);
+    assert_eq!(scale.alpha_below(1, -8, 8), 2);
+    // Within the ends: (7 - 8) × 2 / 1 + 8, and (3 - 2) × 2 / 1 + 2.
+    assert_eq!(scale.alpha_below(1, 7, 8), 6);
+    assert_eq!(scale.beta_below(1, 3, 2), 4);
 }
 
 // ---------------------------------------------------------------------------
