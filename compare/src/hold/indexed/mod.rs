@@ -451,8 +451,10 @@ pub fn change_unread(text: &mut [u8], table: &Table, read: &[u16], random: &mut 
             holders[line].1 += i32::from(*utility == Some(ends[line].high));
         }
     }
-    let unread = |leaf: &usize| utilities[*leaf].is_some() && !read.contains(&(*leaf as u16));
-    let unread: Vec<usize> = (0..table.nodes.len()).filter(unread).collect();
+    // Leaves are read in line order.
+    let is_read = |leaf: usize| read.binary_search(&(leaf as u16)).is_ok();
+    let mut unread: Vec<usize> = (0..table.nodes.len()).collect();
+    unread.retain(|leaf| utilities[*leaf].is_some() && !is_read(*leaf));
     // Twice, as one leaf may take the end that another then leaves.
     for leaf in [&unread[..], &unread[..]].concat() {
         // A lone leaf is always read.
