@@ -13,7 +13,7 @@ use std::fmt;
 #[derive(Clone, Copy, Debug, PartialEq, Eq)]
 #[non_exhaustive]
 pub struct Refusal {
-    /// Which refusal, from 1 to 18, or 20. `docs/REFUSALS.md` says all of each.
+    /// Which refusal, from 1 to 18, 20 or 22. `docs/REFUSALS.md` says all of each.
     pub number: u8,
     /// The line at fault: the header is line 0, and node i is line i + 1. It is 0
     /// for a refusal that no line is to blame for: 1 and those from 11 on.
@@ -133,6 +133,10 @@ impl Refusal {
                 "there is no marking scale of that number",
                 "give 1, the scale of books in print, or 2, that of new books",
             ),
+            22 => (
+                "the index has fewer entries than the table has nodes, or is not this table's own",
+                "build the index from this very text again",
+            ),
             _ => ("the engine gave no known number", "report this"),
         }
     }
@@ -180,6 +184,7 @@ mod tests {
             (501_000_015, 15, 0, 501),
             (500_102_403, 3, 1_024, 500),
             (20, 20, 0, 0),
+            (22, 22, 0, 0),
         ] {
             let refusal = answered(code).expect_err("refused");
             let taken = (refusal.number, refusal.line, refusal.position);

@@ -21,9 +21,11 @@ pub struct Found {
     /// highest high; at N the lowest high, and then the lowest low; then it is the first.
     pub play: Play,
     /// The node numbers of the leaves read, in reading sequence. The answer is the
-    /// same whatever the other leaves are, within the table's ends.
+    /// same whatever the other leaves are, within the table's ends; with an index,
+    /// provided that this is still the table's own.
     pub leaves: Vec<usize>,
-    /// Whether the search without a budget reads more leaves than the budget.
+    /// Whether the search without a budget reads more leaves than the budget. Where
+    /// there is no budget, it is not spent.
     pub spent: bool,
     /// G, the grains in one point.
     pub per_point: i64,
@@ -105,7 +107,7 @@ pub fn search_within(text: &[u8], margin: i64, budget: i64) -> Result<Found, Ref
 }
 
 /// What the numbers and the leaf list of an answer say.
-fn found(text: &[u8], numbers: [i64; 7], leaves: &[u16]) -> Found {
+pub(crate) fn found(text: &[u8], numbers: [i64; 7], leaves: &[u16]) -> Found {
     let [low, high, play, read, per_point, difference, spent] = numbers;
     Found {
         low,
