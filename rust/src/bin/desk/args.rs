@@ -177,6 +177,11 @@ impl Words {
         self.after(option).map(number).transpose()
     }
 
+    /// Whether this option was given.
+    pub fn has(&self, option: &str) -> bool {
+        self.after(option).is_some()
+    }
+
     /// What stands after this option; the last, where it was given more than once.
     fn after(&self, option: &str) -> Option<&OsStr> {
         let mut options = self.options.iter().rev();
@@ -207,7 +212,8 @@ impl Words {
     }
 }
 
-/// An option of the verb and what stands after it: behind a `=`, or as the next word.
+/// An option of the verb and what stands after it: behind a `=`, or as the next word, or
+/// nothing where it needs nothing.
 fn option(
     verb: &Verb,
     word: &str,
@@ -217,12 +223,17 @@ fn option(
         Some((name, value)) => (name, Some(value.into())),
         None => (word, None),
     };
-    let mut known = verb.options.iter().map(|(known, _)| *known);
-    let known = known.find(|known| *known == name);
-    let name = known.ok_or_else(|| {
+    let known = verb.options.iter().find(|(known, _)| *known == name);
+    let (name, needs) = known.ok_or_else(|| {
         let word = quoted(OsStr::new(word));
         format!("{} takes no option {word}", verb.call())
     })?;
+    if needs.is_empty() {
+        return match value {
+            None => Ok((name, OsString::new())),
+            Some(_) => Err(format!("nothing may stand after {name}")),
+        };
+    }
     let value = value.or_else(|| rest.next());
     let value = value.ok_or_else(|| format!("nothing stands after {name}"))?;
     Ok((name, value))

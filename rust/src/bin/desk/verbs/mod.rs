@@ -1,5 +1,6 @@
 //! The verbs, one module each. A new verb is a module and its line in `VERBS`.
 
+mod index;
 pub mod judge;
 pub mod report;
 mod rollout;
@@ -20,6 +21,7 @@ pub const VERBS: &[&Verb] = &[
     &worth::VERB,
     &judge::VERB,
     &search::VERB,
+    &index::VERB,
     &turn::VERB,
     &rollout::VERB,
     &report::VERB,
@@ -30,7 +32,8 @@ pub struct Verb {
     pub name: &'static str,
     /// What stands after it.
     pub arguments: &'static str,
-    /// Its own options beside `--tsv` and `--help`, with what stands after each.
+    /// Its own options beside `--tsv` and `--help`, with what stands after each, if
+    /// anything does.
     pub options: &'static [(&'static str, &'static str)],
     pub files: &'static Holding,
     /// What it does; the verb stands before this.
@@ -51,7 +54,7 @@ impl Verb {
     pub fn usage(&self) -> String {
         let options = self.options.iter();
         let options: String = options
-            .map(|(name, value)| format!("[{name} {value}] "))
+            .map(|(name, value)| format!("[{}] ", format!("{name} {value}").trim_end()))
             .collect();
         let files = self.files.usage;
         format!("desk {} {options}[--tsv] {files}", self.call())

@@ -1,7 +1,9 @@
 //! `search MARGIN`: the worth and a play to within a margin, or as far as a budget of
-//! leaf reads goes.
+//! leaf reads goes; with the index of ends, if that is asked for.
 
-use margin_engine::{Found, Play, Refusal, Table, read, search, search_within};
+use margin_engine::{
+    Found, Play, Refusal, Table, index, read, search, search_indexed, search_within,
+};
 
 use super::{Answer, Played, Question, Verb};
 use crate::help::MARGINS;
@@ -12,13 +14,16 @@ use crate::output::{Amount, Page, Sheet};
 /// The option that names the budget.
 const BUDGET: &str = "--budget";
 
+/// The option that asks for the index.
+const INDEX: &str = "--index";
+
 /// The refusal of a budget.
 const BAD_BUDGET: u8 = 17;
 
 pub const VERB: Verb = Verb {
     name: "search",
     arguments: "MARGIN",
-    options: &[(BUDGET, "N")],
+    options: &[(BUDGET, "N"), (INDEX, "")],
     files: &TABLE,
     does: "finds the worth and a play to within a margin",
     more: &[
@@ -41,30 +46,57 @@ at least low at an M root, at most high at an N root, but the margin need not be
 kept. A play that the search comes to when no read is left counts with the two
 ends as its bounds, and may be the one named.
 ",
+        "\
+With --index the lowest and the highest utility under each line are found first
+(`desk index` lists them), and what is unread under a line counts at these two
+ends of its own, not at the table's. Fewer leaves of most tables are read then, and
+the margin is kept. The answer is the same whatever the others are, provided that
+the index is. There is no budget for this search.
+",
         MARGINS,
     ],
     ask: |mut words| {
         let margin = words.margin()?;
-        let budget = words.number_after(BUDGET)?;
-        words.about_table(Asked { margin, budget })
+        let how = match (words.number_after(BUDGET)?, words.has(INDEX)) {
+            (Some(_), true) => {
+                return Err(format!(
+                    "{BUDGET} does not go with {INDEX}: the search with an index has no budget"
+                ));
+            }
+            (Some(budget), false) => How::Within(budget),
+            (None, true) => How::Indexed,
+            (None, false) => How::Plain,
+        };
+        words.about_table(Asked { margin, how })
     },
 };
 
 struct Asked {
     margin: Margin,
-    budget: Option<Number>,
+    how: How,
+}
+
+/// Which search is asked for.
+pub enum How {
+    Plain,
+    /// With at most so many leaves read.
+    Within(Number),
+    /// With the table's index.
+    Indexed,
 }
 
 impl Question for Asked {
     fn answer(&self, text: &[u8]) -> Result<Box<dyn Answer>, Refusal> {
         let table = read(text)?;
-        let budget = self.budget.as_ref().map(|budget| budget.value);
-        Ok(Box::new(Searched::to(&self.margin, budget, text, &table)?))
+        let searched = Searched::to(&self.margin, &self.how, text, &table)?;
+        Ok(Box::new(searched))
     }
 
     fn given(&self, refusal: &Refusal, table: &Table) -> String {
-        match &self.budget {
-            Some(budget) if refusal.number == BAD_BUDGET => format!("{} was given", budget.word),
+        match &self.how {
+            How::Within(budget) if refusal.number == BAD_BUDGET => {
+                format!("{} was given", budget.word)
+            }
             _ => given(&self.margin, table),
         }
     }
@@ -85,6 +117,8 @@ pub struct Searched {
     pub margin: i64,
     /// How many leaves it was to read at most, if that was said.
     budget: Option<i64>,
+    /// The lowest and the highest utility, where the index was used.
+    utilities: Option<(i64, i64)>,
     pub found: Found,
     played: Played,
     /// The table's leaves.
@@ -92,17 +126,23 @@ pub struct Searched {
 }
 
 impl Searched {
-    /// Searches a table to this margin, within this budget if there is one.
-    pub fn to(
-        margin: &Margin,
-        budget: Option<i64>,
-        text: &[u8],
-        table: &Table,
-    ) -> Result<Searched, Refusal> {
+    /// Searches a table to this margin.
+    pub fn to(margin: &Margin, how: &How, text: &[u8], table: &Table) -> Result<Searched, Refusal> {
         let margin = margin.grains(table.per_point);
-        let found = match budget {
-            Some(budget) => search_within(text, margin, budget)?,
-            None => search(text, margin)?,
+        let (mut budget, mut utilities) = (None, None);
+        let found = match how {
+            How::Plain => search(text, margin)?,
+            How::Within(most) => {
+                budget = Some(most.value);
+                search_within(text, margin, most.value)?
+            }
+            How::Indexed => {
+                let index = index(text)?;
+                // A leaf has no entry.
+                let lone = table.nodes[0].utility.map(|utility| (utility, utility));
+                utilities = lone.or(Some((index.lows[0], index.highs[0])));
+                search_indexed(text, margin, &index)?
+            }
         };
         let mut played = Played::of(found.play, table, "none: a budget of 0 reads no leaf");
         if let Play::Child { node, .. } = found.play {
@@ -115,6 +155,7 @@ impl Searched {
         Ok(Searched {
             margin,
             budget,
+            utilities,
             played,
             found,
             leaves: table.leaves,
@@ -137,6 +178,9 @@ impl Searched {
             };
             page.named("budget", format_args!("{budget} {leaves}, {spent}"));
         }
+        if let Some((lowest, highest)) = self.utilities {
+            page.named("index", format_args!("utilities {lowest} to {highest}"));
+        }
         page.amount("low", self.amount(self.found.low));
         page.amount("high", self.amount(self.found.high));
         if self.budget.is_some() {
@@ -151,6 +195,9 @@ impl Searched {
         sheet.amount("margin", self.amount(self.margin));
         if let Some(budget) = self.budget {
             sheet.row("budget", &[&budget, &u8::from(self.found.spent)]);
+        }
+        if let Some((lowest, highest)) = &self.utilities {
+            sheet.row("index", &[lowest, highest]);
         }
         sheet.amount("low", self.amount(self.found.low));
         sheet.amount("high", self.amount(self.found.high));

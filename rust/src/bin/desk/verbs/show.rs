@@ -4,7 +4,7 @@ use std::fmt::Display;
 
 use margin_engine::{Kind, Play, Refusal, Table, read};
 
-use super::search::{Searched, given};
+use super::search::{How, Searched, given};
 use super::{Answer, Question, Verb};
 use crate::grid::{Cell, Row, lay};
 use crate::help::MARGINS;
@@ -48,7 +48,7 @@ impl Question for Asked {
     fn answer(&self, text: &[u8]) -> Result<Box<dyn Answer>, Refusal> {
         let table = read(text)?;
         let margin = self.margin.as_ref();
-        let searched = margin.map(|margin| Searched::to(margin, None, text, &table));
+        let searched = margin.map(|margin| Searched::to(margin, &How::Plain, text, &table));
         Ok(Box::new(Drawn {
             searched: searched.transpose()?,
             worths: worths(text, &table),
