@@ -161,6 +161,31 @@ static void searching_within(void) {
     SAME(3, leaves, 2, 3, 5);
 }
 
+/* Under the N of A stand 3 and 5, 2 and 9: once leaf 2 is read, the first is known to be 3, so that leaf 3 is not. B has another index. */
+static void indexing(void) {
+    int64_t numbers[8], lows[8], highs[8];
+    uint16_t leaves[5];
+    memset(numbers, 0xff, sizeof numbers);
+    memset(lows, 0xff, sizeof lows);
+    memset(highs, 0xff, sizeof highs);
+    memset(leaves, 0xff, sizeof leaves);
+    returned("margin_index in a short list", margin_index(a, a_len, lows, 8, highs, 6), 11);
+    SAME(0, lows, 0);
+    SAME(0, highs, 0);
+    returned("margin_index", margin_index(a, a_len, lows, 8, highs, 8), 0);
+    SAME(7, lows, 2, 3, -1, -1, 2, -1, -1);
+    SAME(7, highs, 9, 5, -1, -1, 9, -1, -1);
+    returned("margin_search_indexed of another table", margin_search_indexed(b, b_len, 0, lows, 8, highs, 8, leaves, 5, numbers, 8), 22);
+    returned("margin_search_indexed with a short index", margin_search_indexed(a, a_len, -1, lows, 6, highs, 8, leaves, 3, numbers, 8), 22);
+    returned("margin_search_indexed at no margin", margin_search_indexed(a, a_len, -1, lows, 7, highs, 7, leaves, 3, numbers, 8), 12);
+    returned("margin_search_indexed in a short list", margin_search_indexed(a, a_len, 0, lows, 7, highs, 7, leaves, 3, numbers, 8), 11);
+    SAME(0, numbers, 0);
+    SAME(0, leaves, 0);
+    returned("margin_search_indexed", margin_search_indexed(a, a_len, 0, lows, 7, highs, 7, leaves, 5, numbers, 8), 0);
+    SAME(7, numbers, 3, 3, 1, 2, 1, 0, 0);
+    SAME(2, leaves, 2, 5);
+}
+
 static void turning(void) {
     static uint8_t turned[MARGIN_MOST_BYTES], twice[MARGIN_MOST_BYTES];
     returned("margin_turn", margin_turn(b, b_len, turned, sizeof turned), 0);
@@ -239,6 +264,7 @@ int main(int argc, char **argv) {
     searching();
     searching_within();
     ties_broken();
+    indexing();
     turning();
     rollouts();
     report();
