@@ -14,15 +14,15 @@ use compare::hold::tally::{Tally, OF_TABLES};
 use compare::hold::{code, span};
 use compare::random::{number_from_environment, Random};
 use compare::second::{
-    self, root_children, Bounds, Entry, Mark, Refusal, Stop, Table, GREATEST_BUDGET, MARKS,
+    self, root_children, Bounds, Entry, Kind, Mark, Refusal, Stop, Table, GREATEST_BUDGET, MARKS,
     PLAY_LINE,
 };
-use compare::texts::examples::{dotted, escaped, TABLE_A};
+use compare::texts::examples::{dotted, escaped, table_b_with, TABLE_A, TABLE_B};
 use compare::texts::knobs::Knobs;
 use compare::texts::matches::chosen::chosen;
 use compare::texts::matches::NO_SCALES;
 use compare::texts::{self, matches};
-use margin_engine as package;
+use margin_engine::{self as package, Index};
 
 /// What both say of one question: an answer, or the refusal's number, line and
 /// position.
@@ -87,6 +87,19 @@ fn found(table: &Table, margin: i64, budget: Option<i64>) -> Result<Found, Refus
         None => second::search(table, margin, &mut leaves)?,
         Some(budget) => second::search_within(table, margin, budget, &mut leaves)?,
     };
+    Ok(told(table, found, &leaves))
+}
+
+/// With this index.
+fn found_with(table: &Table, margin: i64, index: &Index) -> Result<Found, Refusal> {
+    let mut leaves = vec![0; table.leaves];
+    let index = (&index.lows[..], &index.highs[..]);
+    let found = second::search_indexed(table, margin, index, &mut leaves)?;
+    Ok(told(table, found, &leaves))
+}
+
+/// An answer and the leaf list.
+fn told(table: &Table, found: second::Found, leaves: &[u16]) -> Found {
     let play = match found.play {
         None => package::Play::None,
         Some(node) => {
@@ -99,7 +112,15 @@ fn found(table: &Table, margin: i64, budget: Option<i64>) -> Result<Found, Refus
     let read = leaves[..found.read].iter();
     let read = read.map(|&leaf| usize::from(leaf)).collect();
     let bounds = [found.low, found.high, found.high - found.low];
-    Ok((bounds, play, read, found.spent, table.grains))
+    (bounds, play, read, found.spent, table.grains)
+}
+
+/// The table's index, with 0 for leaves.
+fn index_of(table: &Table) -> Index {
+    let mut lows = vec![0; table.nodes.len()];
+    let mut highs = lows.clone();
+    second::index(table, &mut lows, &mut highs).expect("room for every node");
+    Index { lows, highs }
 }
 
 fn package_found(found: package::Found) -> Found {
@@ -140,6 +161,8 @@ fn turned(text: &[u8]) -> Result<Vec<u8>, Refusal> {
 
 /// What is asked about a text.
 struct Questions {
+    /// The index to search with.
+    index: Index,
     number: i64,
     margin: i64,
     budget: i64,
@@ -148,8 +171,9 @@ struct Questions {
 
 /// Asks both about a text. Returns what each call was answered, as the proved engine
 /// would return it.
-fn hold(text: &[u8], questions: &Questions, place: &str) -> [u64; 7] {
+fn hold(text: &[u8], questions: &Questions, place: &str) -> [u64; 9] {
     let Questions {
+        ref index,
         number,
         margin,
         budget,
@@ -192,6 +216,16 @@ fn hold(text: &[u8], questions: &Questions, place: &str) -> [u64; 7] {
     let call = format!("search_within {margin}, {budget}");
     assert_eq!(typed(said), second(expected), "{}", with(&call));
 
+    let expected = table.as_ref().map(index_of).map_err(|refusal| *refusal);
+    let said = typed(package::index(text));
+    assert_eq!(said, second(expected), "{}", with("index"));
+
+    let expected = table.clone();
+    let expected = expected.and_then(|table| found_with(&table, margin, index));
+    let said = package::search_indexed(text, margin, index).map(package_found);
+    let call = format!("search_indexed {margin}, {index:?}");
+    assert_eq!(typed(said), second(expected), "{}", with(&call));
+
     let said = package::turn(text).map(|turned| turned.text);
     assert_eq!(typed(said), second(turned(text)), "{}", with("turn"));
 
@@ -212,9 +246,45 @@ fn hold(text: &[u8], questions: &Questions, place: &str) -> [u64; 7] {
         ask(&|table| second::judge(table, number).map(|_| ())),
         ask(&|table| found(table, margin, None).map(|_| ())),
         ask(&|table| within(table).map(|_| ())),
+        code(&table),
+        ask(&|table| found_with(table, margin, index).map(|_| ())),
         code(&turned(text)),
         ask(&|table| rolled(table, policy).map(|_| ())),
     ]
+}
+
+/// An index for a table: mostly its own, sometimes one that is not, in whatever way, or
+/// one of which only what is not compared is otherwise.
+fn some_index(table: Option<&Table>, random: &mut Random) -> (Index, &'static str) {
+    let none = Index {
+        lows: vec![],
+        highs: vec![],
+    };
+    let mut index = table.map_or(none, index_of);
+    let count = index.lows.len();
+    let sort = random.pick(&["own", "own", "short", "long", "of leaves", "changed"]);
+    let list = match random.below(2) {
+        0 => &mut index.lows,
+        _ => &mut index.highs,
+    };
+    let is_leaf = |node: usize| table.is_some_and(|table| table.nodes[node].kind == Kind::Leaf);
+    match sort {
+        "short" => list.truncate(random.below(count.max(1))),
+        "long" => list.extend([i64::MIN, 7]),
+        "of leaves" => {
+            for node in (0..count).filter(|&node| is_leaf(node)) {
+                list[node] = random.pick(&[-1, i64::MIN, i64::MAX]);
+            }
+        }
+        "changed" => {
+            let inner: Vec<usize> = (0..count).filter(|&node| !is_leaf(node)).collect();
+            if !inner.is_empty() {
+                list[random.pick(&inner)] += random.pick(&[-1, 1]);
+            }
+        }
+        _ => {}
+    }
+    (index, sort)
 }
 
 #[test]
@@ -244,7 +314,9 @@ fn typed_calls() {
             _ => random.between(0, leaves + 1),
         };
         let policy = (0..random.below(40)).map(|_| random.bits() as u8).collect();
+        let (index, sort) = some_index(table.as_ref(), &mut random);
         let questions = Questions {
+            index,
             number,
             margin,
             budget,
@@ -258,6 +330,25 @@ fn typed_calls() {
                 let here = within.as_ref().is_ok_and(|found| found.3 == spent);
                 seen.count(&format!("a budget {sort}"), here);
             }
+            let with = found_with(table, margin, &questions.index);
+            let refused = with.as_ref().err().map(|refusal| refusal.number);
+            for one in ["own", "long", "of leaves"] {
+                assert!(sort != one || refused != Some(22), "{sort}");
+                seen.count(&format!("an index, {one}"), sort == one && with.is_ok());
+            }
+            for one in ["short", "changed"] {
+                seen.count(
+                    &format!("an index, {one}"),
+                    sort == one && refused == Some(22),
+                );
+            }
+            let plain = found(table, margin, None);
+            let fewer = |with: &Found| {
+                plain
+                    .as_ref()
+                    .is_ok_and(|plain| with.2.len() < plain.2.len())
+            };
+            seen.count("fewer leaves with an index", with.as_ref().is_ok_and(fewer));
             seen.count_root(&ROOTS, table);
             seen.count_table(table);
             seen.count_chances(table);
@@ -270,7 +361,7 @@ fn typed_calls() {
     tally.report();
     seen.demand(20);
     tally.demand_refusals(&OF_TABLES);
-    tally.demand_refusals(&[12, 13, 14, 17, 18]);
+    tally.demand_refusals(&[12, 13, 14, 17, 18, 22]);
 }
 
 /// The example of a first roll: fifteen rolls of weight 1, three plays after each, and
@@ -295,6 +386,7 @@ fn the_example_of_two_totals() {
     let place = "the example of a first roll";
     let codes = [&text, &turned].map(|text| {
         let questions = Questions {
+            index: index_of(&second::read(text).expect("accepted")),
             number: 1,
             margin: 50 * 540,
             budget: 500,
@@ -302,7 +394,7 @@ fn the_example_of_two_totals() {
         };
         hold(text, &questions, place)
     });
-    assert_eq!(codes, [[0, 0, 0, 0, 0, 0, 13]; 2]);
+    assert_eq!(codes, [[0, 0, 0, 0, 0, 0, 0, 0, 13]; 2]);
 }
 
 // ---------------------------------------------------------------------------
@@ -495,6 +587,33 @@ fn words_of_refused_searches() {
             one_line_each(refusal);
         }
     }
+}
+
+/// An index that is refused is at no line, comes before the margin, and after a table
+/// that is refused.
+#[test]
+fn words_of_refused_indexes() {
+    let [a, b] = [TABLE_A, TABLE_B].map(dotted);
+    let index = package::index(&a).expect("accepted");
+    let mut short = index.clone();
+    short.highs.pop();
+    for (text, index) in [(&b, &index), (&a, &short)] {
+        for margin in [0, -1] {
+            let refusal = package::search_indexed(text, margin, index);
+            let refusal = refusal.expect_err("no index of this table");
+            let (line, position) = (refusal.line, refusal.position);
+            assert_eq!((refusal.number, line, position), (22, 0, 0));
+            let shown = format!("refused 22: {}", refusal.reason());
+            assert_eq!(refusal.to_string(), shown);
+            assert_eq!(refusal.mend(), "build the index from this very text again");
+            one_line_each(refusal);
+        }
+    }
+    let light = table_b_with(4, "...3.L....2....2.......2");
+    let refusal = package::search_indexed(&light, -1, &short).expect_err("no table");
+    assert_eq!((refusal.number, refusal.line), (9, 3));
+    let refusal = package::search_indexed(&a, -1, &index).expect_err("no margin");
+    assert_eq!((refusal.number, refusal.line), (12, 0));
 }
 
 /// Every refusal has words of its own, one line each, and says where it is.
