@@ -9,7 +9,7 @@ use std::time::Duration;
 
 use compare::hold;
 use compare::hold::desk::Question::{
-    Judge, Rollout, Search, SearchWithin, Show, ShowTo, Turn, Worth,
+    Index, Judge, Rollout, Search, SearchIndexed, SearchWithin, Show, ShowTo, Turn, Worth,
 };
 use compare::hold::desk::*;
 use compare::hold::rolling::policies;
@@ -22,14 +22,17 @@ use compare::texts;
 use compare::texts::examples::*;
 use compare::texts::knobs::{Kinds, Knobs};
 
-const EXAMPLES: [&str; 8] = [
+const EXAMPLES: [&str; 11] = [
     "a",
     "b",
     "level",
     "opening",
+    "bar",
     "bear-off",
+    "decided",
     "race",
     "replies",
+    "holding",
     "first-roll",
 ];
 
@@ -59,10 +62,11 @@ fn every_verb_on_the_examples() {
         let table = second::read(&text).expect("accepted");
         let children = root_children(&table) as i64;
         assert!(children >= 2, "{name}: one child");
-        let mut questions = vec![Show, Worth, Turn];
+        let mut questions = vec![Show, Worth, Index, Turn];
         questions.extend((1..=children).map(Judge));
         for margin in MARGINS {
             questions.push(Search(margin.to_string()));
+            questions.push(SearchIndexed(margin.to_string()));
             questions.push(ShowTo(margin.to_string()));
         }
         questions.extend(BUDGETS.map(|budget| within("0.05", budget)));
@@ -79,7 +83,7 @@ fn every_verb_on_the_examples() {
             comparison.answered(question, &text, way);
         }
     }
-    comparison.demand(300);
+    comparison.demand(500);
     let rollouts = EXAMPLES.map(|name| second::read(&example(name).1).expect("accepted").chances);
     assert!(rollouts.contains(&0), "no example was rolled out");
 }
@@ -96,6 +100,8 @@ fn every_verb_by_every_way() {
         Judge(2),
         Search("1".to_string()),
         within("1", "2"),
+        SearchIndexed("1".to_string()),
+        Index,
         Turn,
         Rollout(Vec::new()),
         Rollout(vec![2, 0, 1]),
@@ -105,7 +111,7 @@ fn every_verb_by_every_way() {
             comparison.answered(question, &text, way);
         }
     }
-    comparison.demand(54);
+    comparison.demand(66);
 }
 
 const FORCED_JUDGED: &str = "\
@@ -267,6 +273,27 @@ leaf    2 3 5 7 8
 grain   12g to the point
 ";
 
+const TWO_TOTALS_INDEX: &str = "\
+ends    0 and 8
+
+node  kind  lowest  highest
+   0  M          2        8
+   1  C          2        8
+   4  C          3        7
+   6  C          3        7
+";
+
+const TWO_TOTALS_SEARCHED_INDEXED: &str = "\
+margin  1.000 points (12g)
+index   utilities 2 to 8
+low     4.000 points (48g)
+high    4.667 points (56g)
+play    2, node 4
+leaves  4 of 5 read
+leaf    2 3 5 7
+grain   12g to the point
+";
+
 /// A table with two totals, by the words and the fields that are printed: every verb.
 #[test]
 fn two_totals_by_the_words_printed() {
@@ -281,6 +308,12 @@ fn two_totals_by_the_words_printed() {
         (Worth, Form::People, TWO_TOTALS_WORTH),
         (Judge(1), Form::People, TWO_TOTALS_JUDGED),
         (Search("0".to_string()), Form::People, TWO_TOTALS_SEARCHED),
+        (Index, Form::People, TWO_TOTALS_INDEX),
+        (
+            SearchIndexed("1".to_string()),
+            Form::People,
+            TWO_TOTALS_SEARCHED_INDEXED,
+        ),
     ];
     for (question, form, words) in printed {
         let answer = question.answer(&text, form).expect("an answer");
@@ -290,8 +323,9 @@ fn two_totals_by_the_words_printed() {
 
     let mut comparison = Comparison::new("desk on two totals");
     for text in [text, dotted(TWO_TOTALS_TURNED)] {
-        let mut questions = vec![Show, Worth, Turn, Judge(1), Judge(2)];
+        let mut questions = vec![Show, Worth, Index, Turn, Judge(1), Judge(2)];
         questions.extend(MARGINS.map(|margin| Search(margin.to_string())));
+        questions.extend(MARGINS.map(|margin| SearchIndexed(margin.to_string())));
         questions.extend(MARGINS.map(|margin| ShowTo(margin.to_string())));
         questions.extend(BUDGETS.map(|budget| within("0", budget)));
         for question in &questions {
@@ -303,7 +337,7 @@ fn two_totals_by_the_words_printed() {
             assert_eq!(refused.map_err(|refusal| refusal.number), Err(13));
         }
     }
-    comparison.demand(120);
+    comparison.demand(160);
 }
 
 /// A random margin as it may be written, for a table of this span.
@@ -347,11 +381,13 @@ fn random_budget(table: &Table, random: &mut Random) -> String {
 }
 
 fn random_question(table: &Table, random: &mut Random) -> Question {
-    match random.below(9) {
+    match random.below(11) {
         8 => {
             let margin = random_margin(table, random);
             SearchWithin(margin, random_budget(table, random))
         }
+        9 => SearchIndexed(random_margin(table, random)),
+        10 => Index,
         0 => Worth,
         1 => Judge(random_number(table, random)),
         2 => Search(random_margin(table, random)),
@@ -363,9 +399,10 @@ fn random_question(table: &Table, random: &mut Random) -> Question {
         }
         5 => Show,
         6 => ShowTo(random_margin(table, random)),
-        _ => match random.below(4) {
+        _ => match random.below(5) {
             0 => Judge(random.pick(&[0, -1, 1_024, i64::MAX, i64::MIN])),
             1 => Search("-1g".to_string()),
+            4 => SearchIndexed("-1g".to_string()),
             2 => Search("40000000000000g".to_string()),
             _ => ShowTo(format!("{}g", random.between(-2, 2))),
         },
@@ -709,6 +746,115 @@ fn spent_field(answer: &str) -> Option<&str> {
     fields.split('\t').nth(1)
 }
 
+// ---------------------------------------------------------------------------
+// The index of ends
+// ---------------------------------------------------------------------------
+
+const INDEX_IN_FIELDS: &str = "\
+lowest\t0
+highest\t10
+entry\t0\tM\t2\t9
+entry\t1\tN\t3\t5
+entry\t4\tN\t2\t9
+";
+
+const INDEXED_IN_FIELDS: &str = "\
+margin\t0\t0.000
+index\t2\t9
+low\t3\t3.000
+high\t3\t3.000
+play\t1\t1
+leaves\t4
+read\t2
+leaf\t2
+leaf\t5
+grain\t1
+";
+
+const LONE_LEAF_INDEXED: &str = "\
+margin  0.000 points (0g)
+index   utilities 7 to 7
+low     7.000 points (7g)
+high    7.000 points (7g)
+play    none: nobody chooses at an L root
+leaves  1 of 1 read
+leaf    0
+grain   1g to the point
+";
+
+/// The index, and searches with it, by the words and the fields that are printed; those of
+/// table A for people stand in the description.
+#[test]
+fn index_by_the_words_printed() {
+    let (_, a) = example("a");
+    let leaf = dotted(LONE_LEAF);
+    let indexed = || SearchIndexed("0".to_string());
+    let printed = [
+        (&a, Index, Form::Tsv, INDEX_IN_FIELDS),
+        (&a, indexed(), Form::Tsv, INDEXED_IN_FIELDS),
+        (&leaf, Index, Form::People, "ends    7 and 7\n"),
+        (&leaf, Index, Form::Tsv, "lowest\t7\nhighest\t7\n"),
+        (&leaf, indexed(), Form::People, LONE_LEAF_INDEXED),
+    ];
+    for (text, question, form, words) in printed {
+        let answer = question.answer(text, form).expect("an answer");
+        assert_eq!(answer, words, "{question:?}");
+        ask(question.words(), text, form, Way::Input, 0).answers(words);
+    }
+}
+
+/// Tables of every sort, searched with their index. It also fails where the answers were
+/// too much alike to mean anything.
+#[test]
+fn random_indexes() {
+    let mut comparison = Comparison::new("desk on random indexes");
+    let mut seen = Seen::default();
+    for number in 0..360 {
+        let random = &mut Random::of_case(comparison.tally.seed, number);
+        let text = random_text(number, random);
+        let table = second::read(&text).expect("valid");
+        let margin = match random.below(12) {
+            0 => "-1".to_string(),
+            _ => random_margin(&table, random),
+        };
+        for form in FORMS {
+            let listed = comparison.hold(&Index, &text, form, Way::Input);
+            let listed = listed.expect("an answer");
+            let entries = match form {
+                Form::People => listed.lines().count().saturating_sub(3),
+                Form::Tsv => listed.lines().count() - 2,
+            };
+            assert_eq!(entries, table.nodes.len() - table.leaves);
+            seen.count("no entry", entries == 0);
+            seen.count("some entries", entries > 1);
+
+            let question = SearchIndexed(margin.clone());
+            let answer = comparison.hold(&question, &text, form, Way::Input);
+            let plain = Search(margin.clone()).answer(&text, form);
+            let refused = answer.as_ref().err().map(|refusal| refusal.number);
+            seen.count(&format!("refused 12 for {form:?}"), refused == Some(12));
+            let read = |answer: &str| {
+                let start = match form {
+                    Form::People => "leaves  ",
+                    Form::Tsv => "read\t",
+                };
+                let line = answer.lines().find_map(|line| line.strip_prefix(start));
+                let count = line.and_then(|line| line.split(' ').next());
+                count.and_then(|count| count.parse::<usize>().ok())
+            };
+            if let (Ok(answer), Ok(plain)) = (&answer, &plain) {
+                let (with, without) = (read(answer), read(plain));
+                seen.count(&format!("fewer leaves for {form:?}"), with < without);
+                seen.count("no play at a C or L", answer.contains("none: nobody"));
+                seen.count("a play", answer.contains("\nplay    1, node 1\n"));
+            }
+        }
+        seen.count_root(&ROOTS, &table);
+    }
+    comparison.demand(1_440);
+    seen.demand(5);
+}
+
 /// Rollouts of random tables without C, by several policies.
 #[test]
 fn rollouts() {
@@ -949,6 +1095,8 @@ fn examples_in_the_description() {
         ("ties", Search("3".to_string()), "search 3"),
         ("a", within("0", "2"), "search --budget 2 0"),
         ("a", within("0", "1"), "search --budget 1 0"),
+        ("a", SearchIndexed("0".to_string()), "search --index 0"),
+        ("a", Index, "index"),
         ("a", Rollout(Vec::new()), "rollout"),
         ("b", Show, "show"),
         ("b", ShowTo("3".to_string()), "show --margin 3"),

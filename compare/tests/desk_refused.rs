@@ -7,7 +7,7 @@ use std::fs;
 use std::ops::RangeInclusive;
 use std::time::{Duration, Instant};
 
-use compare::hold::desk::Question::{Judge, Rollout, Search, SearchWithin, ShowTo};
+use compare::hold::desk::Question::{Judge, Rollout, Search, SearchIndexed, SearchWithin, ShowTo};
 use compare::hold::desk::*;
 use compare::hold::seen::Seen;
 use compare::hold::tally::{Tally, OF_GRAINS, OF_TABLES};
@@ -278,9 +278,10 @@ fn other_texts() -> Vec<Bad> {
 fn refused_tables() {
     let mut tally = Tally::new("desk on refused tables");
     // A table is refused before a margin, a budget or a number.
-    let numbers: [&[&str]; 3] = [
+    let numbers: [&[&str]; 4] = [
         &["search", "-1"],
         &["search", "--budget", "-1", "0"],
+        &["search", "--index", "-1"],
         &["judge", "0"],
     ];
     let verbs = [OF_A_TABLE, &numbers].concat();
@@ -547,6 +548,7 @@ fn reasons_in_words() {
 
     let b = || dotted(TABLE_B);
     Said::new(b(), "-0.1 is -1g", "range").hold(&["search", "-0.1"]);
+    Said::new(b(), "-0.1 is -1g", "range").hold(&["search", "--index", "-0.1"]);
     let great = "99999999999999999999";
     let given = format!("{great} was given");
     Said::new(b(), &given, "range").hold(&["show", "--margin", great]);
@@ -575,6 +577,8 @@ fn refused_calls() {
         (12, &b, Search("-1".to_string())),
         (12, &b, ShowTo("-0.25".to_string())),
         (12, &chance, Search("40000000000001g".to_string())),
+        (12, &b, SearchIndexed("-1".to_string())),
+        (12, &turned, SearchIndexed("40000000000001g".to_string())),
         (12, &turned, ShowTo("10000000000001".to_string())),
         (13, &b, Rollout(Vec::new())),
         (13, &b, Rollout(vec![2, 0, 1])),
@@ -615,7 +619,7 @@ fn refused_calls() {
             comparison.answered(&Judge(number), &text, Way::Input);
         }
     }
-    comparison.demand(48);
+    comparison.demand(52);
     for number in [12, 13, 14, 17] {
         assert!(comparison.tally.counts[number] >= 6, "refusal {number}");
     }

@@ -25,8 +25,10 @@ fn options_anywhere() {
     let worth = desk::worth(&table, Form::Tsv);
     let search = desk::search(&table, 12, None, Form::Tsv).expect("an answer");
     let within = desk::search(&table, 0, Some(1), Form::Tsv).expect("an answer");
+    let indexed = desk::search_indexed(&table, 0, Form::Tsv).expect("an answer");
+    let index = desk::index(&table, Form::Tsv);
     let show = desk::show(&table, Some(12), Form::Tsv).expect("an answer");
-    let lines: [(&str, &str); 25] = [
+    let lines: [(&str, &str); 34] = [
         ("worth --tsv F", &worth),
         ("worth F --tsv", &worth),
         ("worth --tsv -- F", &worth),
@@ -46,6 +48,15 @@ fn options_anywhere() {
         ("search --tsv --budget 2 --budget 1 0 F", &within),
         ("search --tsv --budget 2000 0 F --budget=1", &within),
         ("search --tsv --budget=-1 0 --budget 1 F", &within),
+        ("search --tsv --index 0 F", &indexed),
+        ("search --index --tsv 0 F", &indexed),
+        ("search 0 --index F --tsv", &indexed),
+        ("search --tsv 0 F --index", &indexed),
+        ("search --tsv --index -- 0 F", &indexed),
+        ("search --index --tsv --index 0g F", &indexed),
+        ("index --tsv F", &index),
+        ("index F --tsv", &index),
+        ("index --tsv -- F", &index),
         ("show --tsv --margin 3 F", &show),
         ("show --margin 3 --tsv F", &show),
         ("show --margin 12g F --tsv", &show),
@@ -177,6 +188,32 @@ fn wrong_usage() {
         "search --budgets 2 3 F",
         "search --budget 2000 x F",
         "search --budget 2 3 F F",
+        "search --index",
+        "search --index F",
+        "search 3 --index x F",
+        "search --index= 3 F",
+        "search --index=1 3 F",
+        "search --index 3 F F",
+        "search --indexes 3 F",
+        "search --index --budget 2 3 F",
+        "search --budget 2 --index 3 F",
+        "search --budget=2 3 F --index",
+        "search --index --budget 2000 3 F",
+        "search --index --budget x 3 F",
+        "search -- --index 3 F",
+        "index F F",
+        "index 3 F",
+        "index --index F",
+        "index --margin 3 F",
+        "index --budget 2 F",
+        "index --scale 1 F",
+        "show --index F",
+        "show --margin 3 --index F",
+        "worth --index F",
+        "judge 1 --index F",
+        "turn --index F",
+        "rollout --index F",
+        "report --index F",
         "show --budget 2 F",
         "show --margin 3 --budget 2 F",
         "worth --budget 2 F",
@@ -247,6 +284,20 @@ fn wrong_usage() {
     }
 }
 
+/// There is no budget for the search with an index, which is said in so many words.
+#[test]
+fn no_budget_with_an_index() {
+    for options in [["--index", "--budget=2"], ["--budget=2000", "--index"]] {
+        let ran = run(
+            &["search", options[0], options[1], "0", "examples/a.txt"],
+            &[],
+        );
+        let said = ran.fails();
+        let plainly = "--budget does not go with --index: the search with an index has no budget";
+        assert!(said.contains(plainly), "{said}");
+    }
+}
+
 #[test]
 fn help() {
     let helped = |arguments: &[&str]| {
@@ -256,7 +307,10 @@ fn help() {
         ran.out
     };
     assert!(helped(&["help", "report"]).contains("--scale"));
-    assert!(helped(&["help", "search"]).contains("--budget"));
+    for option in ["--budget N", "--index"] {
+        let usage = format!("[{option}]");
+        assert!(helped(&["help", "search"]).contains(&usage), "{usage}");
+    }
     let all = helped(&["help"]);
     for verb in VERBS {
         assert!(all.contains(verb[0]), "desk help does not name {}", verb[0]);

@@ -19,15 +19,16 @@ pub use run::*;
 pub use tables::*;
 
 /// The verbs, with what they need before the file.
-pub const VERBS: [&[&str]; 7] = [
+pub const VERBS: [&[&str]; 8] = [
     &["show"],
     &["worth"],
     &["judge", "1"],
     &["search", "0"],
+    &["index"],
     &["turn"],
     &["rollout"],
     &["report"],
 ];
 
 /// The verbs that ask about a table; the last asks about a match.
-pub const OF_A_TABLE: &[&[&str]] = VERBS.split_at(6).0;
+pub const OF_A_TABLE: &[&[&str]] = VERBS.split_at(7).0;

@@ -5,7 +5,9 @@ use crate::hold;
 use crate::hold::tally::Tally;
 use crate::second::desk::{self, Form, FORMS};
 use crate::second::{self, Refusal};
-use Question::{Judge, Rollout, Search, SearchWithin, Show, ShowTo, Turn, Worth};
+use Question::{
+    Index, Judge, Rollout, Search, SearchIndexed, SearchWithin, Show, ShowTo, Turn, Worth,
+};
 
 /// A verb and what it is given; margins and budgets as they are written.
 #[derive(Clone, Debug)]
@@ -17,6 +19,9 @@ pub enum Question {
     Search(String),
     /// A margin and a budget.
     SearchWithin(String, String),
+    /// With the table's index.
+    SearchIndexed(String),
+    Index,
     Turn,
     Rollout(Vec<u8>),
 }
@@ -35,6 +40,8 @@ impl Question {
             Judge(number) => words(&["judge", &number.to_string()]),
             Search(margin) => words(&["search", margin]),
             SearchWithin(margin, budget) => words(&["search", "--budget", budget, margin]),
+            SearchIndexed(margin) => words(&["search", "--index", margin]),
+            Index => words(&["index"]),
             Turn => words(&["turn"]),
             Rollout(policy) if policy.is_empty() => words(&["rollout"]),
             Rollout(policy) => {
@@ -57,6 +64,8 @@ impl Question {
                 let budget = whole_number(budget);
                 desk::search(table, grains(margin), Some(budget), form)
             }
+            SearchIndexed(margin) => desk::search_indexed(table, grains(margin), form),
+            Index => Ok(desk::index(table, form)),
             Turn => desk::turn(text, form),
             Rollout(policy) => desk::rollout(table, policy, form),
         }

@@ -49,9 +49,18 @@ struct Searched {
     margin: i64,
     /// None where it is not limited.
     budget: Option<i64>,
+    /// The lowest and the highest utility of all, where the index is used.
+    utilities: Option<(i64, i64)>,
     found: Found,
     /// The leaves read, in reading sequence.
     read: Vec<u16>,
+}
+
+/// A node with children, and the lowest and the highest utility under it.
+struct Entry {
+    node: usize,
+    lowest: i64,
+    highest: i64,
 }
 
 /// What rollouts found.
@@ -106,6 +115,51 @@ pub fn search(
     })
 }
 
+/// Searches to a margin in grains with the table's index.
+pub fn search_indexed(table: &Table, margin: i64, form: Form) -> Result<String, Refusal> {
+    let (lows, highs) = index_of(table);
+    let mut read = vec![0; table.leaves];
+    let found = second::search_indexed(table, margin, (&lows, &highs), &mut read)?;
+    read.truncate(found.read);
+    let utilities = || table.nodes.iter().filter_map(|node| node.utility);
+    let searched = Searched {
+        margin,
+        budget: None,
+        utilities: utilities().min().zip(utilities().max()),
+        found,
+        read,
+    };
+    Ok(match form {
+        Form::People => people::search(table, &searched),
+        Form::Tsv => tsv::search(table, &searched),
+    })
+}
+
+/// Lists the index.
+pub fn index(table: &Table, form: Form) -> String {
+    let (lows, highs) = index_of(table);
+    let nodes = 0..table.nodes.len();
+    let inner = nodes.filter(|&node| table.nodes[node].kind != Kind::Leaf);
+    let entries = inner.map(|node| Entry {
+        node,
+        lowest: lows[node],
+        highest: highs[node],
+    });
+    let entries: Vec<Entry> = entries.collect();
+    match form {
+        Form::People => people::index(table, &entries),
+        Form::Tsv => tsv::index(table, &entries),
+    }
+}
+
+/// The two lists of a table's index.
+fn index_of(table: &Table) -> (Vec<i64>, Vec<i64>) {
+    let mut lows = vec![0; table.nodes.len()];
+    let mut highs = lows.clone();
+    second::index(table, &mut lows, &mut highs).expect("room for every node");
+    (lows, highs)
+}
+
 pub fn turn(text: &[u8], form: Form) -> Result<String, Refusal> {
     let mut turned = vec![0; text.len()];
     second::turn(text, &mut turned)?;
@@ -153,6 +207,7 @@ fn searched(table: &Table, margin: i64, budget: Option<i64>) -> Result<Searched,
     Ok(Searched {
         margin,
         budget,
+        utilities: None,
         found,
         read,
     })

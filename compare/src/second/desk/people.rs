@@ -4,7 +4,7 @@ use std::fmt::Display;
 
 use super::columns::{average, listed, points, side_by_side, Column};
 use super::matches::{word, Reported, Side, Sums};
-use super::{letter, plays, tree, Play, RolledOut, Searched};
+use super::{letter, plays, tree, Entry, Play, RolledOut, Searched};
 use crate::second::{worths, Kind, Table};
 
 /// The columns of a name, the blanks after it included.
@@ -39,6 +39,21 @@ fn forced(only: &Play) -> String {
 
 pub fn search(table: &Table, searched: &Searched) -> String {
     found(table, searched) + &read(&searched.read) + &grain(table)
+}
+
+pub fn index(table: &Table, entries: &[Entry]) -> String {
+    let ends = line("ends", format!("{} and {}", table.lowest, table.highest));
+    if entries.is_empty() {
+        return ends;
+    }
+    let kind = |entry: &Entry| letter(table.nodes[entry.node].kind).to_string();
+    let columns = side_by_side(&[
+        Column::of_numbers("node", entries.iter().map(|entry| entry.node)),
+        Column::of_words("kind", entries.iter().map(kind).collect()),
+        Column::of_numbers("lowest", entries.iter().map(|entry| entry.lowest)),
+        Column::of_numbers("highest", entries.iter().map(|entry| entry.highest)),
+    ]);
+    format!("{ends}\n{columns}")
 }
 
 pub fn rollout(table: &Table, out: &RolledOut) -> String {
@@ -191,11 +206,14 @@ fn counted(number: i64, noun: &str) -> String {
 
 // The lines of several answers
 
-/// The margin and the budget, and what the search found.
+/// The margin and the budget or the index, and what the search found.
 fn found(table: &Table, searched: &Searched) -> String {
     let mut answer = amount("margin", table, searched.margin);
     if let Some(budget) = searched.budget {
         answer += &line("budget", self::budget(budget, searched.found.spent));
+    }
+    if let Some((lowest, highest)) = searched.utilities {
+        answer += &line("index", format!("utilities {lowest} to {highest}"));
     }
     answer += &amount("low", table, searched.found.low);
     answer += &amount("high", table, searched.found.high);

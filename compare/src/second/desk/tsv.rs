@@ -4,7 +4,7 @@ use std::fmt::Display;
 
 use super::columns::{average, listed, points};
 use super::matches::{word, Reported, Side, Sums};
-use super::{letter, plays, Play, RolledOut, Searched};
+use super::{letter, plays, Entry, Play, RolledOut, Searched};
 use crate::second::{worths, Kind, Table};
 
 pub fn worth(table: &Table, worth: i64) -> String {
@@ -25,6 +25,18 @@ pub fn judge(table: &Table, judged: Option<(&Play, usize)>, plays: &[Play]) -> S
 
 pub fn search(table: &Table, searched: &Searched) -> String {
     found(table, searched) + &leaves(table) + &read(&searched.read) + &grain(table)
+}
+
+pub fn index(table: &Table, entries: &[Entry]) -> String {
+    let mut answer = ends(table);
+    for entry in entries {
+        let kind = letter(table.nodes[entry.node].kind);
+        answer += &row(
+            "entry",
+            &[&entry.node, &kind, &entry.lowest, &entry.highest],
+        );
+    }
+    answer
 }
 
 /// The table is the turned one.
@@ -139,11 +151,14 @@ fn marks(side: &Side) -> String {
 
 // The lines of several answers
 
-/// The margin and the budget, the bounds and the play.
+/// The margin and the budget or the index, the bounds and the play.
 fn found(table: &Table, searched: &Searched) -> String {
     let mut answer = row("margin", &[&amount(table, searched.margin)]);
     if let Some(budget) = searched.budget {
         answer += &row("budget", &[&budget, &bit(searched.found.spent)]);
+    }
+    if let Some((lowest, highest)) = searched.utilities {
+        answer += &row("index", &[&lowest, &highest]);
     }
     answer += &row("low", &[&amount(table, searched.found.low)]);
     answer += &row("high", &[&amount(table, searched.found.high)]);
@@ -170,8 +185,12 @@ fn leaves(table: &Table) -> String {
 fn totals_and_ends(table: &Table) -> String {
     let mut rows = row("total", &[&table.total]);
     rows.extend(table.second.map(|second| row("second", &[&second])));
-    rows += &row("lowest", &[&table.lowest]);
-    rows + &row("highest", &[&table.highest])
+    rows + &ends(table)
+}
+
+/// The table's own.
+fn ends(table: &Table) -> String {
+    row("lowest", &[&table.lowest]) + &row("highest", &[&table.highest])
 }
 
 /// How many leaves were read, and each of them.
