@@ -2,14 +2,16 @@
 
 use compare::hold::budget::{self, Asked};
 use compare::hold::desk::{block, root, run};
+use compare::hold::leaves::{self, FROM_PLAY};
 use compare::hold::numbers::ROOM;
-use compare::hold::searching::{hold_to, Expected};
+use compare::hold::searching::Expected;
 use compare::hold::tally::Tally;
 use compare::second::desk::{self, Form, Reported, USUAL_SCALE};
 use compare::second::{self, Table};
 
-/// Margins in points, at the ends that the examples have and at narrow ones.
-const README_MARGINS: [i64; 3] = [0, 50, 100];
+/// Margins in points: at the ends that the examples have, at narrow ones, and with an
+/// index.
+const README_MARGINS: [i64; 4] = [0, 20, 50, 100];
 
 /// The text with its ends drawn to the lowest and the highest utility.
 fn narrowed(text: &[u8], table: &Table) -> Vec<u8> {
@@ -27,17 +29,34 @@ fn narrowed(text: &[u8], table: &Table) -> Vec<u8> {
     narrow
 }
 
-/// The leaves that both engines read, as the README's table writes them.
-fn leaves_read(tally: &mut Tally, text: &[u8], points: [i64; 3]) -> String {
+/// The leaves that both engines read at a margin in points.
+fn leaves_read(text: &[u8], points: i64) -> usize {
     let table = second::read(text).expect("an example is accepted");
-    let counts = points.map(|points| {
-        let margin = points * table.grains;
-        let expected = Expected::of(&Ok(table.clone()), margin, table.leaves);
-        hold_to(tally, text, margin, table.leaves, ROOM, &expected);
-        tally.add(&[0]);
-        expected.leaves.len().to_string()
-    });
-    counts.join(", ")
+    leaves::read(text, points * table.grains)
+}
+
+/// The same with the table's index.
+fn leaves_read_indexed(text: &[u8], points: i64) -> usize {
+    let table = second::read(text).expect("an example is accepted");
+    leaves::read_indexed(text, points * table.grains)
+}
+
+/// Counts as a row of a table writes them.
+fn row(counts: [usize; 4]) -> String {
+    counts.map(in_threes).join(", ")
+}
+
+/// A number below a million, with a comma before its last three digits.
+fn in_threes(number: usize) -> String {
+    match number {
+        0..1_000 => number.to_string(),
+        _ => format!("{},{:03}", number / 1_000, number % 1_000),
+    }
+}
+
+/// The README's words, a blank between two.
+fn words() -> String {
+    readme().split_whitespace().collect::<Vec<_>>().join(" ")
 }
 
 fn readme() -> String {
@@ -85,17 +104,14 @@ fn first_roll() {
     }
     assert_eq!(described.lines().count(), 5, "{described}");
 
-    let mut tally = Tally::new("searching the README's first roll");
-    let read = leaves_read(&mut tally, &text, [0, 0, 0]);
-    let read = read.split(", ").next().expect("a number");
+    let read = leaves_read(&text, 0);
     let worth = second::worth(&table) as f64 / table.grains as f64;
     let said = format!(
         "A point has 15 × 36 = {} grains there, the first roll is worth {worth:.3} points, and \
          {read} of the {} leaves are read to tell that.",
         table.grains, table.leaves
     );
-    let readme = readme().split_whitespace().collect::<Vec<_>>().join(" ");
-    assert!(readme.contains(&said), "{said}");
+    assert!(words().contains(&said), "{said}");
 }
 
 /// The sentence on the leaves read of all rolls at two margins.
@@ -106,33 +122,56 @@ fn all_rolls() {
     assert_eq!(margin, b"           720\n");
     let table = second::read(text).expect("accepted");
     assert_eq!((table.total, table.grains), (36, 36));
-    let mut tally = Tally::new("searching the README's rolls");
-    let read = leaves_read(&mut tally, text, [0, 20, 1_000]);
-    let read: Vec<&str> = read.split(", ").collect();
     let sentence = format!(
         "at margin 0 {} of its {} leaves are read, at 36000 grains {}.",
-        read[0], table.leaves, read[2]
+        leaves_read(text, 0),
+        table.leaves,
+        leaves_read(text, 1_000)
     );
-    let readme = readme();
-    let words: Vec<&str> = readme.split_whitespace().collect();
-    assert!(words.join(" ").contains(&sentence), "{sentence}");
+    assert!(words().contains(&sentence), "{sentence}");
 }
 
 /// The README's rows of leaves read are what the engines read of the examples.
 #[test]
 fn readme_rows() {
     let readme = readme();
-    let mut tally = Tally::new("searching the README's examples");
-    for name in ["opening", "race", "bear-off", "replies"] {
+    let (mut all, mut sums) = (0, [[0; 4]; 3]);
+    for name in FROM_PLAY {
         let file = format!("examples/{name}.txt");
         let text = example(&file);
         let table = second::read(&text).expect("accepted");
-        let wide = leaves_read(&mut tally, &text, README_MARGINS);
-        let narrow = leaves_read(&mut tally, &narrowed(&text, &table), README_MARGINS);
-        let row = format!("({file}) | {} | {wide} | {narrow} |", table.leaves);
+        let narrow = narrowed(&text, &table);
+        let read = [
+            README_MARGINS.map(|points| leaves_read(&text, points)),
+            README_MARGINS.map(|points| leaves_read(&narrow, points)),
+            README_MARGINS.map(|points| leaves_read_indexed(&text, points)),
+        ];
+        let [wide, closer, indexed] = read.map(row);
+        let leaves = table.leaves;
+        let row = format!("({file}) | {leaves} | {wide} | {closer} | {indexed} |");
         assert!(readme.contains(&row), "README.md has no row with {row}");
+
+        let few = read[2].iter().all(|read| 10 * read <= 4 * leaves);
+        assert!(few, "{name}: more than four in ten with an index");
+        if name == "replies" {
+            assert_eq!(read[1][2], read[1][0] + 4, "50 points and 0");
+        }
+        all += leaves;
+        for (sums, read) in sums.iter_mut().zip(read) {
+            for (sum, read) in sums.iter_mut().zip(read) {
+                *sum += read;
+            }
+        }
     }
-    tally.report();
+    let [wide, closer, indexed] = sums.map(row);
+    let row = format!(
+        "| all seven | {} | {wide} | {closer} | {indexed} |",
+        in_threes(all)
+    );
+    assert!(readme.contains(&row), "README.md has no row with {row}");
+    // More than nine in ten at every margin; one in six, to the nearest, at margin 0.
+    assert!(sums[0].iter().all(|read| 10 * read > 9 * all));
+    assert_eq!((2 * all + sums[2][0]) / (2 * sums[2][0]), 6);
 }
 
 /// The search within a budget that the README speaks of, and the one with a leaf more.
@@ -158,6 +197,5 @@ fn within_a_budget() {
          needs there, and has the worth from {low} to {high} points; with one leaf more it is \
          exactly {worth}."
     );
-    let readme = readme().split_whitespace().collect::<Vec<_>>().join(" ");
-    assert!(readme.contains(&said), "{said}");
+    assert!(words().contains(&said), "{said}");
 }

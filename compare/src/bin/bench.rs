@@ -1,6 +1,6 @@
-//! Benchmark of reading, the exact worth, judging, the search, turning, rollouts
-//! and the report, and of the search alone: both engines on the same texts in the
-//! same run.
+//! Benchmark of reading, the exact worth, judging, the search, the index of ends, turning,
+//! rollouts and the report, and of the search alone: both engines on the same texts in
+//! the same run. Before the times stand the leaves read of the examples.
 //!
 //! `./bench` makes both archives and runs it, in release mode and with the feature
 //! `timed`.
@@ -9,6 +9,8 @@ use std::hint::black_box;
 use std::time::{Duration, Instant};
 
 use compare::engine::{self, Lent, Record};
+use compare::hold::desk::example;
+use compare::hold::leaves::{self, FROM_PLAY};
 use compare::hold::{kind_number, mark_number, reporting, searching};
 use compare::random::{seed, Random};
 use compare::second::{self, root_children, Bounds, Judgement, Table, Terms, LINE, MOST_NODES};
@@ -64,6 +66,7 @@ fn main() {
     println!("Seed {seed}; {TEXTS} texts each; best of {ROUNDS} rounds, the engines by turns.");
     println!("Growth is the time per line over that of the same shape with 64 lines; of these");
     println!("the deep one is a single path of 64 nodes.");
+    examples();
 
     let sorts = sorts(
         seed,
@@ -76,6 +79,7 @@ fn main() {
     judging(&sorts);
     search(&sorts);
     budgets(&sorts);
+    indexes(&sorts);
     turning(&sorts);
 
     let rolled = self::sorts(
@@ -543,6 +547,246 @@ fn print(cases: &[Case]) {
                 second / least.1,
             );
         }
+    }
+}
+
+// ---------------------------------------------------------------------------
+// The index of ends
+// ---------------------------------------------------------------------------
+
+/// Margins in thousandths of a point.
+const THOUSANDTHS: [i64; 4] = [0, 20, 50, 100];
+
+/// The examples that are made up, and the thousandths of a point in one unit of utility. In
+/// A and B a unit is a point.
+const MADE_UP: [(&str, i64); 7] = [
+    ("a", 1_000),
+    ("b", 1_000),
+    ("forced", 1_000),
+    ("level", 1_000),
+    ("ties", 1_000),
+    ("rolls-720", 1),
+    ("first-roll", 1),
+];
+
+/// The text of an example's table. Before one of them stands a margin line.
+fn table_of(name: &str) -> Vec<u8> {
+    let (_, text) = example(name);
+    match name {
+        "rolls-720" => text[15..].to_vec(),
+        _ => text,
+    }
+}
+
+fn examples() {
+    println!();
+    println!("The leaves that the search reads of the examples, without an index and with it, at");
+    println!("margins of 0, 20, 50 and 100 thousandths of a point. A unit of utility is one of");
+    println!("these in the tables from real play, which come first, and in the last two; in the");
+    println!("others it is a point, and all four margins are less than a grain.");
+    println!();
+    println!(
+        "{:<12}{:>6}{:>8}{:>24}{:>24}",
+        "table", "lines", "leaves", "read without", "read with an index"
+    );
+    let from_play = FROM_PLAY.map(|name| (name, 1));
+    for (name, unit) in from_play.into_iter().chain(MADE_UP) {
+        let text = table_of(name);
+        let table = second::read(&text).expect("an example is accepted");
+        let margins = THOUSANDTHS.map(|thousandths| thousandths * table.grains / unit);
+        let [without, with] = [leaves::read, leaves::read_indexed].map(|read| {
+            let counts = margins.map(|margin| read(&text, margin).to_string());
+            counts.join(", ")
+        });
+        println!(
+            "{name:<12}{:>6}{:>8}{without:>24}{with:>24}",
+            table.nodes.len(),
+            table.leaves
+        );
+    }
+}
+
+/// The times that one sort of texts took, in calls of the proved engine and of the second.
+struct Ends<'a> {
+    sort: &'a Sort,
+    /// The two lists of each text's index.
+    indexes: Vec<[Vec<i64>; 2]>,
+    /// How often all texts are gone through in a round.
+    turns: usize,
+    /// The best nanoseconds per call so far, by `CALLS`.
+    times: [f64; 6],
+}
+
+/// A call on a text with its index, in these areas.
+type Call = fn(&[u8], &[Vec<i64>; 2], &mut Areas);
+
+/// What is lent to a call, allocated once.
+struct Areas {
+    lent: Box<Lent>,
+    lows: Vec<i64>,
+    highs: Vec<i64>,
+    leaves: Vec<u16>,
+    numbers: [i64; 7],
+}
+
+/// Reading, building the index, the search and the search with the index by the proved
+/// engine; building and that search by the second.
+const CALLS: [Call; 6] = [
+    |text, _, areas| {
+        black_box(engine::call(text, &mut areas.lent));
+    },
+    |text, _, Areas { lows, highs, .. }| {
+        black_box(engine::index(text, lows, highs));
+    },
+    |text, _, areas| {
+        let (leaves, numbers) = (&mut areas.leaves, &mut areas.numbers);
+        black_box(engine::search(text, 0, leaves, numbers));
+    },
+    |text, [lows, highs], areas| {
+        let (leaves, numbers) = (&mut areas.leaves, &mut areas.numbers);
+        let code = engine::search_indexed(text, 0, lows, highs, leaves, numbers);
+        black_box(code);
+    },
+    |text, _, Areas { lows, highs, .. }| {
+        let table = second::read(text).expect("a valid table");
+        let _ = black_box(second::index(&table, lows, highs));
+    },
+    |text, [lows, highs], areas| {
+        let table = second::read(text).expect("a valid table");
+        let found = second::search_indexed(&table, 0, (lows, highs), &mut areas.leaves);
+        let _ = black_box(found);
+    },
+];
+
+fn indexes(sorts: &[Sort]) {
+    let from_play = FROM_PLAY.map(|name| {
+        let text = table_of(name);
+        let table = second::read(&text).expect("an example is accepted");
+        Sort {
+            shape: name,
+            size: table.nodes.len(),
+            span: (table.highest - table.lowest) * table.grains,
+            played: 1,
+            texts: vec![text],
+        }
+    });
+    let mut areas = Areas {
+        lent: Box::new(Lent::PATTERN),
+        lows: vec![0; MOST_NODES],
+        highs: vec![0; MOST_NODES],
+        leaves: vec![0; MOST_NODES],
+        numbers: [0; 7],
+    };
+    let sorts = sorts.iter().chain(&from_play);
+    let mut cases: Vec<Ends> = sorts.map(|sort| Ends::new(sort, &mut areas)).collect();
+    for round in 0..ROUNDS {
+        for case in &mut cases {
+            case.round(round, &mut areas);
+        }
+    }
+
+    println!();
+    println!("Building the index of ends from the text, also of the examples from real play. What");
+    println!("it takes beyond reading is given as a part of reading. The second engine reads the");
+    println!("table, then builds.");
+    println!();
+    println!(
+        "{:<12}{:>6}  {:>10}{:>10}{:>10}  {:>10}{:>10}",
+        "", "", "reading", "index", "second", "building/", "proved/"
+    );
+    println!(
+        "{:<12}{:>6}  {:>10}{:>10}{:>10}  {:>10}{:>10}",
+        "table", "lines", "ns/call", "ns/call", "ns/call", "reading", "second"
+    );
+    for Ends { sort, times, .. } in &cases {
+        let [reading, index, _, _, second, _] = times;
+        println!(
+            "{:<12}{:>6}  {reading:>10.0}{index:>10.0}{second:>10.0}  {:>10.3}{:>10.2}",
+            sort.shape,
+            sort.size,
+            (index - reading) / reading,
+            index / second,
+        );
+    }
+
+    println!();
+    println!("The search at margin 0 from the text, without an index and with it; the call builds");
+    println!(
+        "the index once more and compares. The leaves are those of all texts, {TEXTS} of each"
+    );
+    println!("shape and size and one of each example.");
+    println!();
+    println!(
+        "{:<12}{:>6}  {:>8}{:>8}{:>8}  {:>10}{:>10}{:>10}  {:>8}{:>8}",
+        "", "", "", "read", "read", "without", "with", "second", "with/", "proved/"
+    );
+    println!(
+        "{:<12}{:>6}  {:>8}{:>8}{:>8}  {:>10}{:>10}{:>10}  {:>8}{:>8}",
+        "table",
+        "lines",
+        "leaves",
+        "without",
+        "with",
+        "ns/call",
+        "ns/call",
+        "ns/call",
+        "without",
+        "second"
+    );
+    for Ends { sort, times, .. } in &cases {
+        let [_, _, without, with, _, second] = times;
+        let sum = |count: fn(&[u8]) -> usize| -> usize {
+            sort.texts.iter().map(|text| count(text)).sum()
+        };
+        let leaves = |text: &[u8]| second::read(text).expect("a valid table").leaves;
+        println!(
+            "{:<12}{:>6}  {:>8}{:>8}{:>8}  {without:>10.0}{with:>10.0}{second:>10.0}  {:>8.2}{:>8.2}",
+            sort.shape,
+            sort.size,
+            sum(leaves),
+            sum(|text| leaves::read(text, 0)),
+            sum(|text| leaves::read_indexed(text, 0)),
+            with / without,
+            with / second,
+        );
+    }
+}
+
+impl<'a> Ends<'a> {
+    fn new(sort: &'a Sort, areas: &mut Areas) -> Ends<'a> {
+        let indexes = sort.texts.iter().map(|text| leaves::index(text));
+        let mut case = Ends {
+            sort,
+            indexes: indexes.collect(),
+            turns: 1,
+            times: [f64::INFINITY; 6],
+        };
+        let spell = SPELL.as_nanos() as f64;
+        while CALLS.iter().any(|call| case.time(*call, areas) < spell) {
+            case.turns *= 2;
+        }
+        case
+    }
+
+    /// Times all calls, each of them first in its turn.
+    fn round(&mut self, round: usize, areas: &mut Areas) {
+        let calls = (self.turns * self.sort.texts.len()) as f64;
+        for turn in 0..CALLS.len() {
+            let which = (round + turn) % CALLS.len();
+            let time = self.time(CALLS[which], areas) / calls;
+            self.times[which] = self.times[which].min(time);
+        }
+    }
+
+    /// The nanoseconds that all turns take.
+    fn time(&self, call: Call, areas: &mut Areas) -> f64 {
+        time(|| {
+            for _ in 0..self.turns {
+                for (text, index) in self.sort.texts.iter().zip(&self.indexes) {
+                    call(black_box(text), black_box(index), black_box(areas));
+                }
+            }
+        })
     }
 }
 

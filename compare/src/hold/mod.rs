@@ -6,6 +6,7 @@ pub mod budget;
 pub mod desk;
 pub mod indexed;
 pub mod judging;
+pub mod leaves;
 pub mod numbers;
 pub mod reading;
 pub mod reporting;
