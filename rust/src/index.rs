@@ -38,11 +38,11 @@ pub fn index(text: &[u8]) -> Result<Index, Refusal> {
 /// then 22 where the index is too short or not this table's own, then 12 as
 /// [`search`](crate::search) does.
 ///
-/// It reads fewer leaves, as a line counts what is unread under it at its own two ends, and
-/// not at the table's. The worth still lies from `low` to `high`, they are at most the
-/// margin apart, and the play's worth is within the margin of the best. If any unread
-/// leaves are given other utilities, the same answer comes back, provided that the index
-/// is still the same.
+/// It mostly reads fewer leaves, as a line counts what is unread under it at its own two
+/// ends, and not at the table's. The worth still lies from `low` to `high`, they are at
+/// most the margin apart, and the play's worth is within the margin of the best. If any
+/// unread leaves are given other utilities, the same answer comes back, provided that the
+/// index is still the same.
 ///
 /// ```
 /// use margin_engine::{index, search, search_indexed};

@@ -27,9 +27,9 @@
 //! Worths, bounds, losses and margins are whole numbers of grains, of which
 //! `per_point` make one point; [`points`] writes them in points. [`report`] takes a
 //! match, many tables with the play made in each, and has losses in thousandths of a
-//! point, with the mark that a book prints beside each. An [`index`] of the ends under
-//! each line lets [`search_indexed`] read far fewer leaves than [`search`]. The README says
-//! how to write a table and a match, and which ends and margin to choose.
+//! point, with the mark that a book prints beside each. With the [`index`] of a table
+//! [`search_indexed`] mostly reads far fewer leaves than [`search`]. The README says how to
+//! write a table and a match, and which ends and margin to choose.
 
 mod index;
 mod judge;

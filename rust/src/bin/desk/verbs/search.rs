@@ -49,9 +49,9 @@ ends as its bounds, and may be the one named.
         "\
 With --index the lowest and the highest utility under each line are found first
 (`desk index` lists them), and what is unread under a line counts at these two
-ends of its own, not at the table's. Fewer leaves of most tables are read then, and
-the margin is kept. The answer is the same whatever the others are, provided that
-the index is. There is no budget for this search.
+ends of its own, not at the table's. Mostly fewer leaves are read then, and the
+margin is kept. The answer is the same whatever the others are, provided that the
+index is. There is no budget for this search.
 ",
         MARGINS,
     ],
