@@ -12,7 +12,7 @@
 //! stands with the length of what it points to; it comes from a slice and so is not
 //! null; and no slice that a call may write overlaps another, as the borrows show. The
 //! engine keeps nothing between calls, so that threads may call it at once, and it
-//! never unwinds. A call ran with 44 KB of stack on every table tried; the typed calls
+//! never unwinds. A call ran with 51 KB of stack on every table tried; the typed calls
 //! lend up to 19 KB of theirs.
 
 #![allow(unsafe_code)]
