@@ -66,54 +66,15 @@ fn max_over(
             r = steps::leaf_at(height, leaves, n, i, g.grain, v);
         } else {
             let u = steps::ends_at(height, top, v, g.grain, i);
+            let a = u.bottom;
+            let b = u.top;
+            let j = i + 1;
             if k == 1 {
-                r = max_over(
-                    kind,
-                    stop,
-                    weight,
-                    height,
-                    top,
-                    leaves,
-                    n,
-                    g,
-                    i + 1,
-                    e,
-                    u.bottom,
-                    u.top,
-                    y,
-                );
+                r = max_over(kind, stop, weight, height, top, leaves, n, g, j, e, a, b, y);
             } else if k == 2 {
-                r = min_over(
-                    kind,
-                    stop,
-                    weight,
-                    height,
-                    top,
-                    leaves,
-                    n,
-                    g,
-                    i + 1,
-                    e,
-                    u.bottom,
-                    u.top,
-                    y,
-                );
+                r = min_over(kind, stop, weight, height, top, leaves, n, g, j, e, a, b, y);
             } else {
-                r = chance_over(
-                    kind,
-                    stop,
-                    weight,
-                    height,
-                    top,
-                    leaves,
-                    n,
-                    g,
-                    i + 1,
-                    e,
-                    u.bottom,
-                    u.top,
-                    y,
-                );
+                r = chance_over(kind, stop, weight, height, top, leaves, n, g, j, e, a, b, y);
             }
         }
         t = steps::max_after(v, i, t, r.low, r.high);
@@ -188,54 +149,15 @@ fn min_over(
             r = steps::leaf_at(height, leaves, n, i, g.grain, v);
         } else {
             let u = steps::ends_at(height, top, v, g.grain, i);
+            let a = u.bottom;
+            let b = u.top;
+            let j = i + 1;
             if k == 1 {
-                r = max_over(
-                    kind,
-                    stop,
-                    weight,
-                    height,
-                    top,
-                    leaves,
-                    n,
-                    g,
-                    i + 1,
-                    e,
-                    u.bottom,
-                    u.top,
-                    y,
-                );
+                r = max_over(kind, stop, weight, height, top, leaves, n, g, j, e, a, b, y);
             } else if k == 2 {
-                r = min_over(
-                    kind,
-                    stop,
-                    weight,
-                    height,
-                    top,
-                    leaves,
-                    n,
-                    g,
-                    i + 1,
-                    e,
-                    u.bottom,
-                    u.top,
-                    y,
-                );
+                r = min_over(kind, stop, weight, height, top, leaves, n, g, j, e, a, b, y);
             } else {
-                r = chance_over(
-                    kind,
-                    stop,
-                    weight,
-                    height,
-                    top,
-                    leaves,
-                    n,
-                    g,
-                    i + 1,
-                    e,
-                    u.bottom,
-                    u.top,
-                    y,
-                );
+                r = chance_over(kind, stop, weight, height, top, leaves, n, g, j, e, a, b, y);
             }
         }
         t = steps::min_after(v, i, t, r.low, r.high);
@@ -303,55 +225,16 @@ fn chance_over(
             r = steps::leaf_at(height, leaves, n, i, g.grain, v);
         } else {
             let u = steps::ends_at(height, top, v, g.grain, i);
+            let a = u.bottom;
+            let b = u.top;
+            let j = i + 1;
             let y = steps::chance_window(v, t, x);
             if k == 1 {
-                r = max_over(
-                    kind,
-                    stop,
-                    weight,
-                    height,
-                    top,
-                    leaves,
-                    n,
-                    g,
-                    i + 1,
-                    e,
-                    u.bottom,
-                    u.top,
-                    y,
-                );
+                r = max_over(kind, stop, weight, height, top, leaves, n, g, j, e, a, b, y);
             } else if k == 2 {
-                r = min_over(
-                    kind,
-                    stop,
-                    weight,
-                    height,
-                    top,
-                    leaves,
-                    n,
-                    g,
-                    i + 1,
-                    e,
-                    u.bottom,
-                    u.top,
-                    y,
-                );
+                r = min_over(kind, stop, weight, height, top, leaves, n, g, j, e, a, b, y);
             } else {
-                r = chance_over(
-                    kind,
-                    stop,
-                    weight,
-                    height,
-                    top,
-                    leaves,
-                    n,
-                    g,
-                    i + 1,
-                    e,
-                    u.bottom,
-                    u.top,
-                    y,
-                );
+                r = chance_over(kind, stop, weight, height, top, leaves, n, g, j, e, a, b, y);
             }
         }
         t = steps::chance_after(v, t, x, r.low, r.high);

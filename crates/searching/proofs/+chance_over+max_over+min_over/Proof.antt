@@ -195,6 +195,9 @@ chance-over-ends-at-requires t c κs =
     let W = c .before in
     child-own (chance-over-near t W) _ (W .before .before .at8 .ensures) (c .if2 .left)
 
+chance-over-add-j : (t : ℕ) → chance-over-lts.Need-add-j (chance-over-claims t) (chance-over-at t) chance-over.Post chance-over-Inv-loop chance-over-μ-loop
+chance-over-add-j t c = omega (arith, chance-over-near t (c .before .before) .small)
+
 chance-over-chance-window-requires : (t : ℕ) → chance-over-lts.Need-chance-window-requires (chance-over-claims t) (chance-over-at t) chance-over.Post chance-over-Inv-loop chance-over-μ-loop
 chance-over-chance-window-requires t c κs =
     let W = c .before .before in
@@ -218,9 +221,6 @@ chance-over-child t c =
     child-of (l .inv) (x .result) (y .result) (x .ensures)
     (subst (λ (z : Window). z .alpha ≤ limit) (sym (y .ensures)) (q .0)) (subst (λ (z : Window). z .beta ≤ limit) (sym (y .ensures)) (q .1))
 
-chance-over-add-max-over : (t : ℕ) → chance-over-lts.Need-add-max-over (chance-over-claims t) (chance-over-at t) chance-over.Post chance-over-Inv-loop chance-over-μ-loop
-chance-over-add-max-over t c = omega (arith, chance-over-child t (c .before .before) .small)
-
 chance-over-max-over-requires : (t : ℕ) → chance-over-lts.Need-max-over-requires (chance-over-claims t) (chance-over-at t) chance-over.Post chance-over-Inv-loop chance-over-μ-loop
 chance-over-max-over-requires t c κs =
     let C = c .before .before in
@@ -228,18 +228,12 @@ chance-over-max-over-requires t c κs =
     let W = o .before .before in
     child-asks (chance-over-child t C) t (W .before .before .before .before .before .before .before .before .before .before .before .before .before .before .before .pre .0) MAX (o .ends-at .ensures) (sym (W .before .before .at8 .ensures) ∙ c .before .if3 .taken)
 
-chance-over-add-min-over : (t : ℕ) → chance-over-lts.Need-add-min-over (chance-over-claims t) (chance-over-at t) chance-over.Post chance-over-Inv-loop chance-over-μ-loop
-chance-over-add-min-over t c = omega (arith, chance-over-child t (c .before .before .before) .small)
-
 chance-over-min-over-requires : (t : ℕ) → chance-over-lts.Need-min-over-requires (chance-over-claims t) (chance-over-at t) chance-over.Post chance-over-Inv-loop chance-over-μ-loop
 chance-over-min-over-requires t c κs =
     let C = c .before .before .before in
     let o = C .before in
     let W = o .before .before in
     child-asks (chance-over-child t C) t (W .before .before .before .before .before .before .before .before .before .before .before .before .before .before .before .pre .0) MIN (o .ends-at .ensures) (sym (W .before .before .at8 .ensures) ∙ c .before .if4 .taken)
-
-chance-over-add-chance-over : (t : ℕ) → chance-over-lts.Need-add-chance-over (chance-over-claims t) (chance-over-at t) chance-over.Post chance-over-Inv-loop chance-over-μ-loop
-chance-over-add-chance-over t c = omega (arith, chance-over-child t (c .before .before .before) .small)
 
 chance-over-chance-over-requires : (t : ℕ) → chance-over-lts.Need-chance-over-requires (chance-over-claims t) (chance-over-at t) chance-over.Post chance-over-Inv-loop chance-over-μ-loop
 chance-over-chance-over-requires t c κs =
@@ -400,8 +394,8 @@ max-over-leaf-at-requires t c κs = child-leaf (max-over-child t (c .before .bef
 max-over-ends-at-requires : (t : ℕ) → max-over-lts.Need-ends-at-requires (max-over-claims t) (max-over-at t) max-over.Post max-over-Inv-loop max-over-μ-loop
 max-over-ends-at-requires t c κs = child-own (max-over-child t (c .before)) _ (c .before .at8 .ensures) (c .if2 .left)
 
-max-over-add-max-over : (t : ℕ) → max-over-lts.Need-add-max-over (max-over-claims t) (max-over-at t) max-over.Post max-over-Inv-loop max-over-μ-loop
-max-over-add-max-over t c = omega (arith, max-over-child t (c .before .before .before .before) .small)
+max-over-add-j : (t : ℕ) → max-over-lts.Need-add-j (max-over-claims t) (max-over-at t) max-over.Post max-over-Inv-loop max-over-μ-loop
+max-over-add-j t c = omega (arith, max-over-child t (c .before .before) .small)
 
 max-over-max-over-requires : (t : ℕ) → max-over-lts.Need-max-over-requires (max-over-claims t) (max-over-at t) max-over.Post max-over-Inv-loop max-over-μ-loop
 max-over-max-over-requires t c κs =
@@ -409,17 +403,11 @@ max-over-max-over-requires t c κs =
     let p = o .before .before in
     child-asks (max-over-child t p) t (p .before .before .before .before .before .before .before .before .before .before .pre .0) MAX (o .ends-at .ensures) (sym (p .at8 .ensures) ∙ c .before .if3 .taken)
 
-max-over-add-min-over : (t : ℕ) → max-over-lts.Need-add-min-over (max-over-claims t) (max-over-at t) max-over.Post max-over-Inv-loop max-over-μ-loop
-max-over-add-min-over t c = omega (arith, max-over-child t (c .before .before .before .before .before) .small)
-
 max-over-min-over-requires : (t : ℕ) → max-over-lts.Need-min-over-requires (max-over-claims t) (max-over-at t) max-over.Post max-over-Inv-loop max-over-μ-loop
 max-over-min-over-requires t c κs =
     let o = c .before .before .before in
     let p = o .before .before in
     child-asks (max-over-child t p) t (p .before .before .before .before .before .before .before .before .before .before .pre .0) MIN (o .ends-at .ensures) (sym (p .at8 .ensures) ∙ c .before .if4 .taken)
-
-max-over-add-chance-over : (t : ℕ) → max-over-lts.Need-add-chance-over (max-over-claims t) (max-over-at t) max-over.Post max-over-Inv-loop max-over-μ-loop
-max-over-add-chance-over t c = omega (arith, max-over-child t (c .before .before .before .before .before) .small)
 
 max-over-chance-over-requires : (t : ℕ) → max-over-lts.Need-chance-over-requires (max-over-claims t) (max-over-at t) max-over.Post max-over-Inv-loop max-over-μ-loop
 max-over-chance-over-requires t c κs =
@@ -560,8 +548,8 @@ min-over-leaf-at-requires t c κs = child-leaf (min-over-child t (c .before .bef
 min-over-ends-at-requires : (t : ℕ) → min-over-lts.Need-ends-at-requires (min-over-claims t) (min-over-at t) min-over.Post min-over-Inv-loop min-over-μ-loop
 min-over-ends-at-requires t c κs = child-own (min-over-child t (c .before)) _ (c .before .at8 .ensures) (c .if2 .left)
 
-min-over-add-max-over : (t : ℕ) → min-over-lts.Need-add-max-over (min-over-claims t) (min-over-at t) min-over.Post min-over-Inv-loop min-over-μ-loop
-min-over-add-max-over t c = omega (arith, min-over-child t (c .before .before .before .before) .small)
+min-over-add-j : (t : ℕ) → min-over-lts.Need-add-j (min-over-claims t) (min-over-at t) min-over.Post min-over-Inv-loop min-over-μ-loop
+min-over-add-j t c = omega (arith, min-over-child t (c .before .before) .small)
 
 min-over-max-over-requires : (t : ℕ) → min-over-lts.Need-max-over-requires (min-over-claims t) (min-over-at t) min-over.Post min-over-Inv-loop min-over-μ-loop
 min-over-max-over-requires t c κs =
@@ -569,17 +557,11 @@ min-over-max-over-requires t c κs =
     let p = o .before .before in
     child-asks (min-over-child t p) t (p .before .before .before .before .before .before .before .before .before .before .pre .0) MAX (o .ends-at .ensures) (sym (p .at8 .ensures) ∙ c .before .if3 .taken)
 
-min-over-add-min-over : (t : ℕ) → min-over-lts.Need-add-min-over (min-over-claims t) (min-over-at t) min-over.Post min-over-Inv-loop min-over-μ-loop
-min-over-add-min-over t c = omega (arith, min-over-child t (c .before .before .before .before .before) .small)
-
 min-over-min-over-requires : (t : ℕ) → min-over-lts.Need-min-over-requires (min-over-claims t) (min-over-at t) min-over.Post min-over-Inv-loop min-over-μ-loop
 min-over-min-over-requires t c κs =
     let o = c .before .before .before in
     let p = o .before .before in
     child-asks (min-over-child t p) t (p .before .before .before .before .before .before .before .before .before .before .pre .0) MIN (o .ends-at .ensures) (sym (p .at8 .ensures) ∙ c .before .if4 .taken)
-
-min-over-add-chance-over : (t : ℕ) → min-over-lts.Need-add-chance-over (min-over-claims t) (min-over-at t) min-over.Post min-over-Inv-loop min-over-μ-loop
-min-over-add-chance-over t c = omega (arith, min-over-child t (c .before .before .before .before .before) .small)
 
 min-over-chance-over-requires : (t : ℕ) → min-over-lts.Need-chance-over-requires (min-over-claims t) (min-over-at t) min-over.Post min-over-Inv-loop min-over-μ-loop
 min-over-chance-over-requires t c κs =
@@ -672,12 +654,10 @@ pub +chance-over+max-over+min-over-spec : {M : Type 1} → statement M
     (chance-over-wide8-requires t)
     (chance-over-leaf-at-requires t)
     (chance-over-ends-at-requires t)
+    (chance-over-add-j t)
     (chance-over-chance-window-requires t)
-    (chance-over-add-max-over t)
     (chance-over-max-over-requires t)
-    (chance-over-add-min-over t)
     (chance-over-min-over-requires t)
-    (chance-over-add-chance-over t)
     (chance-over-chance-over-requires t)
     (chance-over-chance-after-requires t)
     (chance-over-chance-left-requires t)
@@ -700,11 +680,9 @@ pub +chance-over+max-over+min-over-spec : {M : Type 1} → statement M
     (max-over-at8-requires t)
     (max-over-leaf-at-requires t)
     (max-over-ends-at-requires t)
-    (max-over-add-max-over t)
+    (max-over-add-j t)
     (max-over-max-over-requires t)
-    (max-over-add-min-over t)
     (max-over-min-over-requires t)
-    (max-over-add-chance-over t)
     (max-over-chance-over-requires t)
     (max-over-max-after-requires t)
     (max-over-same-length t)
@@ -725,11 +703,9 @@ pub +chance-over+max-over+min-over-spec : {M : Type 1} → statement M
     (min-over-at8-requires t)
     (min-over-leaf-at-requires t)
     (min-over-ends-at-requires t)
-    (min-over-add-max-over t)
+    (min-over-add-j t)
     (min-over-max-over-requires t)
-    (min-over-add-min-over t)
     (min-over-min-over-requires t)
-    (min-over-add-chance-over t)
     (min-over-chance-over-requires t)
     (min-over-min-after-requires t)
     (min-over-same-length t)
