@@ -39,7 +39,7 @@ module _ (S : ℕ) where
   ordered (inner n w k under rest) i z = omega (arith, ordered under (i .1) (i .0))
 
   -- the greatest is at most S where every height is
-  pub greatest-low : (T K d c : ℕ) (u : Bool) (f : Forest ℕ) → Proper T K (λ (x : ℕ). x ≤ S) d c u f → greatestOf f ≤ S
+  greatest-low : (T K d c : ℕ) (u : Bool) (f : Forest ℕ) → Proper T K (λ (x : ℕ). x ≤ S) d c u f → greatestOf f ≤ S
   unfolding greatestOf
   greatest-low T K d c u end p = omega arith
   greatest-low T K d c u (leaf n w h rest) p = omega (arith, p .1, greatest-low T K d c u rest (p .4))
@@ -144,7 +144,7 @@ module _ (lo : ℤ) where
   highest-is f i z = ap highestOf (values-map lift f) ∙ highest-some (valuesOf f) (some-values f i z) ∙ ap lift (sym (greatest-values f))
 
   -- the index of such a tree
-  pub entries-lift : (S : ℕ) (f : Forest ℕ) → Filled f → greatestOf f ≤ S → entries (mapForest lift f) ≡ heightEntries lo S f
+  entries-lift : (S : ℕ) (f : Forest ℕ) → Filled f → greatestOf f ≤ S → entries (mapForest lift f) ≡ heightEntries lo S f
   unfolding entries heightEntries greatestOf
   entries-lift S end i h = refl
   entries-lift S (leaf n w v rest) i h = ap (λ l. none ∷ l) (entries-lift S rest i (omega arith))
@@ -164,15 +164,24 @@ lift-back T K h d c u (leaf n w v rest) p = ap₂ (leaf n w) (height-back (h .lo
 lift-back T K h d c u (inner n w k under rest) p =
     ap₂ (inner n w k) (lift-back T K h (suc d) (c + one k) (isChance k) under (p .3)) (lift-back T K h d c u rest (p .4))
 
+-- and their heights, which lie within the span
+heights-low : (T K : ℕ) (h : Head) (d c : ℕ) (u : Bool) (f : Forest ℤ) → Proper T K (Within h) d c u f → greatestOf (mapForest (above (h .lowest)) f) ≤ span h
+heights-low T K h d c u f p =
+    greatest-low (span h) T K d c u (mapForest (above (h .lowest)) f)
+    (map-proper (above (h .lowest)) T K (Within h) (λ (x : ℕ). x ≤ span h) (λ v w. height-span (h .lowest) (h .highest) v (w .0) (w .1)) d c u f p)
+
 -- the entries of nodes whose utilities lie between the ends
-pub entries-heights : (T K : ℕ) (h : Head) (d c : ℕ) (u : Bool) (f : Forest ℤ) → Proper T K (Within h) d c u f → Filled f
+entries-heights : (T K : ℕ) (h : Head) (d c : ℕ) (u : Bool) (f : Forest ℤ) → Proper T K (Within h) d c u f → Filled f
     → entries f ≡ heightEntries (h .lowest) (span h) (mapForest (above (h .lowest)) f)
 entries-heights T K h d c u f p i =
     let g : Forest ℕ = mapForest (above (h .lowest)) f in
     ap entries (sym (lift-back T K h d c u f p))
     ∙ entries-lift (h .lowest) (span h) g (map-filled (above (h .lowest)) f i)
-    (greatest-low (span h) T K d c u g
-    (map-proper (above (h .lowest)) T K (Within h) (λ (x : ℕ). x ≤ span h) (λ v w. height-span (h .lowest) (h .highest) v (w .0) (w .1)) d c u f p))
+    (heights-low T K h d c u f p)
+
+-- the heights of an accepted table
+pub greatest-heights : (s : List ℕ) (t : Table) → readText s ≡ fine t → greatestOf (heightTree t) ≤ span (t .head)
+greatest-heights s t r = rw (heights-map t) (heights-low (larger (t .head)) (greatest (t .lines)) (t .head) 0 0 false (tree t) (accepted-proper s t r))
 
 -- the index of an accepted table
 pub index-heights : (s : List ℕ) (t : Table) → readText s ≡ fine t → indexOf t ≡ heightEntries (t .head .lowest) (span (t .head)) (heightTree t)

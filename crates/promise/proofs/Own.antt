@@ -45,11 +45,11 @@ module _ (s : List ℕ) (t : Table) (r : readText s ≡ fine t) (ε : ℕ) where
   own-tree = tree-fine s t r (own far) (own-within s t r) (own-fit s t r)
 
   -- the bounds over heights hold the worth, and lie between the ends
-  pub own-hold : (heightOwn t ε unlimited .low ≤ heightWorth t) × (heightWorth t ≤ heightOwn t ε unlimited .high)
+  own-hold : (heightOwn t ε unlimited .low ≤ heightWorth t) × (heightWorth t ≤ heightOwn t ε unlimited .high)
       × (heightOwn t ε unlimited .high ≤ span (t .head) * grain t)
   own-hold = holds (larger (t .head)) (greatest (t .lines)) G (span (t .head)) R (λ n f. refl) (λ x n. absurd x) (heightTree t) own-tree
 
-  pub own-close : heightOwn t ε unlimited .high ≤ heightOwn t ε unlimited .low + ε
+  own-close : heightOwn t ε unlimited .high ≤ heightOwn t ε unlimited .low + ε
   own-close = narrow (larger (t .head)) (greatest (t .lines)) G (span (t .head)) R (λ n f. refl) (λ x n. absurd x) (λ _. refl) (heightTree t) own-tree
 
   own-played : (m : ℕ) → nodeOf (H .play) ≡ some m → Played far (grained G (heightTree t)) (H .low) (H .high) (heightWorth t) m

@@ -5,7 +5,7 @@ use mathlib.Core.Path.{_≡_, refl, sym, ap, ap₂, subst, _∙_}
 use mathlib.Core.Bool.{Bool, true, false, not}
 use mathlib.Core.List.{List, [], _∷_, map}
 use mathlib.Core.Option.{some}
-use native.Mathlib.Nat.{le-refl, le-trans, dvd-mul-left}
+use native.Mathlib.Nat.{le-refl, le-trans, mul-le-mul-right, dvd-mul-left}
 use native.Mathlib.Omega.{arith}
 use lib.Dec.{T as Holds}
 use lib.ListN.{length}
@@ -16,14 +16,13 @@ use Rattle.numbers.proofs.Above.{is-times, lift}
 use Rattle.line.specs.Refusal.{fine}
 use Rattle.table.specs.Tree.{Kind, MAX, MIN, CHANCE, Forest, end, leaf, inner, isEnd, leaves}
 use Rattle.table.specs.Table.{Table, tree, readText, grain}
-use Rattle.table.specs.Root.{children}
 use Rattle.table.specs.Inside.{heightTree, slicesOf}
 use Rattle.table.specs.Accepted.{span, Filled, Rooted}
 use Rattle.table.proofs.Heights.{above, mapForest, map-filled, map-leaves, heights-map}
 use Rattle.table.proofs.Accepted.{accepted-spans, heights-filled, heights-divided}
 use Rattle.index.specs.Index.{valuesOf, lowestOf, highestOf}
 use Rattle.index.specs.Inside.{leastOf, greatestOf}
-use Rattle.index.proofs.Laws.{ordered, values-map, lowest-is, highest-is}
+use Rattle.index.proofs.Laws.{ordered, values-map, lowest-is, highest-is, greatest-heights}
 use Rattle.search.specs.Search.{Frame, Rules, unlimited, limited, framed, nodeOf}
 use Rattle.search.specs.Whole.{inGrains, wholeOwn, ownRules, searchedOwn}
 use Rattle.search.specs.Exact.{EachTakenRoot, OwnNoRemainder}
@@ -34,7 +33,7 @@ use Rattle.search.proofs.Shift.{RelFrame, RelFrames, RelFramesRoot, Rel
 use Rattle.search.proofs.Grains.{plain, grained-map, grained-leaves, grains-map}
 use Rattle.search.proofs.Fit.{Fit, fit-by}
 use Rattle.search.proofs.Remainder.{WholeHeights, heights-root, whole-root}
-use Rattle.search.proofs.Few.{EachNode, few-reads, play-among, children-below}
+use Rattle.search.proofs.Few.{few-reads, play-among, children-below}
 use Rattle.search.proofs.Table.{rel-is, same-node, root-order, tree-shift, tree-within, tree-positive, tree-rooted}
 use Rattle.search.proofs.Sums.{same-root}
 use Rattle.search.proofs.Summed.{height-laws, paid-within}
@@ -67,20 +66,13 @@ abbrev pub own : ℕ → ℕ → Forest ℕ → Frame ℕ
 own S n f = framed (leastOf S f) (greatestOf f) f
 
 module _ (S : ℕ) where
-  pub greatest-within : (frame : ℕ → Forest ℕ → Frame ℕ) (e : Frame ℕ) (f : Forest ℕ) → e .top ≤ S → Within frame e f → greatestOf f ≤ S
-  unfolding greatestOf
-  greatest-within frame e end t i = omega arith
-  greatest-within frame e (leaf n w h rest) t i = omega (arith, i .1, greatest-within frame e rest t (i .2))
-  greatest-within frame e (inner n w k under rest) t i =
-      omega (arith, greatest-within frame (frame n under) under (le-trans (i .1) t) (i .3), greatest-within frame e rest t (i .4))
-
   own-sound : (k : Kind) (n : ℕ) (f : Forest ℕ) → leastOf S f ≤ greatestOf f → Paid (plain S n f) k → Sound (own S n f) k f
   own-sound MAX n f o p = record { ends = o; paid = tt; weighed = tt }
   own-sound MIN n f o p = record { ends = o; paid = tt; weighed = tt }
   own-sound CHANCE n f o p = record { ends = o; paid = p; weighed = refl }
 
   -- they nest: what lies between the two ends of the whole tree lies between its own
-  pub within-own : (e d : Frame ℕ) (f : Forest ℕ) → Filled f → Within (plain S) d f → e .bottom ≤ leastOf S f → greatestOf f ≤ e .top → Within (own S) e f
+  within-own : (e d : Frame ℕ) (f : Forest ℕ) → Filled f → Within (plain S) d f → e .bottom ≤ leastOf S f → greatestOf f ≤ e .top → Within (own S) e f
   unfolding leastOf greatestOf
   within-own e d end i y b t = tt
   within-own e d (leaf n w h rest) i y b t = (omega arith, omega arith, within-own e d rest i (y .2) (omega arith) (omega arith))
@@ -101,11 +93,11 @@ shift-map Lo (leaf n w h rest) = ap (leaf n w (Lo +ℤ pos h)) (shift-map Lo res
 shift-map Lo (inner n w k under rest) = ap₂ (inner n w k) (shift-map Lo under) (shift-map Lo rest)
 
 -- the lowest and the highest of values that lie so much above Lo
-pub lowest-shift : (Lo : ℤ) (S : ℕ) (f : Forest ℕ) → Filled f → isEnd f ≡ false → greatestOf f ≤ S
+lowest-shift : (Lo : ℤ) (S : ℕ) (f : Forest ℕ) → Filled f → isEnd f ≡ false → greatestOf f ≤ S
     → lowestOf (valuesOf (shift Lo f)) ≡ Lo +ℤ pos (leastOf S f)
 lowest-shift Lo S f i z h = ap (λ (g : Forest ℤ). lowestOf (valuesOf g)) (shift-map Lo f) ∙ lowest-is Lo S f i z h
 
-pub highest-shift : (Lo : ℤ) (f : Forest ℕ) → Filled f → isEnd f ≡ false → highestOf (valuesOf (shift Lo f)) ≡ Lo +ℤ pos (greatestOf f)
+highest-shift : (Lo : ℤ) (f : Forest ℕ) → Filled f → isEnd f ≡ false → highestOf (valuesOf (shift Lo f)) ≡ Lo +ℤ pos (greatestOf f)
 highest-shift Lo f i z = ap (λ (g : Forest ℤ). highestOf (valuesOf g)) (shift-map Lo f) ∙ highest-is Lo f i z
 
 -- in grains: a line's ends as the search has them are those of its entry, times G
@@ -153,7 +145,7 @@ pub highest-grains : (G : ℕ) (f : Forest ℤ) → highestOf (valuesOf (inGrain
 highest-grains G f = ap highestOf (ap valuesOf (grains-map G f) ∙ values-map (λ (z : ℤ). z *ℤ pos G) f) ∙ highest-times G (valuesOf f)
 
 -- there is always a clamp
-abbrev pub clamped : (S : ℕ) (R : Rules ℕ) → Holds (not true) → (n : ℕ) (f : Forest ℕ) → (R .frame n f .bottom ≡ 0) × (R .frame n f .top ≡ S)
+abbrev clamped : (S : ℕ) (R : Rules ℕ) → Holds (not true) → (n : ℕ) (f : Forest ℕ) → (R .frame n f .bottom ≡ 0) × (R .frame n f .top ≡ S)
 clamped S R x = absurd x
 
 module _ (p q : ℕ) (Lo : ℤ) (isLo : Is Lo p q) (S ε : ℕ) where
@@ -199,11 +191,11 @@ module _ (s : List ℕ) (t : Table) (r : readText s ≡ fine t) where
   abbrev over : Frame ℕ
   over = record { bottom = 0; top = far; total = 0 }
 
-  pub tree-filled : Filled (grained (grain t) (heightTree t))
+  tree-filled : Filled (grained (grain t) (heightTree t))
   tree-filled = rw (grained-map G (heightTree t)) (map-filled (λ (h : ℕ). h * G) (heightTree t) (heights-filled s t r))
 
-  pub tree-greatest : greatestOf (grained (grain t) (heightTree t)) ≤ span (t .head) * grain t
-  tree-greatest = greatest-within far (plain far) over heights (le-refl far) (tree-within s t r)
+  tree-greatest : greatestOf (grained (grain t) (heightTree t)) ≤ span (t .head) * grain t
+  tree-greatest = rw (greatest-grained G (heightTree t)) (mul-le-mul-right G (greatest-heights s t r))
 
   pub own-within : Within (own (span (t .head) * grain t)) (record { bottom = 0; top = span (t .head) * grain t; total = 0 }) (grained (grain t) (heightTree t))
   own-within = within-own far over over heights tree-filled (tree-within s t r) (omega arith) tree-greatest
@@ -217,7 +209,7 @@ module _ (s : List ℕ) (t : Table) (r : readText s ≡ fine t) where
   pub own-fit : Fit (own (span (t .head) * grain t)) 1 (grained (grain t) (heightTree t))
   own-fit = fit-by G (leastOf far) greatestOf ends-even 1 (heightTree t) (heights-divided s t r)
 
-  pub own-paid : PaidUnder (own (span (t .head) * grain t)) (grained (grain t) (heightTree t))
+  own-paid : PaidUnder (own (span (t .head) * grain t)) (grained (grain t) (heightTree t))
   own-paid = paid-within (own far) over heights own-within
 
   -- at the margin ε, until the budget is spent
@@ -234,7 +226,7 @@ module _ (s : List ℕ) (t : Table) (r : readText s ≡ fine t) where
     own-summed = same-root natural heightSums WholeHeights height-laws (ownHeightRules far ε full) heights own-paid own-taken
 
     -- no more leaves are read than there are
-    pub own-few : length (heightOwn t ε full .read) ≤ leaves (tree t)
+    own-few : length (heightOwn t ε full .read) ≤ leaves (tree t)
     own-few =
         subst (λ (n : ℕ). length (heightOwn t ε full .read) ≤ n)
         (grained-leaves G (heightTree t) ∙ ap leaves (heights-map t) ∙ map-leaves (above (t .head .lowest)) (tree t))
@@ -277,10 +269,6 @@ module _ (s : List ℕ) (t : Table) (r : readText s ≡ fine t) where
 
     pub own-reads-few : length (searchedOwn t ε .read) ≤ leaves (tree t)
     own-reads-few = rw (own-shifted .3) (own-few ε unlimited)
-
-    -- the play is a root child: what holds of the number of each of these holds of its
-    pub own-play-child : (P : ℕ → Type 0) → EachNode P (children (inGrains G (tree t))) → (m : ℕ) → nodeOf (searchedOwn t ε .play) ≡ some m → P m
-    own-play-child P h m e = play-among wholeOwn (ownRules ε) P (inGrains G (tree t)) h m e
 
     -- no node is met unread
     pub own-unspent : searchedOwn t ε .spent ≡ false

@@ -112,8 +112,8 @@ module _ {A : Type 0} where
   unfoldable pub point : (n : ℕ) (v : A) (before : List ℕ) → Seen A
   point n v before = record { low = v; high = v; play = noPlay; read = before ++ (n ∷ []); spent = false }
 
-  -- Item 3: "A node first met when the budget is spent gives the table's two ends as its bounds and reads nothing". e is its own
-  -- frame, at a leaf its parent's; where there is a budget, every frame has the table's ends.
+  -- Item 3: "A node first met when the budget is spent gives the table's two ends as its bounds and reads nothing". e is its own frame, at a leaf its parent's, at
+  -- a lone leaf that of no children; where there is a budget, every frame has the table's ends.
   unfoldable pub metSpent : (e : Frame A) (before : List ℕ) → Seen A
   metSpent e before = record { low = e .bottom; high = e .top; play = noPlay; read = before; spent = true }
 

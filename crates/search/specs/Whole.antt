@@ -70,8 +70,8 @@ searchedWithin t ε budget = searchedUntil t ε (limited budget)
 
 -- ---- Item 14: the search that uses an index
 
--- Of lines 9 and 10, where a chance line's own ends stand for the least and the greatest value: "There a new alpha is also at most that greatest value, a
--- new beta at least that least."
+-- Lines 9 and 10 for a child of a C, whose ends e has, not the child's: they "also stand for U(n), L(n), the least and the greatest value in lines 9 and 10 for
+-- its children. There a new alpha is also at most that greatest value, a new beta at least that least."
 unfoldable pub downOwn : (e : Frame ℤ) (w : ℕ) (α U : ℤ) → ℤ
 downOwn e w α U = minZ (e .top) (downZ e w α U)
 
@@ -91,7 +91,7 @@ ownRules ε =
       full = unlimited;
     }
 
--- The search of a table at the margin ε with its index. By `searchRoot` the root's window is its own ends, and by `enter` a child's is what lines 7 to 10 say:
--- "the window handed down is not met with them".
+-- The search of a table at the margin ε with its index. By `enter` a child's window is what lines 7 to 10 say: it "is not met with" the child's ends "(the root's
+-- is its ends)", by `searchRoot`.
 abbrev pub searchedOwn : Table → (ε : ℕ) → Seen ℤ
 searchedOwn t ε = searchRoot wholeOwn (ownRules ε) (inGrains (grain t) (tree t))
