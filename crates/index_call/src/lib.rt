@@ -53,6 +53,7 @@ pub fn build_index(text: &[u8], lows: &mut [i64], highs: &mut [i64]) -> Indexed
                 return Indexed::Refused(Refusal::NoRoom);
             }
             let span = scale::span_of(t) as u32;
+            // from here `height` has each line's lowest end above the table's, and `drop` its highest below the table's
             indexing::own_ends(&kind, &stop, &mut height, &mut drop, t.nodes, span);
             indexing::put_ends(&kind, &height, t.nodes, t.lowest, true, lows);
             indexing::put_ends(&kind, &drop, t.nodes, t.highest, false, highs);
@@ -78,11 +79,12 @@ pub fn search_indexed(
     let mut weight = [0u8; 1024];
     let mut height = [0u32; 1024];
     let mut drop = [0u32; 1024];
-    let mut top = [0u32; 1024];
+    let mut tops = [0u32; 1024];
     match reading::decode(text, &mut kind, &mut stop, &mut weight, &mut height) {
         Reading::Refused(r) => Bounded::Refused(r),
         Reading::Accepted(t) => {
             let span = scale::span_of(t) as u32;
+            // from here `height` has each line's lowest end above the table's, and `drop` its highest below the table's
             indexing::own_ends(&kind, &stop, &mut height, &mut drop, t.nodes, span);
             if !is_own(&kind, &height, &drop, t, lows, highs) {
                 return Bounded::Refused(Refusal::BadIndex);
@@ -93,12 +95,13 @@ pub fn search_indexed(
             if leaves.len() < t.leaves {
                 return Bounded::Refused(Refusal::NoRoom);
             }
-            indexing::drops(&drop, &mut top, t.nodes, span);
+            // the highest ends above the table's lowest
+            indexing::drops(&drop, &mut tops, t.nodes, span);
             let s = scale::scale_of(t);
             let g = search_call::rule_of(s, margin);
             let v = search_call::ends_of(s);
             let n = leaves.len();
-            let f = searching::search(&kind, &stop, &weight, &height, &top, leaves, t.nodes, g, v);
+            let f = searching::search(&kind, &stop, &weight, &height, &tops, leaves, t.nodes, g, v);
             Bounded::Found(search_call::bounds_of(t, f, n))
         }
     }

@@ -212,11 +212,11 @@ module _ (S : ℕ) (H D : List ℕ) (lowest : ℤ) where
       (ap (λ (x : ℕ). (lowest +ℤ pos S) -ℤ pos x) (o .1) ∙ below-top (greatestOf under) (omega arith), tells-high t under (omega arith) (o .2), tells-high t rest (omega arith) (o .3))
 
   -- from least heights up, and from drops down
-  pub low-entries : (t : Slices) (n : ℕ) (F : Forest ℕ) → Spans t 0 n F → OwnEnds S H D F
+  low-entries : (t : Slices) (n : ℕ) (F : Forest ℕ) → Spans t 0 n F → OwnEnds S H D F
       → entriesOf (t .kinds) H lowest true n ≡ map (ofEntry (λ (e : Ends). e .low)) (heightEntries lowest S F)
   low-entries t n F s o = entries-all t (λ (i : ℕ). endFrom lowest true (getD H i 0)) (λ (e : Ends). e .low) lowest S n F s (tells-low t F o)
 
-  pub high-entries : (t : Slices) (n : ℕ) (F : Forest ℕ) (highest : ℤ) → highest ≡ lowest +ℤ pos S → Spans t 0 n F → greatestOf F ≤ S → OwnEnds S H D F
+  high-entries : (t : Slices) (n : ℕ) (F : Forest ℕ) (highest : ℤ) → highest ≡ lowest +ℤ pos S → Spans t 0 n F → greatestOf F ≤ S → OwnEnds S H D F
       → entriesOf (t .kinds) D highest false n ≡ map (ofEntry (λ (e : Ends). e .high)) (heightEntries lowest S F)
   high-entries t n F highest q s l o =
       ap (λ (z : ℤ). entriesOf (t .kinds) D z false n) q

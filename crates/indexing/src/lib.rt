@@ -43,7 +43,7 @@ fn own_least(kind: &[u8], stop: &[u16], points: &[u32], n: usize, i: usize) -> u
 }
 
 // The same of every node, the last first: when a node's turn comes its children have theirs.
-pub fn least_under(kind: &[u8], stop: &[u16], points: &mut [u32], n: usize)
+fn least_under(kind: &[u8], stop: &[u16], points: &mut [u32], n: usize)
     requires { ⌜ (n ≤ length (now kind)) × (n ≤ length (now stop)) × (n ≤ length (now points)) × (n ≤ 1024) × Nodes (now kind) (now stop) n ⌝ }
     ensures { λ _. ⌜ (length (now (points .exit)) ≡ length (now (points .entry))) × Leasts (now (kind .entry)) (now (stop .entry)) (now (points .entry)) (now (points .exit)) n ⌝ }
 {
@@ -66,7 +66,8 @@ pub fn drops(height: &[u32], drop: &mut [u32], n: usize, span: u32)
     }
 }
 
-// How far each node's least height lies above 0, and its greatest below the span: both are least numbers, of heights and of drops.
+// Into `height` each node's least height, a leaf's being its own as before, and into `drop` how far its greatest lies below the span: both are least numbers, of
+// heights and of drops.
 pub fn own_ends(
     kind: &[u8],
     stop: &[u16],

@@ -42,7 +42,7 @@ module _ (g : Way) where
   fit-sound v o CHANCE F q f = record { ends = o; paid = omega (arith, grained-split (g .rule .grain) F, fit-weight v CHANCE F q f refl); weighed = refl }
 
   -- whatever the parent's total N
-  pub fit-within : (v : Ends) (left N : ℕ) (k : Kind) (F : Forest ℕ) → Fit g v k F → Within (rulesOf g left .frame) (frameAt v N) (grained (g .rule .grain) F)
+  fit-within : (v : Ends) (left N : ℕ) (k : Kind) (F : Forest ℕ) → Fit g v k F → Within (rulesOf g left .frame) (frameAt v N) (grained (g .rule .grain) F)
   unfolding Fit grained
   fit-within v left N k end f = tt
   fit-within v left N k (leaf n w h rest) f = (f .1, f .2, fit-within v left N k rest (f .3))

@@ -31,7 +31,7 @@ module _ {A : Type 0} (P : SumArith A) (O : Arith A) (fr fr2 : ℕ → Forest A 
       → sumsAfter P O R e k rest t ≡ sumsAfter P O R2 e k rest t
   after-same e k rest t q = ap (λ (x : Seen A). cond (stop O (scaled e k ε) rest t) (leave P e k (cut e k t)) x) q
 
-  pub scan-same : (e : Frame A) (k : Kind) (f : Forest A) (s : alg.State A) → SameAt f → scanSums P O R e k f s ≡ scanSums P O R2 e k f s
+  scan-same : (e : Frame A) (k : Kind) (f : Forest A) (s : alg.State A) → SameAt f → scanSums P O R e k f s ≡ scanSums P O R2 e k f s
   unfolding scanSums
   scan-same e k end s h = refl
   scan-same e k (leaf n w v rest) s h = after-same e k rest _ (scan-same e k rest _ h)

@@ -136,7 +136,7 @@ plain-same t ε rises left end = tt
 plain-same t ε rises left (leaf n w h rest) = plain-same t ε rises left rest
 plain-same t ε rises left (inner n w k under rest) = (refl, plain-same t ε rises left under, plain-same t ε rises left rest)
 
-pub each-listed : (g : Way) (F : Forest ℕ) → length (g .tops) ≡ 0 → EachInner (Listed g) F
+each-listed : (g : Way) (F : Forest ℕ) → length (g .tops) ≡ 0 → EachInner (Listed g) F
 each-listed g end z = tt
 each-listed g (leaf n w h rest) z = each-listed g rest z
 each-listed g (inner n w k under rest) z = ((λ l. absurd (omega arith)), each-listed g under z, each-listed g rest z)

@@ -127,7 +127,7 @@ ends-same G H T v c n = pick (eqb (length T) 0)
     pick true = refl
     pick false = refl
 
-pub way-same : (g : Rule) (H T : List ℕ) (v : Ends) (c : ℕ) {u : Ends} → u ≡ endsAt (g .grain) H T v c → way g u H T ≡ way g v H T
+way-same : (g : Rule) (H T : List ℕ) (v : Ends) (c : ℕ) {u : Ends} → u ≡ endsAt (g .grain) H T v c → way g u H T ≡ way g v H T
 way-same g H T v c q =
     ap (λ (u : Ends). way g u H T) q ∙ λ i. record { rule = g; own = λ n. ends-same (g .grain) H T v c n i; rises = H; tops = T }
 

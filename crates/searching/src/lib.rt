@@ -1,6 +1,6 @@
 // The bounded search over the decoded table: Algorithm 1 of document 000, whose lines are named here, in grains above the lowest end. One code for the plain
 // search and for that with an index (document 02, Item 14): with one an M, N or C has its own ends, which stand so many points above the table's lowest end as
-// `height` and `top` have for it; without one `top` is empty.
+// `height` and `tops` have for it; without one `tops` is empty.
 ghost use Prim.Native.Nat.{_+_};
 ghost use lib.ListN.{length};
 ghost use Rattle.table.specs.Tree.{MAX, MIN, CHANCE};
@@ -15,7 +15,7 @@ use steps::Rule;
 use steps::State;
 use steps::Window;
 
-// The children of an M whose ends are `bottom` and `highest`, entries c up to end, in the window w, with so many reads left. Whether the budget was spent is
+// The children of an M whose ends are `bottom` and `top`, entries c up to end, in the window w, with so many reads left. Whether the budget was spent is
 // as the child met last tells it: once a node was met with none left, every later one is. The ends come as two numbers and no struct: else the compiled
 // code stores them for each child and reads them back (docs/SPEED.md).
 fn max_over(
@@ -23,23 +23,20 @@ fn max_over(
     stop: &[u16],
     weight: &[u8],
     height: &[u32],
-    top: &[u32],
+    tops: &[u32],
     leaves: &mut [u16],
     left: usize,
     g: Rule,
     c: usize,
     end: usize,
     bottom: u64,
-    highest: u64,
+    top: u64,
     w: Window,
 ) -> Found
-    requires { ⌜ ReadyChildren (slices (now kind) (now stop) (now weight) (now height)) (way g (ends bottom highest) (now height) (now top)) (ends bottom highest) MAX w c end left (length (now leaves)) ⌝ }
-    ensures { λ r. ⌜ Told (slices (now (kind .entry)) (now (stop .entry)) (now (weight .entry)) (now (height .entry))) (way g (ends bottom highest) (now (height .entry)) (now (top .entry))) (ends bottom highest) MAX w c end left r (now (leaves .entry)) (now (leaves .exit)) ⌝ }
+    requires { ⌜ ReadyChildren (slices (now kind) (now stop) (now weight) (now height)) (way g (ends bottom top) (now height) (now tops)) (ends bottom top) MAX w c end left (length (now leaves)) ⌝ }
+    ensures { λ r. ⌜ Told (slices (now (kind .entry)) (now (stop .entry)) (now (weight .entry)) (now (height .entry))) (way g (ends bottom top) (now (height .entry)) (now (tops .entry))) (ends bottom top) MAX w c end left r (now (leaves .entry)) (now (leaves .exit)) ⌝ }
 {
-    let v = Ends {
-        bottom,
-        top: highest,
-    };
+    let v = Ends { bottom, top };
     if left == 0 {
         return steps::met_spent(v);
     }
@@ -65,16 +62,58 @@ fn max_over(
         if k == 0 {
             r = steps::leaf_at(height, leaves, n, i, g.grain, v);
         } else {
-            let u = steps::ends_at(height, top, v, g.grain, i);
+            let u = steps::ends_at(height, tops, v, g.grain, i);
             let a = u.bottom;
             let b = u.top;
             let j = i + 1;
             if k == 1 {
-                r = max_over(kind, stop, weight, height, top, leaves, n, g, j, e, a, b, y);
+                r = max_over(
+                    kind,
+                    stop,
+                    weight,
+                    height,
+                    tops,
+                    leaves,
+                    n,
+                    g,
+                    j,
+                    e,
+                    a,
+                    b,
+                    y,
+                );
             } else if k == 2 {
-                r = min_over(kind, stop, weight, height, top, leaves, n, g, j, e, a, b, y);
+                r = min_over(
+                    kind,
+                    stop,
+                    weight,
+                    height,
+                    tops,
+                    leaves,
+                    n,
+                    g,
+                    j,
+                    e,
+                    a,
+                    b,
+                    y,
+                );
             } else {
-                r = chance_over(kind, stop, weight, height, top, leaves, n, g, j, e, a, b, y);
+                r = chance_over(
+                    kind,
+                    stop,
+                    weight,
+                    height,
+                    tops,
+                    leaves,
+                    n,
+                    g,
+                    j,
+                    e,
+                    a,
+                    b,
+                    y,
+                );
             }
         }
         t = steps::max_after(v, i, t, r.low, r.high);
@@ -107,23 +146,20 @@ fn min_over(
     stop: &[u16],
     weight: &[u8],
     height: &[u32],
-    top: &[u32],
+    tops: &[u32],
     leaves: &mut [u16],
     left: usize,
     g: Rule,
     c: usize,
     end: usize,
     bottom: u64,
-    highest: u64,
+    top: u64,
     w: Window,
 ) -> Found
-    requires { ⌜ ReadyChildren (slices (now kind) (now stop) (now weight) (now height)) (way g (ends bottom highest) (now height) (now top)) (ends bottom highest) MIN w c end left (length (now leaves)) ⌝ }
-    ensures { λ r. ⌜ Told (slices (now (kind .entry)) (now (stop .entry)) (now (weight .entry)) (now (height .entry))) (way g (ends bottom highest) (now (height .entry)) (now (top .entry))) (ends bottom highest) MIN w c end left r (now (leaves .entry)) (now (leaves .exit)) ⌝ }
+    requires { ⌜ ReadyChildren (slices (now kind) (now stop) (now weight) (now height)) (way g (ends bottom top) (now height) (now tops)) (ends bottom top) MIN w c end left (length (now leaves)) ⌝ }
+    ensures { λ r. ⌜ Told (slices (now (kind .entry)) (now (stop .entry)) (now (weight .entry)) (now (height .entry))) (way g (ends bottom top) (now (height .entry)) (now (tops .entry))) (ends bottom top) MIN w c end left r (now (leaves .entry)) (now (leaves .exit)) ⌝ }
 {
-    let v = Ends {
-        bottom,
-        top: highest,
-    };
+    let v = Ends { bottom, top };
     if left == 0 {
         return steps::met_spent(v);
     }
@@ -148,16 +184,58 @@ fn min_over(
         if k == 0 {
             r = steps::leaf_at(height, leaves, n, i, g.grain, v);
         } else {
-            let u = steps::ends_at(height, top, v, g.grain, i);
+            let u = steps::ends_at(height, tops, v, g.grain, i);
             let a = u.bottom;
             let b = u.top;
             let j = i + 1;
             if k == 1 {
-                r = max_over(kind, stop, weight, height, top, leaves, n, g, j, e, a, b, y);
+                r = max_over(
+                    kind,
+                    stop,
+                    weight,
+                    height,
+                    tops,
+                    leaves,
+                    n,
+                    g,
+                    j,
+                    e,
+                    a,
+                    b,
+                    y,
+                );
             } else if k == 2 {
-                r = min_over(kind, stop, weight, height, top, leaves, n, g, j, e, a, b, y);
+                r = min_over(
+                    kind,
+                    stop,
+                    weight,
+                    height,
+                    tops,
+                    leaves,
+                    n,
+                    g,
+                    j,
+                    e,
+                    a,
+                    b,
+                    y,
+                );
             } else {
-                r = chance_over(kind, stop, weight, height, top, leaves, n, g, j, e, a, b, y);
+                r = chance_over(
+                    kind,
+                    stop,
+                    weight,
+                    height,
+                    tops,
+                    leaves,
+                    n,
+                    g,
+                    j,
+                    e,
+                    a,
+                    b,
+                    y,
+                );
             }
         }
         t = steps::min_after(v, i, t, r.low, r.high);
@@ -191,23 +269,20 @@ fn chance_over(
     stop: &[u16],
     weight: &[u8],
     height: &[u32],
-    top: &[u32],
+    tops: &[u32],
     leaves: &mut [u16],
     left: usize,
     g: Rule,
     c: usize,
     end: usize,
     bottom: u64,
-    highest: u64,
+    top: u64,
     w: Window,
 ) -> Found
-    requires { ⌜ ReadyChildren (slices (now kind) (now stop) (now weight) (now height)) (way g (ends bottom highest) (now height) (now top)) (ends bottom highest) CHANCE w c end left (length (now leaves)) ⌝ }
-    ensures { λ r. ⌜ Told (slices (now (kind .entry)) (now (stop .entry)) (now (weight .entry)) (now (height .entry))) (way g (ends bottom highest) (now (height .entry)) (now (top .entry))) (ends bottom highest) CHANCE w c end left r (now (leaves .entry)) (now (leaves .exit)) ⌝ }
+    requires { ⌜ ReadyChildren (slices (now kind) (now stop) (now weight) (now height)) (way g (ends bottom top) (now height) (now tops)) (ends bottom top) CHANCE w c end left (length (now leaves)) ⌝ }
+    ensures { λ r. ⌜ Told (slices (now (kind .entry)) (now (stop .entry)) (now (weight .entry)) (now (height .entry))) (way g (ends bottom top) (now (height .entry)) (now (tops .entry))) (ends bottom top) CHANCE w c end left r (now (leaves .entry)) (now (leaves .exit)) ⌝ }
 {
-    let v = Ends {
-        bottom,
-        top: highest,
-    };
+    let v = Ends { bottom, top };
     if left == 0 {
         return steps::met_spent(v);
     }
@@ -224,17 +299,59 @@ fn chance_over(
         if k == 0 {
             r = steps::leaf_at(height, leaves, n, i, g.grain, v);
         } else {
-            let u = steps::ends_at(height, top, v, g.grain, i);
+            let u = steps::ends_at(height, tops, v, g.grain, i);
             let a = u.bottom;
             let b = u.top;
             let j = i + 1;
             let y = steps::chance_window(v, t, x);
             if k == 1 {
-                r = max_over(kind, stop, weight, height, top, leaves, n, g, j, e, a, b, y);
+                r = max_over(
+                    kind,
+                    stop,
+                    weight,
+                    height,
+                    tops,
+                    leaves,
+                    n,
+                    g,
+                    j,
+                    e,
+                    a,
+                    b,
+                    y,
+                );
             } else if k == 2 {
-                r = min_over(kind, stop, weight, height, top, leaves, n, g, j, e, a, b, y);
+                r = min_over(
+                    kind,
+                    stop,
+                    weight,
+                    height,
+                    tops,
+                    leaves,
+                    n,
+                    g,
+                    j,
+                    e,
+                    a,
+                    b,
+                    y,
+                );
             } else {
-                r = chance_over(kind, stop, weight, height, top, leaves, n, g, j, e, a, b, y);
+                r = chance_over(
+                    kind,
+                    stop,
+                    weight,
+                    height,
+                    tops,
+                    leaves,
+                    n,
+                    g,
+                    j,
+                    e,
+                    a,
+                    b,
+                    y,
+                );
             }
         }
         t = steps::chance_after(v, t, x, r.low, r.high);
@@ -256,21 +373,21 @@ pub fn search(
     stop: &[u16],
     weight: &[u8],
     height: &[u32],
-    top: &[u32],
+    tops: &[u32],
     leaves: &mut [u16],
     n: usize,
     g: Rule,
     v: Ends,
 ) -> Found
-    requires { ⌜ ReadyRoot (slices (now kind) (now stop) (now weight) (now height)) (way g v (now height) (now top)) v n ⌝ }
-    ensures { λ r. ⌜ Searched (slices (now (kind .entry)) (now (stop .entry)) (now (weight .entry)) (now (height .entry))) (way g v (now (height .entry)) (now (top .entry))) v n r (now (leaves .entry)) (now (leaves .exit)) ⌝ }
+    requires { ⌜ ReadyRoot (slices (now kind) (now stop) (now weight) (now height)) (way g v (now height) (now tops)) v n ⌝ }
+    ensures { λ r. ⌜ Searched (slices (now (kind .entry)) (now (stop .entry)) (now (weight .entry)) (now (height .entry))) (way g v (now (height .entry)) (now (tops .entry))) v n r (now (leaves .entry)) (now (leaves .exit)) ⌝ }
 {
     let left = leaves.len();
     let k = at8(kind, 0);
     if k == 0 {
         return steps::leaf_at(height, leaves, left, 0, g.grain, v);
     }
-    let u = steps::ends_at(height, top, v, g.grain, 0);
+    let u = steps::ends_at(height, tops, v, g.grain, 0);
     let w = Window {
         alpha: u.bottom,
         beta: u.top,
@@ -281,7 +398,7 @@ pub fn search(
             stop,
             weight,
             height,
-            top,
+            tops,
             leaves,
             left,
             g,
@@ -298,7 +415,7 @@ pub fn search(
             stop,
             weight,
             height,
-            top,
+            tops,
             leaves,
             left,
             g,
@@ -314,7 +431,7 @@ pub fn search(
         stop,
         weight,
         height,
-        top,
+        tops,
         leaves,
         left,
         g,

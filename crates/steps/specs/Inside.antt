@@ -67,7 +67,7 @@ stops margin s = natural .near margin (s .alpha) (s .beta)
 
 -- ---- results
 
--- the ends of the node n, whose lists say how many points they stand above the table's lowest end; those of its parent, v, where the lists are empty
+-- the ends of the node n: the lists have how many points they stand above the table's lowest end; where these are empty, they are its parent's, v
 abbrev pub endsAt : (grain : ℕ) (rises tops : List ℕ) → Ends → (n : ℕ) → Ends
 endsAt grain rises tops v n = cond (eqb (length tops) 0) v (record { bottom = getD rises n 0 * grain; top = getD tops n 0 * grain })
 

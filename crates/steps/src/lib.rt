@@ -230,17 +230,17 @@ fn grains_at(points: &[u32], i: usize, grain: u64) -> u64
     wide32(points[i]) * grain
 }
 
-// The least and the greatest value of the M, N or C at entry i, whose parent has the ends v: with an index how many points its own ends stand above the
-// table's lowest end, in grains. Without one, where the list is empty, every node has the table's ends.
-pub fn ends_at(rise: &[u32], top: &[u32], v: Ends, grain: u64, i: usize) -> Ends
-    requires { ⌜ (0 < length (now top) → (i < length (now rise)) × (i < length (now top)) × (getD (now rise) i 0 * grain ≤ limit) × (getD (now top) i 0 * grain ≤ limit)) ⌝ }
-    ensures { λ r. ⌜ r ≡ endsAt grain (now (rise .entry)) (now (top .entry)) v i ⌝ }
+// The least and the greatest value of the M, N or C at entry i, whose parent has the ends v. With an index they are its own, which the two lists have in points
+// above the table's lowest end; where `tops` is empty there is none, and they are v, the table's.
+pub fn ends_at(rise: &[u32], tops: &[u32], v: Ends, grain: u64, i: usize) -> Ends
+    requires { ⌜ (0 < length (now tops) → (i < length (now rise)) × (i < length (now tops)) × (getD (now rise) i 0 * grain ≤ limit) × (getD (now tops) i 0 * grain ≤ limit)) ⌝ }
+    ensures { λ r. ⌜ r ≡ endsAt grain (now (rise .entry)) (now (tops .entry)) v i ⌝ }
 {
-    if top.len() == 0 {
+    if tops.len() == 0 {
         return v;
     }
     let b = grains_at(rise, i, grain);
-    let t = grains_at(top, i, grain);
+    let t = grains_at(tops, i, grain);
     Ends { bottom: b, top: t }
 }
 

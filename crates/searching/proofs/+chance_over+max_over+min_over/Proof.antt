@@ -115,18 +115,18 @@ chance-over-claims t = (
 )
 
 abbrev chance-over-Inv-loop : chance-over-lts.InvT-loop
-chance-over-Inv-loop kind stop weight height top leaves₀ left g c end bottom highest v total margin t₀ i₀ n₀ leaves t i n =
-    Going (slices kind stop weight height) (way g v height top) v CHANCE (windowFrom total t₀) c end left leaves₀ t i n leaves
+chance-over-Inv-loop kind stop weight height tops leaves₀ left g c end bottom top v total margin t₀ i₀ n₀ leaves t i n =
+    Going (slices kind stop weight height) (way g v height tops) v CHANCE (windowFrom total t₀) c end left leaves₀ t i n leaves
 
 abbrev chance-over-μ-loop : chance-over-lts.MeasureT-loop
-chance-over-μ-loop kind stop weight height top leaves₀ left g c end bottom highest v total margin t₀ i₀ n₀ leaves t i n = end - i
+chance-over-μ-loop kind stop weight height tops leaves₀ left g c end bottom top v total margin t₀ i₀ n₀ leaves t i n = end - i
 
 chance-over-met-spent-requires : (t : ℕ) → chance-over-lts.Need-met-spent-requires (chance-over-claims t) (chance-over-at t) chance-over.Post chance-over-Inv-loop chance-over-μ-loop
 chance-over-met-spent-requires t c κs = search needs
 
 chance-over-returns : (t : ℕ) → chance-over-lts.Need-returns (chance-over-claims t) (chance-over-at t) chance-over.Post chance-over-Inv-loop chance-over-μ-loop
 chance-over-returns t c = let a = c .before .before .before .before .before .before .before .before .args in
-    told-spent (slices (a .kind .now) (a .stop .now) (a .weight .now) (a .height .now)) (way (a .g) (ends (a .bottom) (a .highest)) (a .height .now) (a .top .now)) CHANCE (a .w) (a .c) (a .end) (c .before .if1 .taken) (c .met-spent .ensures)
+    told-spent (slices (a .kind .now) (a .stop .now) (a .weight .now) (a .height .now)) (way (a .g) (ends (a .bottom) (a .top)) (a .height .now) (a .tops .now)) CHANCE (a .w) (a .c) (a .end) (c .before .if1 .taken) (c .met-spent .ensures)
 
 chance-over-sum-weights-requires : (t : ℕ) → chance-over-lts.Need-sum-weights-requires (chance-over-claims t) (chance-over-at t) chance-over.Post chance-over-Inv-loop chance-over-μ-loop
 chance-over-sum-weights-requires t c κs =
@@ -182,7 +182,7 @@ chance-over-sizes t c =
 chance-over-near : (t : ℕ) (c : chance-over-lts.After-wide8 (chance-over-claims t) (chance-over-at t) chance-over.Post chance-over-Inv-loop chance-over-μ-loop)
     → let a = c .before .before .before .before .before .before .before .before .before .before .before .before .before .before .before .args in
     let l = c .before .before .before .before .loop in
-    Child (slices (a .kind .now) (a .stop .now) (a .weight .now) (a .height .now)) (way (a .g) (ends (a .bottom) (a .highest)) (a .height .now) (a .top .now)) (ends (a .bottom) (a .highest)) (a .c) (a .end) (l .i) (c .before .before .before .node-at .result) (l .n) (length (l .leaves)) (record { alpha = 0; beta = 0 })
+    Child (slices (a .kind .now) (a .stop .now) (a .weight .now) (a .height .now)) (way (a .g) (ends (a .bottom) (a .top)) (a .height .now) (a .tops .now)) (ends (a .bottom) (a .top)) (a .c) (a .end) (l .i) (c .before .before .before .node-at .result) (l .n) (length (l .leaves)) (record { alpha = 0; beta = 0 })
 chance-over-near t c =
     let x = c .before .before .before .node-at in
     child-of (c .before .before .before .before .loop .inv) (x .result) (record { alpha = 0; beta = 0 }) (x .ensures) (omega arith) (omega arith)
@@ -210,14 +210,14 @@ chance-over-child : (t : ℕ) (c : chance-over-lts.After-chance-window (chance-o
     → let W = c .before .before .before in
     let a = W .before .before .before .before .before .before .before .before .before .before .before .before .before .before .before .args in
     let l = W .before .before .before .before .loop in
-    Child (slices (a .kind .now) (a .stop .now) (a .weight .now) (a .height .now)) (way (a .g) (ends (a .bottom) (a .highest)) (a .height .now) (a .top .now)) (ends (a .bottom) (a .highest)) (a .c) (a .end) (l .i) (W .before .before .before .node-at .result) (l .n) (length (l .leaves)) (c .chance-window .result)
+    Child (slices (a .kind .now) (a .stop .now) (a .weight .now) (a .height .now)) (way (a .g) (ends (a .bottom) (a .top)) (a .height .now) (a .tops .now)) (ends (a .bottom) (a .top)) (a .c) (a .end) (l .i) (W .before .before .before .node-at .result) (l .n) (length (l .leaves)) (c .chance-window .result)
 chance-over-child t c =
     let W = c .before .before .before in
     let a = W .before .before .before .before .before .before .before .before .before .before .before .before .before .before .before .args in
     let l = W .before .before .before .before .loop in
     let x = W .before .before .before .node-at in
     let y = c .chance-window in
-    let q = window-small (ends (a .bottom) (a .highest)) (W .wide8 .result) (l .t) (l .inv .ends) in
+    let q = window-small (ends (a .bottom) (a .top)) (W .wide8 .result) (l .t) (l .inv .ends) in
     child-of (l .inv) (x .result) (y .result) (x .ensures)
     (subst (λ (z : Window). z .alpha ≤ limit) (sym (y .ensures)) (q .0)) (subst (λ (z : Window). z .beta ≤ limit) (sym (y .ensures)) (q .1))
 
@@ -275,7 +275,7 @@ chance-over-turn : (t : ℕ) (c : chance-over-lts.After-chance-after (chance-ove
     → let W = c .before .before in
     let a = W .before .before .before .before .before .before .before .before .before .before .before .before .before .before .before .args in
     let B = W .before .before .before .before .before in
-    Turn (slices (a .kind .now) (a .stop .now) (a .weight .now) (a .height .now)) (way (a .g) (ends (a .bottom) (a .highest)) (a .height .now) (a .top .now)) (ends (a .bottom) (a .highest)) CHANCE (windowFrom (B .before .before .sum-weights .result) (B .chance-start .result)) (a .c) (a .end) (a .left) (B .before .chance-margin .result) (a .leaves .now)
+    Turn (slices (a .kind .now) (a .stop .now) (a .weight .now) (a .height .now)) (way (a .g) (ends (a .bottom) (a .top)) (a .height .now) (a .tops .now)) (ends (a .bottom) (a .top)) CHANCE (windowFrom (B .before .before .sum-weights .result) (B .chance-start .result)) (a .c) (a .end) (a .left) (B .before .chance-margin .result) (a .leaves .now)
     (W .before .before .before .before .loop .i) (W .before .before .before .node-at .result) (c .before .if2 .r) (c .chance-after .result) (c .before .if2 .leaves)
 chance-over-turn t c =
     let W = c .before .before in
@@ -355,18 +355,18 @@ max-over-claims t = (
 )
 
 abbrev max-over-Inv-loop : max-over-lts.InvT-loop
-max-over-Inv-loop kind stop weight height top leaves₀ left g c end bottom highest v t₀ i₀ n₀ leaves t i n =
-    Going (slices kind stop weight height) (way g v height top) v MAX (windowOf t₀) c end left leaves₀ t i n leaves
+max-over-Inv-loop kind stop weight height tops leaves₀ left g c end bottom top v t₀ i₀ n₀ leaves t i n =
+    Going (slices kind stop weight height) (way g v height tops) v MAX (windowOf t₀) c end left leaves₀ t i n leaves
 
 abbrev max-over-μ-loop : max-over-lts.MeasureT-loop
-max-over-μ-loop kind stop weight height top leaves₀ left g c end bottom highest v t₀ i₀ n₀ leaves t i n = end - i
+max-over-μ-loop kind stop weight height tops leaves₀ left g c end bottom top v t₀ i₀ n₀ leaves t i n = end - i
 
 max-over-met-spent-requires : (t : ℕ) → max-over-lts.Need-met-spent-requires (max-over-claims t) (max-over-at t) max-over.Post max-over-Inv-loop max-over-μ-loop
 max-over-met-spent-requires t c κs = search needs
 
 max-over-returns : (t : ℕ) → max-over-lts.Need-returns (max-over-claims t) (max-over-at t) max-over.Post max-over-Inv-loop max-over-μ-loop
 max-over-returns t c = let a = c .before .before .before .before .before .before .before .before .args in
-    told-spent (slices (a .kind .now) (a .stop .now) (a .weight .now) (a .height .now)) (way (a .g) (ends (a .bottom) (a .highest)) (a .height .now) (a .top .now)) MAX (a .w) (a .c) (a .end) (c .before .if1 .taken) (c .met-spent .ensures)
+    told-spent (slices (a .kind .now) (a .stop .now) (a .weight .now) (a .height .now)) (way (a .g) (ends (a .bottom) (a .top)) (a .height .now) (a .tops .now)) MAX (a .w) (a .c) (a .end) (c .before .if1 .taken) (c .met-spent .ensures)
 
 max-over-loop-holds : (t : ℕ) → max-over-lts.Need-loop-holds (max-over-claims t) (max-over-at t) max-over.Post max-over-Inv-loop max-over-μ-loop
 max-over-loop-holds t c = let p = c .before .before .before .before .before .before .before in going-start MAX (p .args .w) (p .pre .1) (c .if1 .left)
@@ -381,7 +381,7 @@ max-over-at8-requires t c κs = let I = c .before .loop .inv in omega (arith, I 
 max-over-child : (t : ℕ) (c : max-over-lts.After-at8 (max-over-claims t) (max-over-at t) max-over.Post max-over-Inv-loop max-over-μ-loop)
     → let a = c .before .before .before .before .before .before .before .before .before .before .args in
     let l = c .before .before .loop in
-    Child (slices (a .kind .now) (a .stop .now) (a .weight .now) (a .height .now)) (way (a .g) (ends (a .bottom) (a .highest)) (a .height .now) (a .top .now)) (ends (a .bottom) (a .highest)) (a .c) (a .end) (l .i) (c .before .node-at .result) (l .n) (length (l .leaves)) (windowOf (l .t))
+    Child (slices (a .kind .now) (a .stop .now) (a .weight .now) (a .height .now)) (way (a .g) (ends (a .bottom) (a .top)) (a .height .now) (a .tops .now)) (ends (a .bottom) (a .top)) (a .c) (a .end) (l .i) (c .before .node-at .result) (l .n) (length (l .leaves)) (windowOf (l .t))
 unfolding scaled
 max-over-child t c =
     let l = c .before .before .loop in
@@ -421,7 +421,7 @@ max-over-chance-over-requires t c κs =
 max-over-joined : (t : ℕ) (c : max-over-lts.Joined2 (max-over-claims t) (max-over-at t) max-over.Post max-over-Inv-loop max-over-μ-loop)
     → let a = c .before .before .before .before .before .before .before .before .before .before .before .args in
     let l = c .before .before .before .loop in
-    NodeTold (slices (a .kind .now) (a .stop .now) (a .weight .now) (a .height .now)) (way (a .g) (ends (a .bottom) (a .highest)) (a .height .now) (a .top .now)) (ends (a .bottom) (a .highest)) (windowOf (l .t)) (l .i) (l .n) (c .if2 .r) (l .leaves) (c .if2 .leaves)
+    NodeTold (slices (a .kind .now) (a .stop .now) (a .weight .now) (a .height .now)) (way (a .g) (ends (a .bottom) (a .top)) (a .height .now) (a .tops .now)) (ends (a .bottom) (a .top)) (windowOf (l .t)) (l .i) (l .n) (c .if2 .r) (l .leaves) (c .if2 .leaves)
 max-over-joined t c =
     let k = c .before .at8 in
     let x = c .before .before .node-at in
@@ -441,7 +441,7 @@ max-over-max-after-requires t c κs = search needs
 -- after the child: one turn of the loop
 max-over-turn : (t : ℕ) (c : max-over-lts.After-max-after (max-over-claims t) (max-over-at t) max-over.Post max-over-Inv-loop max-over-μ-loop)
     → let a = c .before .before .before .before .before .before .before .before .before .before .before .before .args in
-    Turn (slices (a .kind .now) (a .stop .now) (a .weight .now) (a .height .now)) (way (a .g) (ends (a .bottom) (a .highest)) (a .height .now) (a .top .now)) (ends (a .bottom) (a .highest)) MAX (a .w) (a .c) (a .end) (a .left) (a .g .margin) (a .leaves .now)
+    Turn (slices (a .kind .now) (a .stop .now) (a .weight .now) (a .height .now)) (way (a .g) (ends (a .bottom) (a .top)) (a .height .now) (a .tops .now)) (ends (a .bottom) (a .top)) MAX (a .w) (a .c) (a .end) (a .left) (a .g .margin) (a .leaves .now)
     (c .before .before .before .before .loop .i) (c .before .before .before .node-at .result) (c .before .if2 .r) (c .max-after .result) (c .before .if2 .leaves)
 unfolding scaled
 max-over-turn t c =
@@ -509,18 +509,18 @@ min-over-claims t = (
 )
 
 abbrev min-over-Inv-loop : min-over-lts.InvT-loop
-min-over-Inv-loop kind stop weight height top leaves₀ left g c end bottom highest v t₀ i₀ n₀ leaves t i n =
-    Going (slices kind stop weight height) (way g v height top) v MIN (windowOf t₀) c end left leaves₀ t i n leaves
+min-over-Inv-loop kind stop weight height tops leaves₀ left g c end bottom top v t₀ i₀ n₀ leaves t i n =
+    Going (slices kind stop weight height) (way g v height tops) v MIN (windowOf t₀) c end left leaves₀ t i n leaves
 
 abbrev min-over-μ-loop : min-over-lts.MeasureT-loop
-min-over-μ-loop kind stop weight height top leaves₀ left g c end bottom highest v t₀ i₀ n₀ leaves t i n = end - i
+min-over-μ-loop kind stop weight height tops leaves₀ left g c end bottom top v t₀ i₀ n₀ leaves t i n = end - i
 
 min-over-met-spent-requires : (t : ℕ) → min-over-lts.Need-met-spent-requires (min-over-claims t) (min-over-at t) min-over.Post min-over-Inv-loop min-over-μ-loop
 min-over-met-spent-requires t c κs = search needs
 
 min-over-returns : (t : ℕ) → min-over-lts.Need-returns (min-over-claims t) (min-over-at t) min-over.Post min-over-Inv-loop min-over-μ-loop
 min-over-returns t c = let a = c .before .before .before .before .before .before .before .before .args in
-    told-spent (slices (a .kind .now) (a .stop .now) (a .weight .now) (a .height .now)) (way (a .g) (ends (a .bottom) (a .highest)) (a .height .now) (a .top .now)) MIN (a .w) (a .c) (a .end) (c .before .if1 .taken) (c .met-spent .ensures)
+    told-spent (slices (a .kind .now) (a .stop .now) (a .weight .now) (a .height .now)) (way (a .g) (ends (a .bottom) (a .top)) (a .height .now) (a .tops .now)) MIN (a .w) (a .c) (a .end) (c .before .if1 .taken) (c .met-spent .ensures)
 
 min-over-loop-holds : (t : ℕ) → min-over-lts.Need-loop-holds (min-over-claims t) (min-over-at t) min-over.Post min-over-Inv-loop min-over-μ-loop
 min-over-loop-holds t c = let p = c .before .before .before .before .before .before .before in going-start MIN (p .args .w) (p .pre .1) (c .if1 .left)
@@ -535,7 +535,7 @@ min-over-at8-requires t c κs = let I = c .before .loop .inv in omega (arith, I 
 min-over-child : (t : ℕ) (c : min-over-lts.After-at8 (min-over-claims t) (min-over-at t) min-over.Post min-over-Inv-loop min-over-μ-loop)
     → let a = c .before .before .before .before .before .before .before .before .before .before .args in
     let l = c .before .before .loop in
-    Child (slices (a .kind .now) (a .stop .now) (a .weight .now) (a .height .now)) (way (a .g) (ends (a .bottom) (a .highest)) (a .height .now) (a .top .now)) (ends (a .bottom) (a .highest)) (a .c) (a .end) (l .i) (c .before .node-at .result) (l .n) (length (l .leaves)) (windowOf (l .t))
+    Child (slices (a .kind .now) (a .stop .now) (a .weight .now) (a .height .now)) (way (a .g) (ends (a .bottom) (a .top)) (a .height .now) (a .tops .now)) (ends (a .bottom) (a .top)) (a .c) (a .end) (l .i) (c .before .node-at .result) (l .n) (length (l .leaves)) (windowOf (l .t))
 unfolding scaled
 min-over-child t c =
     let l = c .before .before .loop in
@@ -575,7 +575,7 @@ min-over-chance-over-requires t c κs =
 min-over-joined : (t : ℕ) (c : min-over-lts.Joined2 (min-over-claims t) (min-over-at t) min-over.Post min-over-Inv-loop min-over-μ-loop)
     → let a = c .before .before .before .before .before .before .before .before .before .before .before .args in
     let l = c .before .before .before .loop in
-    NodeTold (slices (a .kind .now) (a .stop .now) (a .weight .now) (a .height .now)) (way (a .g) (ends (a .bottom) (a .highest)) (a .height .now) (a .top .now)) (ends (a .bottom) (a .highest)) (windowOf (l .t)) (l .i) (l .n) (c .if2 .r) (l .leaves) (c .if2 .leaves)
+    NodeTold (slices (a .kind .now) (a .stop .now) (a .weight .now) (a .height .now)) (way (a .g) (ends (a .bottom) (a .top)) (a .height .now) (a .tops .now)) (ends (a .bottom) (a .top)) (windowOf (l .t)) (l .i) (l .n) (c .if2 .r) (l .leaves) (c .if2 .leaves)
 min-over-joined t c =
     let k = c .before .at8 in
     let x = c .before .before .node-at in
@@ -595,7 +595,7 @@ min-over-min-after-requires t c κs = search needs
 -- after the child: one turn of the loop
 min-over-turn : (t : ℕ) (c : min-over-lts.After-min-after (min-over-claims t) (min-over-at t) min-over.Post min-over-Inv-loop min-over-μ-loop)
     → let a = c .before .before .before .before .before .before .before .before .before .before .before .before .args in
-    Turn (slices (a .kind .now) (a .stop .now) (a .weight .now) (a .height .now)) (way (a .g) (ends (a .bottom) (a .highest)) (a .height .now) (a .top .now)) (ends (a .bottom) (a .highest)) MIN (a .w) (a .c) (a .end) (a .left) (a .g .margin) (a .leaves .now)
+    Turn (slices (a .kind .now) (a .stop .now) (a .weight .now) (a .height .now)) (way (a .g) (ends (a .bottom) (a .top)) (a .height .now) (a .tops .now)) (ends (a .bottom) (a .top)) MIN (a .w) (a .c) (a .end) (a .left) (a .g .margin) (a .leaves .now)
     (c .before .before .before .before .loop .i) (c .before .before .before .node-at .result) (c .before .if2 .r) (c .min-after .result) (c .before .if2 .leaves)
 unfolding scaled
 min-over-turn t c =

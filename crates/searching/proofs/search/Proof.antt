@@ -24,7 +24,7 @@ abbrev slices-of : tie.After-at8 → Slices
 slices-of c = let a = start-of c .args in slices (now (a .kind)) (now (a .stop)) (now (a .weight)) (now (a .height))
 
 abbrev way-of : tie.After-at8 → Way
-way-of c = let a = start-of c .args in way (a .g) (a .v) (now (a .height)) (now (a .top))
+way-of c = let a = start-of c .args in way (a .g) (a .v) (now (a .height)) (now (a .tops))
 
 abbrev room-of : tie.After-at8 → ℕ
 room-of c = length (now (start-of c .args .leaves))

@@ -18,7 +18,7 @@ start-of E = E .before .before .before
 -- there is an index
 there : (E : tie.Else1)
     → let a = start-of E .args in
-    (a .i < length (now (a .rise))) × (a .i < length (now (a .top))) × (getD (now (a .rise)) (a .i) 0 * a .grain ≤ limit) × (getD (now (a .top)) (a .i) 0 * a .grain ≤ limit)
+    (a .i < length (now (a .rise))) × (a .i < length (now (a .tops))) × (getD (now (a .rise)) (a .i) 0 * a .grain ≤ limit) × (getD (now (a .tops)) (a .i) 0 * a .grain ≤ limit)
 there E = start-of E .pre (omega (arith, E .if1 .left))
 
 grains-at-requires : tie.Need-grains-at-requires
