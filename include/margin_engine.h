@@ -123,10 +123,10 @@ uint64_t margin_index(const uint8_t *text, size_t text_len, int64_t *lows, size_
  * leaves and numbers as in margin_search; there is no budget.
  *
  * What margin_search says of the bounds and the play holds here too, and mostly fewer leaves are read, as a line counts what is unread under it
- * at its own two ends and not at the table's: in seven tables from real play at most four leaves in ten, where margin_search reads nine. The answer
- * is the same whatever the other leaves are, provided that the index is; of margin_search it is the same whatever they are within the table's ends.
- * So it is for those who know all utilities and want an answer that rests on few of them. It takes about as long as margin_search, as the index is
- * worked out again to compare.
+ * at its own two ends and not at the table's: in seven tables from real play at most four leaves in ten of each, where margin_search reads more
+ * than eight. The answer is the same whatever the other leaves are, provided that the index is; of margin_search it is the same whatever they are
+ * within the table's ends. So it is for those who know all utilities and want an answer that rests on few of them. It takes about as long as
+ * margin_search, as the index is worked out again to compare.
  */
 uint64_t margin_search_indexed(const uint8_t *text, size_t text_len, int64_t margin, const int64_t *lows, size_t lows_len, const int64_t *highs,
                                size_t highs_len, uint16_t *leaves, size_t leaves_len, int64_t *numbers, size_t numbers_len);
