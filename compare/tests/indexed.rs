@@ -251,7 +251,7 @@ fn cut_tests() {
     }
     comparison.searching.report();
     comparison.searching.demand_two_totals();
-    // Windows that decide are rare in these tables.
+    // Windows that decide are rare in these tables, and demanded in those with narrow windows.
     others.demand_by(|sort| match sort {
         _ if sort.contains("rounded") => 0,
         _ if sort.ends_with("the child's ends in windows") => 20,

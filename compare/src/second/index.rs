@@ -54,7 +54,8 @@ pub fn is_index(table: &Table, lows: &[i64], highs: &[i64]) -> bool {
     long && inner_ends(table).all(own)
 }
 
-/// Searches a table to within a margin by the ends that are lent; otherwise as `search`.
+/// Searches a table to within a margin by its own ends, where the lists lent are its index;
+/// otherwise as `search`.
 pub fn search_indexed(
     table: &Table,
     margin: i64,

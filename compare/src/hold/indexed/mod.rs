@@ -533,7 +533,10 @@ pub fn count_others(seen: &mut Seen, sort: &str, table: &Table, margin: i64) {
     count_wrong(seen, sort, table, terms, &roundings);
     let mut none = Seen::default();
     let differs = count_wrong(&mut none, sort, table, terms, &HARMLESS.map(by));
-    assert!(!differs, "margin {margin}, {table:?}");
+    assert!(
+        !differs,
+        "a way thought harmless is not (DECISIONS, 102): margin {margin}, {table:?}"
+    );
 }
 
 /// The same by what an engine with T times the numbers of a C may have wrong (Items 4 and 5).
