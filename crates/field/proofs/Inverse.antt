@@ -1,19 +1,20 @@
--- The columns that were read are those that writing their number gives: a number has one text. Assumes nothing.
+-- The columns of which a number was read hold it in some padding. Assumes nothing.
 use Prim.Native.Nat.{ℕ, zero, suc, _+_, _-_, _*_, _/_, _^_, _≤_, _<_}
-use mathlib.Core.Path.{_≡_, refl, sym, ap, ap₂, _∙_}
+use mathlib.Core.Path.{_≡_, refl, sym, ap, ap₂, subst, _∙_}
 use mathlib.Core.Bool.{Bool, true, false, cond}
 use mathlib.Core.List.{List, [], _∷_, _++_, append-assoc, append-nil}
 use native.Mathlib.Omega.{arith}
 use borrow.Author.Tests.{eqb-true, eqb-false, ltb-false, ne-eqb}
 use lib.Dec.{eqb, ltb}
-use lib.ListN.{length, take, drop, replicate, length-append, length-replicate, length-drop}
+use lib.ListN.{length, take, drop, replicate, length-append, length-replicate, length-take, length-drop}
 use lib.Seq.{length-take-le}
-use lib.IntN.{ℤ, pos, negsuc, negℤ}
-use Rattle.field.specs.Field.{strip, digits, whole, plain, minus, signed, fieldOf, digit, leading, decimal, textOf, justified}
+use lib.IntN.{ℤ, pos, negsuc, negℤ, natAbs}
+use Rattle.field.specs.Field.{strip, digits, whole, plain, minus, signed, fieldOf, digit, leading, decimal}
+use Rattle.field.specs.Padding.{signOf, Pads}
 use Rattle.field.specs.declared.Whole.{Whole}
 use Rattle.field.specs.declared.Whole.the-variants.{Digits, Wrong}
 use Rattle.field.specs.declared.Field.the-variants.{Blank, Ill, Number}
-use Rattle.field.proofs.Small.{more-digits, wider}
+use Rattle.field.proofs.Small.{more-digits, wider, small}
 use Rattle.field.proofs.Writing.{leading-all}
 
 -- ---- digits
@@ -64,21 +65,31 @@ decimal-all : (m : ℕ) → 0 < m → leading 15 m ≡ decimal m
 unfolding leading
 decimal-all m p = rw (ne-eqb m 0 (omega arith))
 
-whole-text : (s : List ℕ) (m : ℕ) → length s ≤ 15 → whole s ≡ Digits m → s ≡ decimal m
-unfolding whole digits leading
-whole-text [] m h e = wrong-digits m e
-whole-text (b ∷ []) m h e =
+-- zeros, then the digits of m
+record Zeroed (s : List ℕ) (m : ℕ) : Type 0 where
+  zeros : ℕ
+  is : s ≡ replicate zeros 48 ++ decimal m
+
+digits-zeroed : (b : ℕ) (s : List ℕ) (m : ℕ) → length (b ∷ s) ≤ 15 → digits 0 (b ∷ s) ≡ Digits m → Zeroed (b ∷ s) m
+unfolding digits leading
+digits-zeroed b [] m h e =
     let c = goes 0 b [] m e in
     let f : 0 * 10 + (b - 48) ≡ m = cc in
     let q : m / 10 ≡ 0 = omega (arith, c .low, c .high) in
     let d : b ≡ digit m = omega (arith, c .low, c .high) in
-    rw q (ap (λ (x : ℕ). x ∷ []) d)
-whole-text (b ∷ c ∷ s) m h e = go (eqb b 48) refl e
+    record { zeros = 0; is = rw q (ap (λ (x : ℕ). x ∷ []) d) }
+digits-zeroed b (c ∷ s) m h e = go (eqb b 48) refl (λ d. digits-zeroed c s m (omega arith) d)
   where
-    go : (t : Bool) → eqb b 48 ≡ t → cond t Wrong (digits 0 (b ∷ c ∷ s)) ≡ Digits m → b ∷ c ∷ s ≡ decimal m
-    go true x e = wrong-digits m e
-    go false x e =
-        let g = goes 0 b (c ∷ s) m e in
+    g : Goes 0 b (c ∷ s) m
+    g = goes 0 b (c ∷ s) m e
+
+    go : (t : Bool) → eqb b 48 ≡ t → (digits 0 (c ∷ s) ≡ Digits m → Zeroed (c ∷ s) m) → Zeroed (b ∷ c ∷ s) m
+    go true x rest =
+        let q : b ≡ 48 = eqb-true b 48 x in
+        let z : 0 * 10 + (b - 48) ≡ 0 = omega arith in
+        let r = rest (ap (λ (n : ℕ). digits n (c ∷ s)) (sym z) ∙ g .on) in
+        record { zeros = suc (r .zeros); is = ap₂ _∷_ q (r .is) }
+    go false x rest =
         let n : ℕ = 0 * 10 + (b - 48) in
         let o : b ≡ 48 → ⊥ = eqb-false b 48 x in
         let p : 0 < n = omega (arith, g .low) in
@@ -87,32 +98,48 @@ whole-text (b ∷ c ∷ s) m h e = go (eqb b 48) refl e
         let q : n / 10 ≡ 0 = omega arith in
         let d : digit n ≡ b = omega (arith, g .low) in
         let first : leading 15 n ≡ b ∷ [] = decimal-all n p ∙ rw (q, d) in
-        ap (λ (x : List ℕ). x ++ (c ∷ s)) (sym first) ∙ r .1 ∙ decimal-all m (r .0)
+        record { zeros = 0; is = ap (λ (x : List ℕ). x ++ (c ∷ s)) (sym first) ∙ r .1 ∙ decimal-all m (r .0) }
+
+whole-zeroed : (s : List ℕ) (m : ℕ) → length s ≤ 15 → whole s ≡ Digits m → Zeroed s m
+unfolding whole
+whole-zeroed [] m h e = wrong-digits m e
+whole-zeroed (b ∷ s) m h e = digits-zeroed b s m h e
 
 -- ---- the sign
 
-plain-text : (w : Whole) (z : ℤ) (s : List ℕ) → plain w ≡ Number z → ((m : ℕ) → w ≡ Digits m → s ≡ decimal m) → s ≡ textOf z
-plain-text Wrong z s e f = ill-number z e
-plain-text (Digits n) z s e f = let q : pos n ≡ z = cc in f n refl ∙ ap textOf q
+-- the sign, zeros, then the digits of z
+record Signed (s : List ℕ) (z : ℤ) : Type 0 where
+  zeros : ℕ
+  is : s ≡ signOf z ++ (replicate zeros 48 ++ decimal (natAbs z))
 
-minus-text : (w : Whole) (z : ℤ) (s : List ℕ) → minus w ≡ Number z → ((m : ℕ) → w ≡ Digits m → s ≡ decimal m) → 45 ∷ s ≡ textOf z
-minus-text Wrong z s e f = ill-number z e
-minus-text (Digits zero) z s e f = ill-number z e
-minus-text (Digits (suc n)) z s e f = go (eqb (suc n) 0) refl e
+plain-signed : (w : Whole) (z : ℤ) (s : List ℕ) → plain w ≡ Number z → ((m : ℕ) → w ≡ Digits m → Zeroed s m) → Signed s z
+plain-signed Wrong z s e f = ill-number z e
+plain-signed (Digits n) z s e f =
+    let q : pos n ≡ z = cc in
+    let r = f n refl in
+    subst (Signed s) q (record { zeros = r .zeros; is = r .is })
+
+minus-signed : (w : Whole) (z : ℤ) (s : List ℕ) → minus w ≡ Number z → ((m : ℕ) → w ≡ Digits m → Zeroed s m) → Signed (45 ∷ s) z
+minus-signed Wrong z s e f = ill-number z e
+minus-signed (Digits zero) z s e f = ill-number z e
+minus-signed (Digits (suc n)) z s e f = go (eqb (suc n) 0) refl e
   where
-    go : (t : Bool) → eqb (suc n) 0 ≡ t → cond t Ill (Number (negsuc n)) ≡ Number z → 45 ∷ s ≡ textOf z
+    go : (t : Bool) → eqb (suc n) 0 ≡ t → cond t Ill (Number (negsuc n)) ≡ Number z → Signed (45 ∷ s) z
     go true x e = ill-number z e
-    go false x e = let q : negsuc n ≡ z = cc in ap (λ (x : List ℕ). 45 ∷ x) (f (suc n) refl) ∙ ap textOf q
+    go false x e =
+        let q : negsuc n ≡ z = cc in
+        let r = f (suc n) refl in
+        subst (Signed (45 ∷ s)) q (record { zeros = r .zeros; is = ap (λ (x : List ℕ). 45 ∷ x) (r .is) })
 
-signed-text : (s : List ℕ) (z : ℤ) → length s ≤ 15 → signed s ≡ Number z → s ≡ textOf z
+signed-text : (s : List ℕ) (z : ℤ) → length s ≤ 15 → signed s ≡ Number z → Signed s z
 unfolding signed
 signed-text [] z h e = let z : _≡_ {A = ℕ} 0 1 = cc in absurd (omega arith)
 signed-text (b ∷ s) z h e = go (eqb b 45) refl e
   where
-    go : (t : Bool) → eqb b 45 ≡ t → cond t (minus (whole s)) (plain (whole (b ∷ s))) ≡ Number z → b ∷ s ≡ textOf z
+    go : (t : Bool) → eqb b 45 ≡ t → cond t (minus (whole s)) (plain (whole (b ∷ s))) ≡ Number z → Signed (b ∷ s) z
     go true x e =
-        ap (λ (c : ℕ). c ∷ s) (eqb-true b 45 x) ∙ minus-text (whole s) z s e (λ m. whole-text s m (omega arith))
-    go false x e = plain-text (whole (b ∷ s)) z (b ∷ s) e (λ m. whole-text (b ∷ s) m h)
+        subst (λ (c : ℕ). Signed (c ∷ s) z) (sym (eqb-true b 45 x)) (minus-signed (whole s) z s e (λ m. whole-zeroed s m (omega arith)))
+    go false x e = plain-signed (whole (b ∷ s)) z (b ∷ s) e (λ m. whole-zeroed (b ∷ s) m h)
 
 plain-filled : {A : Type 0} (w : Whole) → plain w ≡ Blank → A
 plain-filled Wrong e = let z : _≡_ {A = ℕ} 0 1 = cc in absurd (omega arith)
@@ -151,32 +178,39 @@ stripped (b ∷ t) = go (stripped t) (eqb b 32) refl
     go r true x = record { blanks = suc (r .blanks); is = rw x (ap₂ _∷_ (eqb-true b 32 x) (r .is)) }
     go r false x = record { blanks = 0; is = rw x refl }
 
-strip-justified : (t s : List ℕ) → strip t ≡ s → (length s ≤ length t) × (t ≡ justified (length t) s)
-strip-justified t s e =
+strip-shorter : (t : List ℕ) → length (strip t) ≤ length t
+strip-shorter t =
     let r = stripped t in
-    let is : t ≡ replicate (r .blanks) 32 ++ s = r .is ∙ ap (λ (x : List ℕ). replicate (r .blanks) 32 ++ x) e in
-    let l : length t ≡ r .blanks + length s = ap length is ∙ simp (length-append, length-replicate) in
-    let n : r .blanks ≡ length t - length s = omega arith in
-    (omega arith, is ∙ ap (λ (k : ℕ). replicate k 32 ++ s) n)
+    let l : length t ≡ r .blanks + length (strip t) = ap length (r .is) ∙ simp (length-append, length-replicate) in
+    omega arith
+
+all-blank : (t : List ℕ) → strip t ≡ [] → t ≡ replicate (length t) 32
+all-blank t e =
+    let r = stripped t in
+    let is : t ≡ replicate (r .blanks) 32 = r .is ∙ ap (λ (x : List ℕ). replicate (r .blanks) 32 ++ x) e ∙ append-nil (replicate (r .blanks) 32) in
+    is ∙ ap (λ (k : ℕ). replicate k 32) (sym (ap length is ∙ length-replicate (r .blanks) 32))
 
 -- ---- a field
 
-module _ (s : List ℕ) (from width : ℕ) (room : from + width ≤ length s) where
+module _ (s : List ℕ) (from width : ℕ) where
   abbrev part : List ℕ
   part = take width (drop from s)
 
-  part-long : length part ≡ width
-  part-long = length-take-le width (drop from s) (omega (arith, length-drop from s))
+  part-short : length part ≤ width
+  part-short = omega (arith, length-take width (drop from s))
 
-  pub number-text : (z : ℤ) → width ≤ 15 → fieldOf s from width ≡ Number z → (length (textOf z) ≤ width) × (part ≡ justified width (textOf z))
-  number-text z h e =
-      let j = strip-justified part (strip part) refl in
-      let t : strip part ≡ textOf z = signed-text (strip part) z (omega (arith, j .0, part-long)) e in
-      let k = strip-justified part (textOf z) t in
-      (omega (arith, k .0, part-long), k .1 ∙ ap (λ (n : ℕ). justified n (textOf z)) part-long)
+  pub number-pads : (z : ℤ) → width ≤ 15 → fieldOf s from width ≡ Number z → Pads z part
+  number-pads z h e =
+      let b = stripped part in
+      let t = signed-text (strip part) z (omega (arith, strip-shorter part, part-short)) e in
+      record {
+        blanks = b .blanks;
+        zeros = t .zeros;
+        is = b .is ∙ ap (λ (x : List ℕ). replicate (b .blanks) 32 ++ x) (t .is);
+        small = wider (natAbs z) width 15 (small s from width z e) h;
+      }
 
-  pub blank-text : fieldOf s from width ≡ Blank → part ≡ replicate width 32
-  blank-text e =
-      let k = strip-justified part [] (signed-blank (strip part) e) in
-      let w : width - 0 ≡ width = omega arith in
-      k .1 ∙ ap (λ (n : ℕ). justified n []) part-long ∙ append-nil (replicate (width - 0) 32) ∙ ap (λ (n : ℕ). replicate n 32) w
+  pub blank-text : from + width ≤ length s → fieldOf s from width ≡ Blank → part ≡ replicate width 32
+  blank-text room e =
+      all-blank part (signed-blank (strip part) e)
+      ∙ ap (λ (n : ℕ). replicate n 32) (length-take-le width (drop from s) (omega (arith, length-drop from s)))

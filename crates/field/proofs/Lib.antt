@@ -1,9 +1,11 @@
 pub mod Bits
 pub mod Inverse
+pub mod Padding
 pub mod Reader
 pub mod Reading
 pub mod RoundTrip
 pub mod Small
+pub mod Stores
 pub mod Width
 pub mod Worked
 pub mod Writing

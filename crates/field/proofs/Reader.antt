@@ -15,7 +15,6 @@ use Rattle.field.specs.declared.Whole.the-variants.{Digits, Wrong}
 use Rattle.field.specs.declared.Field.{Field}
 use Rattle.field.specs.declared.Field.the-variants.{Blank, Ill, Number}
 use Rattle.field.proofs.Reading.{from-on}
-use Rattle.field.proofs.Small.{choose}
 
 pub by-cases : {P : Type 0} (b : Bool) → (b ≡ true → P) → (b ≡ false → P) → P
 by-cases true f g = f refl
@@ -48,8 +47,7 @@ wrong-at (b ∷ s) (suc i) n h g =
 whole-wrong : (s : List ℕ) (i : ℕ) → i < length s → strange (getD s i 0) ≡ true → whole s ≡ Wrong
 unfolding whole
 whole-wrong [] i h g = refl
-whole-wrong (b ∷ []) i h g = wrong-at (b ∷ []) i 0 h g
-whole-wrong (b ∷ c ∷ s) i h g = rw (wrong-at (b ∷ c ∷ s) i 0 h g) (either (eqb b 48) Wrong)
+whole-wrong (b ∷ s) i h g = wrong-at (b ∷ s) i 0 h g
 
 -- after any byte, and alone
 later-ill : (b : ℕ) (s : List ℕ) (i : ℕ) → i < length s → strange (getD s i 0) ≡ true → signed (b ∷ s) ≡ Ill
@@ -120,59 +118,6 @@ low b h = ltb-false b 48 (first-false (ltb b 48) (ltb 57 b) h)
 pub high : (b : ℕ) → strange b ≡ false → b ≤ 57
 high b h = ltb-false 57 b (second-false (ltb b 48) (ltb 57 b) h)
 
--- a number with its sign
-abbrev pub told : Bool → Whole → Field
-told m Wrong = Ill
-told m (Digits n) = Number (withSign m n)
-
-plain-told : (w : Whole) → plain w ≡ told false w
-plain-told Wrong = refl
-plain-told (Digits n) = refl
-
-abbrev Positive : Whole → Type 0
-Positive Wrong = Unit
-Positive (Digits n) = 0 < n
-
-minus-told : (w : Whole) → Positive w → minus w ≡ told true w
-minus-told Wrong h = refl
-minus-told (Digits n) h = simp (ne-eqb n 0 (λ e. omega arith))
-
-digits-positive : (s : List ℕ) (n : ℕ) → 0 < n → Positive (digits n s)
-unfolding digits
-digits-positive [] n h = h
-digits-positive (b ∷ s) n h =
-    choose Positive (ltb b 48) (λ _. tt)
-    (λ _. choose Positive (ltb 57 b) (λ _. tt) (λ _. digits-positive s (n * 10 + (b - 48)) (omega arith)))
-
-first-positive : (b : ℕ) (s : List ℕ) → 48 < b → Positive (digits 0 (b ∷ s))
-unfolding digits
-first-positive b s h =
-    choose Positive (ltb b 48) (λ _. tt)
-    (λ _. choose Positive (ltb 57 b) (λ _. tt) (λ _. digits-positive s (0 * 10 + (b - 48)) (omega arith)))
-
-after-blank : (b : ℕ) (s : List ℕ) → plain (whole (b ∷ s)) ≡ cond (eqb b 48 && ltb 1 (length (b ∷ s))) Ill (told false (digits 0 (b ∷ s)))
-unfolding whole
-after-blank b [] = by-cases (eqb b 48) (λ h. rw h (plain-told (digits 0 (b ∷ [])))) (λ h. rw h (plain-told (digits 0 (b ∷ []))))
-after-blank b (c ∷ s) =
-    let more : ltb 1 (length (b ∷ c ∷ s)) ≡ true = lt-ltb 1 (length (b ∷ c ∷ s)) (omega arith) in
-    by-cases (eqb b 48) (λ h. rw (h, more)) (λ h. rw h (plain-told (digits 0 (b ∷ c ∷ s))))
-
-zero-ill : (s : List ℕ) → minus (whole (48 ∷ s)) ≡ Ill
-unfolding whole digits
-zero-ill [] = refl
-zero-ill (c ∷ s) = refl
-
-whole-digits : (b : ℕ) (s : List ℕ) → eqb b 48 ≡ false → whole (b ∷ s) ≡ digits 0 (b ∷ s)
-unfolding whole
-whole-digits b [] h = refl
-whole-digits b (c ∷ s) h = rw h
-
-after-minus : (b : ℕ) (s : List ℕ) → 48 ≤ b → minus (whole (b ∷ s)) ≡ cond (eqb b 48 && true) Ill (told true (digits 0 (b ∷ s)))
-after-minus b s l =
-    by-cases (eqb b 48)
-    (λ h. rw h (let e : b ≡ 48 = eqb-true b 48 h in rw e (zero-ill s)))
-    (λ h. rw (h, whole-digits b s h) (minus-told (digits 0 (b ∷ s)) (first-positive b s (near 48 b l (λ e. eqb-false b 48 h (sym e))))))
-
 opened
     : (c b : ℕ) (s : List ℕ)
     → strange c ≡ true
@@ -186,27 +131,35 @@ opened c b s g h =
     (λ q. rw (q, n32, n45))
     (λ q. rw (q, whole-wrong (c ∷ b ∷ s) 0 (omega arith) g))
 
-pub after
-    : (c : ℕ) (t : List ℕ)
+-- the first of t is a digit, and t means n
+first-after
+    : (c : ℕ) (t : List ℕ) (n : ℕ)
     → 0 < length t
     → strange c ≡ true
     → strange (getD t 0 0) ≡ false
-    → signed (strip (c ∷ t)) ≡ cond (off c t) Ill (told (eqb c 45) (digits 0 t))
-after c [] l g h = absurd (omega arith)
-after c (b ∷ s) l g h =
-    rw (opened c b s g h)
+    → digits 0 t ≡ Digits n
+    → signed (strip (c ∷ t)) ≡ cond (off c n) Ill (Number (withSign (eqb c 45) n))
+unfolding whole
+first-after c [] n l g h m = absurd (omega arith)
+first-after c (b ∷ s) n l g h m =
+    rw (opened c b s g h, m)
     (by-cases (eqb c 32)
-    (λ q. let e : c ≡ 32 = eqb-true c 32 q in rw e (after-blank b s))
+    (λ q. let e : c ≡ 32 = eqb-true c 32 q in rw e)
     (λ q. by-cases (eqb c 45)
-    (λ p. let e : c ≡ 45 = eqb-true c 45 p in rw e (after-minus b s (low b h)))
+    (λ p. let e : c ≡ 45 = eqb-true c 45 p in rw e)
     (λ p. rw (q, p))))
 
-module _ (c : ℕ) (t : List ℕ) (l : 0 < length t) (g : strange c ≡ true) (d : AllDigits t) (r : Bool) (e : r ≡ off c t) where
-  pub off-by : r ≡ true → Ill ≡ signed (strip (c ∷ t))
-  off-by q = let o : off c t ≡ true = sym e ∙ q in sym (after c t l g (d 0 l) ∙ rw o)
+-- t are digits, and mean n
+module _ (c : ℕ) (t : List ℕ) (l : 0 < length t) (g : strange c ≡ true) (d : AllDigits t) (n : ℕ) (m : digits 0 t ≡ Digits n) where
+  after : signed (strip (c ∷ t)) ≡ cond (off c n) Ill (Number (withSign (eqb c 45) n))
+  after = first-after c t n l g (d 0 l) m
 
-  pub told-by : r ≡ false → (w : Whole) → digits 0 t ≡ w → told (eqb c 45) w ≡ signed (strip (c ∷ t))
-  told-by q w m = let o : off c t ≡ false = sym e ∙ q in sym (after c t l g (d 0 l) ∙ rw (o, m))
+  module _ (r : Bool) (e : r ≡ off c n) where
+    pub off-by : r ≡ true → Ill ≡ signed (strip (c ∷ t))
+    off-by q = let o : off c n ≡ true = sym e ∙ q in sym (after ∙ rw o)
+
+    pub told-by : r ≡ false → Number (withSign (eqb c 45) n) ≡ signed (strip (c ∷ t))
+    told-by q = let o : off c n ≡ false = sym e ∙ q in sym (after ∙ rw o)
 
 -- a digit more at the end
 pub one-more

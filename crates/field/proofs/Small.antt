@@ -58,9 +58,7 @@ digits-few k (b ∷ s) n j h g =
 whole-few : (k : ℕ) (s : List ℕ) → length s ≤ k → Few k (whole s)
 unfolding whole
 whole-few k [] h = tt
-whole-few k (b ∷ []) h = digits-few k (b ∷ []) 0 0 (lit< tt) (omega arith)
-whole-few k (b ∷ c ∷ s) h =
-    choose (Few k) (eqb b 48) (λ _. tt) (λ _. digits-few k (b ∷ c ∷ s) 0 0 (lit< tt) (omega arith))
+whole-few k (b ∷ s) h = digits-few k (b ∷ s) 0 0 (lit< tt) (omega arith)
 
 pub digits-small : (s : List ℕ) (m : ℕ) → digits 0 s ≡ Digits m → length s ≤ 18 → m < 10 ^ 18
 digits-small s m e h = rw e at (digits-few 18 s 0 0 (lit< tt) (omega arith))

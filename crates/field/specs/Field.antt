@@ -1,4 +1,5 @@
--- Numbers in columns: how one is read and how one is written. Document 01, 'The table on paper', first paragraph.
+-- Numbers in columns: how one is read and how one is written. Document 01, 'The table on paper', first paragraph; of zeros before a number document 02,
+-- Item 9.
 use Prim.Native.Nat.{ℕ, zero, suc, _+_, _-_, _*_, _/_, _%_}
 use mathlib.Core.Bool.{cond}
 use mathlib.Core.List.{List, [], _∷_, _++_}
@@ -24,18 +25,17 @@ unfoldable pub digits : ℕ → List ℕ → Whole
 digits n [] = Digits n
 digits n (b ∷ s) = cond (ltb b 48) Wrong (cond (ltb 57 b) Wrong (digits (n * 10 + (b - 48)) s))
 
--- one digit or more, "no leading zero": a zero comes first only where it stands alone
+-- one digit or more; by Item 9 "A number may now have zeros before its first digit"
 unfoldable pub whole : List ℕ → Whole
 whole [] = Wrong
-whole (b ∷ []) = digits 0 (b ∷ [])
-whole (b ∷ c ∷ s) = cond (eqb b 48) Wrong (digits 0 (b ∷ c ∷ s))
+whole (b ∷ s) = digits 0 (b ∷ s)
 
 -- "no plus": a number that is not below zero is its digits alone
 abbrev pub plain : Whole → Field
 plain Wrong = Ill
 plain (Digits n) = Number (pos n)
 
--- "a minus stands directly before its digits; `-0` is not a number"
+-- "a minus stands directly before its digits; `-0` is not a number", by Item 9 "before the zeros", and "minus with only zeros is still ill-written"
 abbrev pub minus : Whole → Field
 minus Wrong = Ill
 minus (Digits n) = cond (eqb n 0) Ill (Number (negℤ (pos n)))

@@ -27,9 +27,9 @@ AllDigits t = (i : ℕ) → i < length t → strange (getD t i 0) ≡ false
 abbrev pub Starts : List ℕ → ℕ → Type 0
 Starts t r = (r ≤ length t) × (strange (beforeOf t r) ≡ true) × ((i : ℕ) → r ≤ i → i < length t → strange (getD t i 0) ≡ false)
 
--- the digits t with c before them are no number: c is neither a blank nor a minus, or a zero comes first that does not stand alone
-abbrev pub off : ℕ → List ℕ → Bool
-off c t = (not (eqb c 32) && not (eqb c 45)) || (eqb (getD t 0 0) 48 && (eqb c 45 || ltb 1 (length t)))
+-- the number n with c before its digits is none: c is neither a blank nor a minus, or it is a minus before zeros alone
+abbrev pub off : ℕ → ℕ → Bool
+off c n = (not (eqb c 32) && not (eqb c 45)) || (eqb c 45 && eqb n 0)
 
 abbrev pub withSign : Bool → ℕ → ℤ
 withSign true n = negℤ (pos n)

@@ -105,13 +105,11 @@ fn is_clear(t: &[u8], k: usize) -> bool
     blanks(t, k - 1) == k - 1
 }
 
-// Whether the digits t with c before them are no number.
-fn is_off(c: u8, t: &[u8]) -> bool
-    requires { ⌜ 0 < length (now t) ⌝ }
-    ensures { λ r. ⌜ r ≡ off c (now (t .entry)) ⌝ }
+// Whether n with c before its digits is no number.
+fn is_off(c: u8, n: u64) -> bool
+    ensures { λ r. ⌜ r ≡ off c n ⌝ }
 {
-    let zero = t[0] == b'0';
-    ((c != b' ') & (c != b'-')) | (zero & ((c == b'-') | (1 < t.len())))
+    ((c != b' ') & (c != b'-')) | ((c == b'-') & (n == 0))
 }
 
 // The number of the digits t with c before them; no branch on the sign.
@@ -119,10 +117,10 @@ fn read_after(c: u8, t: &[u8]) -> Field
     requires { ⌜ (0 < length (now t)) × (length (now t) ≤ 18) × (strange c ≡ true) × AllDigits (now t) ⌝ }
     ensures { λ r. ⌜ r ≡ signed (strip (c ∷ now (t .entry))) ⌝ }
 {
-    if is_off(c, t) {
+    let n = read_digits(t);
+    if is_off(c, n) {
         return Field::Ill;
     }
-    let n = read_digits(t);
     Field::Number(with_sign(c == b'-', n))
 }
 
@@ -172,13 +170,10 @@ fn last_digit(n: u64) -> u8
 fn column_mark(negative: bool, n: u64) -> u8
     ensures { λ r. ⌜ r ≡ cond (eqb n 0) (cond negative 45 32) (digit n) ⌝ }
 {
-    if n == 0 {
-        if negative {
-            return b'-';
-        }
-        return b' ';
+    if n != 0 {
+        return last_digit(n);
     }
-    last_digit(n)
+    if negative { b'-' } else { b' ' }
 }
 
 // Whether the minus is still to come before that column.

@@ -1,4 +1,5 @@
--- What one line says. Document 01, 'The table on paper', with the conditions of 'Refused tables and calls'; of the header's totals document 02, Item 5.
+-- What one line says. Document 01, 'The table on paper', with the conditions of 'Refused tables and calls'; of the header's totals document 02, Items 5
+-- and 9.
 use Prim.Native.Nat.{ℕ, _+_, max}
 use mathlib.Core.Path.{_≡_}
 use mathlib.Core.Bool.{Bool, true, false, not, _||_, cond}
@@ -58,14 +59,22 @@ countOf f = toNat (valueOf f)
 
 -- ---- the header
 
--- "columns 1-4 count of nodes, 5-8 the total T, 9-16 the lowest end, 17-24 the highest end". Item 5: "Header columns 5-6, blank so far, may hold a
--- second total, .. different from the first, which then has columns 7-8"
+-- Item 5: "Header columns 5-6, blank so far, may hold a second total"; Item 9: "Only zeros in header columns 5-6 mean no second total". The field f
+-- has those columns.
+abbrev pub secondOf : Field → Field
+secondOf f = cond (hasNumber 0 f) Blank f
+
+-- without a second total "T has columns 5-8"; with one the first total "then has columns 7-8"
+abbrev pub totalOf : List ℕ → Field → Field
+totalOf s second = cond (isBlank second) (fieldOf s 4 4) (fieldOf s 6 2)
+
+-- "columns 1-4 count of nodes, 5-8 the total T, 9-16 the lowest end, 17-24 the highest end"
 abbrev pub headingOf : List ℕ → Heading
 headingOf s =
     record {
       count = fieldOf s 0 4;
-      second = fieldOf s 4 2;
-      total = cond (isBlank (fieldOf s 4 2)) (fieldOf s 4 4) (fieldOf s 6 2);
+      second = secondOf (fieldOf s 4 2);
+      total = totalOf s (secondOf (fieldOf s 4 2));
       lowest = fieldOf s 8 8;
       highest = fieldOf s 16 8;
     }

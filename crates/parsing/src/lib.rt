@@ -4,7 +4,7 @@ ghost use mathlib.Core.Bool.{not, cond};
 ghost use mathlib.Core.List.{List};
 ghost use Prim.Native.Nat.{ℕ, _+_, _<_, _≤_};
 ghost use lib.ListN.{length};
-ghost use Rattle.line.specs.Line.{isIll, isBlank, hasNumber, outside, headingOf, illHeading, badSecond, wideHeading, larger, entryOf, letterCode, climb, ancestors, chancesOf, atChance, lineSaid, placeOf, illEntry, misfilled, wideEntry, nodeLine, header as headerOf};
+ghost use Rattle.line.specs.Line.{isIll, isBlank, hasNumber, outside, secondOf, totalOf, headingOf, illHeading, badSecond, wideHeading, larger, entryOf, letterCode, climb, ancestors, chancesOf, atChance, lineSaid, placeOf, illEntry, misfilled, wideEntry, nodeLine, header as headerOf};
 ghost use Rattle.parsing.specs.Inside.{headShown, pathOf, aboveShown, placingShown, placingOf, Upto, Roomy, Bounded};
 use field::Field;
 use line::Entry;
@@ -70,14 +70,34 @@ fn is_outside(lo: i64, hi: i64, f: Field) -> bool
     }
 }
 
-// Where columns 5-6 are blank, 5-8 say what 7-8 say: the first total is read there in both cases.
+// Columns 5-6: zeros alone are no second total, as blanks are.
+fn second_of(f: Field) -> Field
+    ensures { λ r. ⌜ r ≡ secondOf f ⌝ }
+{
+    if is_number(0, f) {
+        return Field::Blank;
+    }
+    f
+}
+
+// The first total has columns 5-8, or 7-8 after a second one.
+fn read_total(line: &[u8], second: Field) -> Field
+    requires { ⌜ length (now line) ≡ 25 ⌝ }
+    ensures { λ r. ⌜ r ≡ totalOf (now (line .entry)) second ⌝ }
+{
+    if is_blank(second) {
+        return field::read(line, 4, 4);
+    }
+    field::read(line, 6, 2)
+}
+
 fn read_heading(line: &[u8]) -> Heading
     requires { ⌜ length (now line) ≡ 25 ⌝ }
     ensures { λ r. ⌜ r ≡ headingOf (now (line .entry)) ⌝ }
 {
     let count = field::read(line, 0, 4);
-    let second = field::read(line, 4, 2);
-    let total = field::read(line, 6, 2);
+    let second = second_of(field::read(line, 4, 2));
+    let total = read_total(line, second);
     let lowest = field::read(line, 8, 8);
     let highest = field::read(line, 16, 8);
     Heading {

@@ -10,14 +10,8 @@ use lib.ListN.{length, getD, set, take, drop, length-append, length-replicate}
 use lib.Seq.{sets, sets-eq, length-sets, take-suc, length-take-le}
 use lib.IntN.{ℤ, pos}
 use Rattle.field.specs.Field.{leading, textOf, justified, written, digit}
+use Rattle.field.proofs.Stores.{sets-append, justified-long, written-stored}
 use Rattle.printing.specs.Program.{WordLine, Leaf, columns, rowOf, printed, leafRow}
-
--- one run of stores after another
-pub sets-append : (l : List ℕ) (i : ℕ) (xs ys : List ℕ) → sets l i (xs ++ ys) ≡ sets (sets l i xs) (i + length xs) ys
-sets-append l i [] ys = ap (λ (k : ℕ). sets l k ys) (sym (add-zero i))
-sets-append l i (x ∷ xs) ys =
-    let e : suc i + length xs ≡ i + suc (length xs) = omega arith in
-    sets-append (set l i x) (suc i) xs ys ∙ ap (λ (k : ℕ). sets (sets (set l i x) (suc i) xs) k ys) e
 
 -- one store more
 pub sets-more : (l xs : List ℕ) (i j : ℕ) → j < length xs → set (sets l i (take j xs)) (i + j) (getD xs j 0) ≡ sets l i (take (j + 1) xs)
@@ -41,30 +35,18 @@ leading-few (suc k) (suc n) = rw eqb·suc-zero (simp length-append (omega (arith
 pub count-columns : (n : ℕ) → length (textOf (pos n)) ≤ 15
 count-columns n = rw (length-append (leading 14 (n / 10)) (digit n ∷ [])) (omega (arith, leading-few 14 (n / 10)))
 
-justified-size : (z : ℤ) → length (textOf z) ≤ 15 → length (justified 15 (textOf z)) ≡ 15
-justified-size z h = simp (length-append, length-replicate) (omega arith)
-
 pub row-size : (word : List ℕ) (z : ℤ) → length word ≡ 6 → length (textOf z) ≤ 15 → length (rowOf word z) ≡ 22
 row-size word z w h =
-    let j = justified-size z h in
+    let j = justified-long 15 (textOf z) h in
     length-append word (justified 15 (textOf z) ++ (10 ∷ []))
     ∙ ap (λ (k : ℕ). length word + k) (length-append (justified 15 (textOf z)) (10 ∷ []))
     ∙ omega (arith, w, j)
 
 -- the word, the number and the newline, stored one after another
 module _ (d word : List ℕ) (at : ℕ) (z : ℤ) (room : at + 22 ≤ length d) (w : length word ≡ 6) (h : length (textOf z) ≤ 15) where
-  number-stored : (l : List ℕ) → length l ≡ length d → written l (at + 6) 15 z ≡ sets l (at + 6) (justified 15 (textOf z))
-  number-stored l e =
-      let j = justified-size z h in
-      sym (
-      sets-eq (justified 15 (textOf z)) l (at + 6) (omega (arith, j, e, room))
-      ∙ ap (λ (k : ℕ). take (at + 6) l ++ justified 15 (textOf z) ++ drop (at + 6 + k) l) j
-      ∙ append-assoc (take (at + 6) l) (justified 15 (textOf z)) (drop (at + 6 + 15) l)
-      )
-
   pub row-stored : set (written (sets d at word) (at + 6) 15 z) (at + 21) 10 ≡ sets d at (rowOf word z)
   row-stored =
-      let j = justified-size z h in
+      let j = justified-long 15 (textOf z) h in
       let a : at + length word ≡ at + 6 = ap (λ (k : ℕ). at + k) w in
       let b : at + 6 + length (justified 15 (textOf z)) ≡ at + 21 = omega (arith, j) in
       sym (
@@ -72,7 +54,7 @@ module _ (d word : List ℕ) (at : ℕ) (z : ℤ) (room : at + 22 ≤ length d) 
       ∙ ap (λ (k : ℕ). sets (sets d at word) k (justified 15 (textOf z) ++ (10 ∷ []))) a
       ∙ sets-append (sets d at word) (at + 6) (justified 15 (textOf z)) (10 ∷ [])
       ∙ ap (λ (k : ℕ). set (sets (sets d at word) (at + 6) (justified 15 (textOf z))) k 10) b
-      ∙ ap (λ (l : List ℕ). set l (at + 21) 10) (sym (number-stored (sets d at word) (length-sets d at word)))
+      ∙ ap (λ (l : List ℕ). set l (at + 21) 10) (sym (written-stored (sets d at word) (at + 6) 15 z (omega (arith, length-sets d at word)) h))
       )
 
 -- ---- rows
