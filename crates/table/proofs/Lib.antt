@@ -11,4 +11,5 @@ pub mod Top
 pub mod Accepted
 pub mod Ends
 pub mod Places
+pub mod Padding
 pub mod Worked

@@ -54,12 +54,13 @@ hundred-head = 32 ∷ 32 ∷ 32 ∷ 53 ∷ 32 ∷ 49 ∷ 48 ∷ 48 ∷ 32 ∷ 32
 odd3 : List ℕ
 odd3 = 32 ∷ 32 ∷ 32 ∷ 51 ∷ 32 ∷ 76 ∷ 32 ∷ 32 ∷ 32 ∷ 32 ∷ 50 ∷ 32 ∷ 32 ∷ 32 ∷ 32 ∷ 49 ∷ 32 ∷ 32 ∷ 32 ∷ 32 ∷ 32 ∷ 32 ∷ 32 ∷ 50 ∷ 10 ∷ []
 
--- a second total that is the first, below 1 or above 64; " 100" in columns 5-8, a second total of 1 and "00"; a sum that is neither total
+-- a second total that is the first; zeros in columns 5-6 and then " 0 4" as one field; a second total above 64; " 100" in columns 5-8, a second total
+-- of 1 and a first of 0; a sum that is neither total
 abbrev below : List ℕ
 below = open0 ++ (open1 ++ (open2 ++ (open3 ++ open4)))
 
-refused-seconds : (answer (readText (same-head ++ below)) ≡ Refused (OutOfRange 0)) × (answer (readText (zero-head ++ below)) ≡ Refused (OutOfRange 0))
-    × (answer (readText (far-head ++ below)) ≡ Refused (OutOfRange 0)) × (answer (readText (hundred-head ++ below)) ≡ Refused (IllWritten 0))
+refused-seconds : (answer (readText (same-head ++ below)) ≡ Refused (OutOfRange 0)) × (answer (readText (zero-head ++ below)) ≡ Refused (IllWritten 0))
+    × (answer (readText (far-head ++ below)) ≡ Refused (OutOfRange 0)) × (answer (readText (hundred-head ++ below)) ≡ Refused (OutOfRange 0))
 unfolding same-head zero-head far-head hundred-head strip digits whole signed unless unlessAt climb run after forest weigh nodesWhere among uses powers nodeLines complete readText greatest leafLines
 refused-seconds = (refl, refl, refl, refl)
 
@@ -107,3 +108,34 @@ many7 = 32 ∷ 32 ∷ 32 ∷ 55 ∷ 32 ∷ 76 ∷ 32 ∷ 32 ∷ 32 ∷ 32 ∷ 54
 too-many : answer (readText (many-head ++ (many0 ++ (many1 ++ (many2 ++ (many3 ++ (many4 ++ (many5 ++ (many6 ++ many7))))))))) ≡ Refused TooManyGrains
 unfolding many-head many0 many1 many2 many3 many4 many5 many6 many7 strip digits whole signed unless unlessAt climb run after forest weigh nodesWhere among uses powers nodeLines complete readText greatest leafLines
 too-many = refl
+
+-- ---- zeros before the numbers
+
+-- "000500040000000000000008"
+zero-b-head : List ℕ
+zero-b-head = 48 ∷ 48 ∷ 48 ∷ 53 ∷ 48 ∷ 48 ∷ 48 ∷ 52 ∷ 48 ∷ 48 ∷ 48 ∷ 48 ∷ 48 ∷ 48 ∷ 48 ∷ 48 ∷ 48 ∷ 48 ∷ 48 ∷ 48 ∷ 48 ∷ 48 ∷ 48 ∷ 56 ∷ 10 ∷ []
+
+-- "0000 M                  "
+zero-b0 : List ℕ
+zero-b0 = 48 ∷ 48 ∷ 48 ∷ 48 ∷ 32 ∷ 77 ∷ 32 ∷ 32 ∷ 32 ∷ 32 ∷ 32 ∷ 32 ∷ 32 ∷ 32 ∷ 32 ∷ 32 ∷ 32 ∷ 32 ∷ 32 ∷ 32 ∷ 32 ∷ 32 ∷ 32 ∷ 32 ∷ 10 ∷ []
+
+-- "0001 L00000     00000005"
+zero-b1 : List ℕ
+zero-b1 = 48 ∷ 48 ∷ 48 ∷ 49 ∷ 32 ∷ 76 ∷ 48 ∷ 48 ∷ 48 ∷ 48 ∷ 48 ∷ 32 ∷ 32 ∷ 32 ∷ 32 ∷ 32 ∷ 48 ∷ 48 ∷ 48 ∷ 48 ∷ 48 ∷ 48 ∷ 48 ∷ 53 ∷ 10 ∷ []
+
+-- "0002 C00000             "
+zero-b2 : List ℕ
+zero-b2 = 48 ∷ 48 ∷ 48 ∷ 50 ∷ 32 ∷ 67 ∷ 48 ∷ 48 ∷ 48 ∷ 48 ∷ 48 ∷ 32 ∷ 32 ∷ 32 ∷ 32 ∷ 32 ∷ 32 ∷ 32 ∷ 32 ∷ 32 ∷ 32 ∷ 32 ∷ 32 ∷ 32 ∷ 10 ∷ []
+
+-- "0003 L000020000300000002"
+zero-b3 : List ℕ
+zero-b3 = 48 ∷ 48 ∷ 48 ∷ 51 ∷ 32 ∷ 76 ∷ 48 ∷ 48 ∷ 48 ∷ 48 ∷ 50 ∷ 48 ∷ 48 ∷ 48 ∷ 48 ∷ 51 ∷ 48 ∷ 48 ∷ 48 ∷ 48 ∷ 48 ∷ 48 ∷ 48 ∷ 50 ∷ 10 ∷ []
+
+-- "0004 L000020000100000008"
+zero-b4 : List ℕ
+zero-b4 = 48 ∷ 48 ∷ 48 ∷ 52 ∷ 32 ∷ 76 ∷ 48 ∷ 48 ∷ 48 ∷ 48 ∷ 50 ∷ 48 ∷ 48 ∷ 48 ∷ 48 ∷ 49 ∷ 48 ∷ 48 ∷ 48 ∷ 48 ∷ 48 ∷ 48 ∷ 48 ∷ 56 ∷ 10 ∷ []
+
+-- table B as a spreadsheet pads it is table B
+zero-b : readText (zero-b-head ++ (zero-b0 ++ (zero-b1 ++ (zero-b2 ++ (zero-b3 ++ zero-b4))))) ≡ readText table-b
+unfolding zero-b-head zero-b0 zero-b1 zero-b2 zero-b3 zero-b4 strip digits whole signed unless unlessAt climb run after forest weigh nodesWhere among uses powers nodeLines complete readText
+zero-b = refl
