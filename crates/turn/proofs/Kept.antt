@@ -4,43 +4,36 @@ use mathlib.Core.Path.{_≡_, refl, sym, ap, ap₂, subst, _∙_}
 use mathlib.Core.Bool.{Bool, true, false, cond}
 use mathlib.Core.List.{List, [], _∷_, _++_}
 use native.Mathlib.Omega.{arith}
-use lib.Dec.{eqb, ltb, lit<, lit≤}
+use lib.Dec.{eqb, ltb, lit<, lit≤, eqb·suc-zero}
 use lib.ListN.{length, getD, take, drop, length-append, length-drop}
 use lib.Seq.{take-at, drop-at}
 use lib.IntN.{ℤ, pos, natAbs}
 use Rattle.field.specs.declared.Field.{Field}
 use Rattle.field.specs.declared.Field.the-variants.{Blank, Number}
-use Rattle.field.proofs.Small.{wider}
-use Rattle.field.proofs.Width.{few-plain, few-columns}
 use Rattle.line.specs.declared.Head.{Head}
 use Rattle.line.specs.declared.Line.{Line}
 use Rattle.line.specs.declared.Entry.{Entry}
 use Rattle.line.specs.Refusal.{fine, unless, unlessAt}
-use Rattle.line.specs.Line.{header, headerFor, headingOf, totals, Step, entryOf, Placed, placeOf, nodeLine}
+use Rattle.line.specs.Line.{hasNumber, header, headerFor, headingOf, totals, Step, entryOf, Placed, placeOf, nodeLine}
 use Rattle.line.specs.Inside.{Ranged}
 use Rattle.table.specs.Tree.{childless, unbalanced}
 use Rattle.table.specs.Table.{Table, badLength, nodeLines, tree, grain, complete, count, readText}
 use Rattle.table.proofs.Accepted.{Checked, checked, accepted-ranged, accepted-size}
 use Rattle.table.proofs.Known.{read-length}
 use Rattle.turn.specs.Text.{headerText, lineText, linesText, tableText}
-use Rattle.turn.proofs.Lines.{Fits, Roomy, text-entry, HeadRoomy, text-heading}
+use Rattle.turn.specs.Inside.{Fits, Roomy}
+use Rattle.turn.proofs.Lines.{fits-natural, fits-signed, text-entry, HeadRoomy, text-heading}
 use Rattle.turn.proofs.Said.{entryFor, headingFor, head-text, line-text, isNone, Short, Said}
-use Rattle.turn.proofs.Canonical.{first}
+use Rattle.turn.proofs.Padding.{first}
 use Rattle.turn.proofs.Checks.{header-passes}
 
 -- ---- room in the columns
-
-fits-natural : (n width : ℕ) → 0 < width → width ≤ 15 → n < 10 ^ width → Fits width (Number (pos n))
-fits-natural n width p w h = (few-plain n width p h, wider n width 15 h w)
-
-fits-signed : (z : ℤ) → natAbs z < 10 ^ 7 → Fits 8 (Number z)
-fits-signed z h = (few-columns z 7 (lit< tt) h, wider (natAbs z) 7 15 h (lit≤ tt))
 
 fits-either : (width : ℕ) (b : Bool) (f g : Field) → Fits width f → Fits width g → Fits width (cond b f g)
 fits-either width true f g x y = x
 fits-either width false f g x y = y
 
-line-roomy : (l : Line) → Short l → Roomy (entryFor l)
+pub line-roomy : (l : Line) → Short l → Roomy (entryFor l)
 line-roomy l S =
     record {
       number = fits-natural (l .node) 4 (lit< tt) (lit≤ tt) (S .node);
@@ -49,7 +42,7 @@ line-roomy l S =
       utility = fits-either 8 (eqb (l .kind) 0) (Number (l .utility)) Blank (fits-signed (l .utility) (S .utility)) tt;
     }
 
-head-roomy : (h : Head) (n : ℕ) → Ranged h → n < 10 ^ 4 → HeadRoomy (headingFor h n)
+pub head-roomy : (h : Head) (n : ℕ) → Ranged h → n < 10 ^ 4 → HeadRoomy (headingFor h n)
 head-roomy h n r c =
     record {
       count = fits-natural n 4 (lit< tt) (lit≤ tt) c;
@@ -58,6 +51,14 @@ head-roomy h n r c =
       lowest = fits-signed (h .lowest) (omega (arith, r .lowest));
       highest = fits-signed (h .highest) (omega (arith, r .highest));
     }
+
+second-some : (n : ℕ) → hasNumber 0 (cond (eqb n 0) Blank (Number (pos n))) ≡ false
+second-some zero = refl
+second-some (suc n) = rw (eqb·suc-zero n) (eqb·suc-zero n)
+
+-- the header's text gives the fields back, and has a line's length
+pub head-again : (h : Head) (n : ℕ) → Ranged h → n < 10 ^ 4 → (headingOf (headerText h n) ≡ headingFor h n) × (getD (headerText h n) 24 0 ≡ 10) × (length (headerText h n) ≡ 25)
+head-again h n r c = rw (head-text h n r) (text-heading (headingFor h n) (head-roomy h n r c) (second-some (h .second)))
 
 place-same : (h : Head) (i : ℕ) (P : List Step) (e f : Entry) (a b c d : ℕ) → e ≡ f → a ≡ b → c ≡ d → placeOf h i e a c P ≡ placeOf h i f b d P
 place-same h i P e f a b c d x y z j = placeOf h i (x j) (y j) (z j) P
@@ -150,7 +151,7 @@ module _ (s : List ℕ) (t u : Table) (h : readText s ≡ fine t) (K : Kept t u)
   top = headerText (u .head) n
 
   top-again : (headingOf top ≡ headingFor (u .head) n) × (getD top 24 0 ≡ 10) × (length top ≡ 25)
-  top-again = rw (head-text (u .head) n (K .ranged)) (text-heading (headingFor (u .head) n) (head-roomy (u .head) n (K .ranged) (omega (arith, accepted-size s t h .1))))
+  top-again = head-again (u .head) n (K .ranged) (omega (arith, accepted-size s t h .1))
 
   top-read : header n top ≡ fine (u .head)
   top-read = (λ j. headerFor n (top-again .1 j) (top-again .0 j)) ∙ header-passes n (u .head) (K .ranged)

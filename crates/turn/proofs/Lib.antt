@@ -1,12 +1,10 @@
 pub mod Lines
 pub mod Said
-pub mod Canonical
+pub mod Padding
 pub mod Tree
 pub mod Checks
 pub mod Kept
 pub mod Accepted
 pub mod Worked
-pub mod Bytes
-pub mod Rows
-pub mod Written
-pub mod Ready
+pub mod Turned
+pub mod Stored

@@ -1,39 +1,36 @@
--- The text of a line and the fields that are read of it: each gives the other. Assumes nothing.
-use Prim.Native.Nat.{ℕ, _+_, _^_, _≤_, _<_}
-use mathlib.Core.Path.{_≡_, refl, sym, ap, _∙_}
+-- The text of a line gives back the fields that it was written from. Assumes nothing.
+use Prim.Native.Nat.{ℕ, suc, _+_, _-_, _^_, _≤_, _<_}
+use mathlib.Core.Path.{_≡_, refl, sym, ap, ap₂, _∙_}
 use mathlib.Core.Bool.{false}
 use mathlib.Core.List.{List, [], _∷_, _++_}
-use native.Mathlib.Numerals.{add-one}
 use native.Mathlib.Omega.{arith}
-use lib.ListN.{length, getD, take, drop, take-append-drop, length-append, length-replicate, drop-of-length-le}
-use lib.Seq.{take-at, drop-at, drop-drop, drop-cons, getD-drop}
-use lib.IntN.{natAbs}
-use Rattle.field.specs.Field.{strip, signed, fieldOf, textOf}
+use lib.Dec.{lit<, lit≤}
+use lib.ListN.{length, getD, set, take, drop, replicate, length-append, length-replicate}
+use lib.Seq.{sets, take-at, drop-at, drop-drop, getD-drop}
+use lib.IntN.{ℤ, pos, natAbs}
+use Rattle.field.specs.Field.{strip, signed, fieldOf}
 use Rattle.field.specs.declared.Field.{Field}
 use Rattle.field.specs.declared.Field.the-variants.{Blank, Ill, Number}
-use Rattle.field.proofs.Inverse.{number-text, blank-text}
 use Rattle.field.proofs.RoundTrip.{columns-read, blanks-read}
+use Rattle.field.proofs.Small.{wider}
+use Rattle.field.proofs.Stores.{byte-stored}
+use Rattle.field.proofs.Width.{few-plain, few-columns}
 use Rattle.line.specs.declared.Heading.{Heading}
 use Rattle.line.specs.declared.Entry.{Entry}
-use Rattle.line.specs.Line.{isIll, headingOf, entryOf}
-use Rattle.line.proofs.Signs.{true-ne-false}
+use Rattle.line.specs.Line.{isIll, hasNumber, secondOf, headingOf, entryOf}
 use Rattle.line.proofs.Columns.{total-columns}
-use Rattle.turn.specs.Text.{columns, blank, newline}
+use Rattle.turn.specs.Text.{newline}
+use Rattle.turn.specs.Inside.{shown, Fits, entryText, Roomy}
 
 -- ---- a field in its columns
 
-abbrev pub shown : ℕ → Field → List ℕ
-shown width Blank = blank width
-shown width Ill = []
-shown width (Number z) = columns width z
+pub fits-natural : (n width : ℕ) → 0 < width → width ≤ 15 → n < 10 ^ width → Fits width (Number (pos n))
+fits-natural n width p w h = (few-plain n width p h, wider n width 15 h w)
 
--- it has room there
-abbrev pub Fits : ℕ → Field → Type 0
-Fits width Blank = Unit {0}
-Fits width Ill = ⊥
-Fits width (Number z) = (length (textOf z) ≤ width) × (natAbs z < 10 ^ 15)
+pub fits-signed : (z : ℤ) → natAbs z < 10 ^ 7 → Fits 8 (Number z)
+fits-signed z h = (few-columns z 7 (lit< tt) h, wider (natAbs z) 7 15 h (lit≤ tt))
 
-shown-long : (width : ℕ) (f : Field) → Fits width f → length (shown width f) ≡ width
+pub shown-long : (width : ℕ) (f : Field) → Fits width f → length (shown width f) ≡ width
 shown-long width Blank h = length-replicate width 32
 shown-long width Ill h = absurd h
 shown-long width (Number z) h = simp (length-append, length-replicate) (omega (arith, h .0))
@@ -43,15 +40,18 @@ shown-read width Blank h = blanks-read width
 shown-read width Ill h = absurd h
 shown-read width (Number z) h = columns-read width z (h .1)
 
--- the columns from which a field was read
-field-shown : (s : List ℕ) (from width : ℕ) → from + width ≤ length s → width ≤ 15 → isIll (fieldOf s from width) ≡ false
-    → take width (drop from s) ≡ shown width (fieldOf s from width)
-field-shown s from width room few ok = go (fieldOf s from width) refl ok
-  where
-    go : (f : Field) → fieldOf s from width ≡ f → isIll f ≡ false → take width (drop from s) ≡ shown width f
-    go Blank e ok = blank-text s from width room e
-    go Ill e ok = absurd (true-ne-false ok)
-    go (Number z) e ok = number-text s from width room z few e .1
+-- blanks stored one by one
+pub blank-stored : (l : List ℕ) (at w i : ℕ) → i < w
+    → sets l (at + i) (replicate (w - i) 32) ≡ sets (set l (at + i) 32) (at + (i + 1)) (replicate (w - (i + 1)) 32)
+blank-stored l at w i h =
+    let e : w - i ≡ suc (w - (i + 1)) = omega arith in
+    ap (λ (k : ℕ). sets l (at + i) (replicate k 32)) e ∙ byte-stored l (replicate (w - (i + 1)) 32) 32 (at + i) (at + (i + 1)) (omega arith)
+
+pub blanks-first : (l : List ℕ) (at w : ℕ) → sets l at (replicate w 32) ≡ sets l (at + 0) (replicate (w - 0) 32)
+blanks-first l at w = let e : at ≡ at + 0 = omega arith in let f : w ≡ w - 0 = omega arith in ap₂ (λ (j k : ℕ). sets l j (replicate k 32)) e f
+
+pub blanks-done : (l : List ℕ) (at w i : ℕ) → w ≤ i → sets l (at + i) (replicate (w - i) 32) ≡ l
+blanks-done l at w i h = let e : w - i ≡ 0 = omega arith in ap (λ (k : ℕ). sets l (at + i) (replicate k 32)) e
 
 -- ---- a text cut in parts
 
@@ -69,24 +69,7 @@ module _ (s : List ℕ) where
   byte-at : (n x : ℕ) (r : List ℕ) → drop n s ≡ x ∷ r → getD s (n + 0) 0 ≡ x
   byte-at n x r e = sym (getD-drop n s 0 0) ∙ ap (λ (y : List ℕ). getD y 0 0) e
 
-  -- a field or a byte before what follows it
-  field-joined : (n m : ℕ) (r : List ℕ) → n + m ≤ length s → m ≤ 15 → isIll (fieldOf s n m) ≡ false → r ≡ drop (n + m) s
-      → shown m (fieldOf s n m) ++ r ≡ drop n s
-  field-joined n m r room few ok e =
-      ap (λ (x : List ℕ). x ++ r) (sym (field-shown s n m room few ok))
-      ∙ ap (λ (x : List ℕ). take m (drop n s) ++ x) (e ∙ sym (drop-drop m n s))
-      ∙ take-append-drop m (drop n s)
-
-  byte-joined : (n x : ℕ) (r : List ℕ) → n < length s → getD s n 0 ≡ x → r ≡ drop (n + 1) s → x ∷ r ≡ drop n s
-  byte-joined n x r h b e = rw (← b, e, add-one) (sym (drop-cons s n 0 h))
-
-  end-joined : length s ≡ 25 → [] ≡ drop 25 s
-  end-joined h = sym (drop-of-length-le s {i = 25} (omega arith))
-
 -- ---- a node line
-
-abbrev pub entryText : Entry → List ℕ
-entryText e = shown 4 (e .number) ++ (32 ∷ e .letter ∷ (shown 5 (e .parent) ++ (shown 5 (e .weight) ++ (shown 8 (e .utility) ++ newline))))
 
 -- no field is ill-written, and the bytes of columns 5 and 25 are a blank and a newline
 pub record Written (s : List ℕ) : Type 0 where
@@ -97,24 +80,6 @@ pub record Written (s : List ℕ) : Type 0 where
   pub weight : isIll (entryOf s .weight) ≡ false
   pub utility : isIll (entryOf s .utility) ≡ false
   pub last : getD s 24 0 ≡ 10
-
-pub entry-text : (s : List ℕ) → Written s → entryText (entryOf s) ≡ s
-entry-text s W =
-    let long = W .long in
-    let e24 = byte-joined s 24 10 [] (omega arith) (W .last) (end-joined s long) in
-    let e16 = field-joined s 16 8 newline (omega arith) (omega arith) (W .utility) e24 in
-    let e11 = field-joined s 11 5 _ (omega arith) (omega arith) (W .weight) e16 in
-    let e6 = field-joined s 6 5 _ (omega arith) (omega arith) (W .parent) e11 in
-    let e5 = byte-joined s 5 (getD s 5 0) _ (omega arith) refl e6 in
-    let e4 = byte-joined s 4 32 _ (omega arith) (W .fifth) e5 in
-    field-joined s 0 4 _ (omega arith) (omega arith) (W .number) e4
-
--- its numbers have room in their columns
-pub record Roomy (e : Entry) : Type 0 where
-  pub number : Fits 4 (e .number)
-  pub parent : Fits 5 (e .parent)
-  pub weight : Fits 5 (e .weight)
-  pub utility : Fits 8 (e .utility)
 
 pub text-entry : (e : Entry) → Roomy e → (entryOf (entryText e) ≡ e) × (getD (entryText e) 4 0 ≡ 32) × (getD (entryText e) 24 0 ≡ 10) × (length (entryText e) ≡ 25)
 text-entry e R =
@@ -154,18 +119,6 @@ pub record HeadWritten (s : List ℕ) : Type 0 where
   pub highest : isIll (headingOf s .highest) ≡ false
   pub last : getD s 24 0 ≡ 10
 
-pub heading-text : (s : List ℕ) → HeadWritten s → headingText (headingOf s) ≡ s
-heading-text s W =
-    let long = W .long in
-    let e24 = byte-joined s 24 10 [] (omega arith) (W .last) (end-joined s long) in
-    let e16 = field-joined s 16 8 newline (omega arith) (omega arith) (W .highest) e24 in
-    let e8 = field-joined s 8 8 _ (omega arith) (omega arith) (W .lowest) e16 in
-    let t = total-columns s (omega arith) in
-    let e6 = field-joined s 6 2 _ (omega arith) (omega arith) (ap isIll (sym t) ∙ W .total) e8 in
-    let e4 = field-joined s 4 2 _ (omega arith) (omega arith) (W .second) e6 in
-    ap (λ (f : Field). shown 4 (fieldOf s 0 4) ++ (shown 2 (fieldOf s 4 2) ++ (shown 2 f ++ (shown 8 (fieldOf s 8 8) ++ (shown 8 (fieldOf s 16 8) ++ newline))))) t
-    ∙ field-joined s 0 4 _ (omega arith) (omega arith) (W .count) e4
-
 pub record HeadRoomy (g : Heading) : Type 0 where
   pub count : Fits 4 (g .count)
   pub second : Fits 2 (g .second)
@@ -173,8 +126,9 @@ pub record HeadRoomy (g : Heading) : Type 0 where
   pub lowest : Fits 8 (g .lowest)
   pub highest : Fits 8 (g .highest)
 
-pub text-heading : (g : Heading) → HeadRoomy g → (headingOf (headingText g) ≡ g) × (getD (headingText g) 24 0 ≡ 10) × (length (headingText g) ≡ 25)
-text-heading g R =
+-- a second total is no zero
+pub text-heading : (g : Heading) → HeadRoomy g → hasNumber 0 (g .second) ≡ false → (headingOf (headingText g) ≡ g) × (getD (headingText g) 24 0 ≡ 10) × (length (headingText g) ≡ 25)
+text-heading g R some =
     let s : List ℕ = headingText g in
     let c = shown 4 (g .count) in
     let x = shown 2 (g .second) in
@@ -188,8 +142,9 @@ text-heading g R =
     let e24 : drop 24 s ≡ newline = after-part s 16 8 h _ e16 (shown-long 8 (g .highest) (R .highest)) in
     let count : fieldOf s 0 4 ≡ g .count = field-at s 0 4 (g .count) _ (R .count) refl in
     let long : length s ≡ 25 = simp length-append (omega (arith, shown-long 4 (g .count) (R .count), shown-long 2 (g .second) (R .second), shown-long 2 (g .total) (R .total), shown-long 8 (g .lowest) (R .lowest), shown-long 8 (g .highest) (R .highest))) in
-    let second : fieldOf s 4 2 ≡ g .second = field-at s 4 2 (g .second) _ (R .second) e4 in
-    let total : headingOf s .total ≡ g .total = total-columns s (omega arith) ∙ field-at s 6 2 (g .total) _ (R .total) e6 in
+    let held : fieldOf s 4 2 ≡ g .second = field-at s 4 2 (g .second) _ (R .second) e4 in
+    let second : secondOf (fieldOf s 4 2) ≡ g .second = ap secondOf held ∙ rw some refl in
+    let total : headingOf s .total ≡ g .total = total-columns s (omega arith) (ap (hasNumber 0) held ∙ some) ∙ field-at s 6 2 (g .total) _ (R .total) e6 in
     let lowest : fieldOf s 8 8 ≡ g .lowest = field-at s 8 8 (g .lowest) _ (R .lowest) e8 in
     let highest : fieldOf s 16 8 ≡ g .highest = field-at s 16 8 (g .highest) _ (R .highest) e16 in (
       λ j. record { count = count j; second = second j; total = total j; lowest = lowest j; highest = highest j },

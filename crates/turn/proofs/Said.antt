@@ -26,7 +26,8 @@ use Rattle.line.proofs.Signs.{true-ne-false}
 use Rattle.line.proofs.Checks.{or-left, or-right}
 use Rattle.line.proofs.Fine.{unless-fine, nor9, nor10, Valued, line-read, valued-small}
 use Rattle.turn.specs.Text.{columns, blank, newline, headerText, letterOf, lineText}
-use Rattle.turn.proofs.Lines.{shown, entryText, headingText, Written, HeadWritten}
+use Rattle.turn.specs.Inside.{shown, entryText}
+use Rattle.turn.proofs.Lines.{headingText, Written, HeadWritten}
 
 -- ---- the fields that a line and a header are written in
 

@@ -9,13 +9,10 @@ use lib.Dec.{eqb, leb}
 use lib.ListN.{length, length-map}
 use lib.IntN.{ℤ, negℤ, negℤ-negℤ}
 use Rattle.line.specs.declared.Line.{Line}
-use Rattle.line.specs.Refusal.{fine}
 use Rattle.line.specs.Line.{totals, among}
 use Rattle.table.specs.Tree.{Kind, MAX, MIN, CHANCE, Forest, end, leaf, inner, kindOf, isChance, run, after, grow, forest, isEnd, weigh, nodesWhere, childless, unbalanced, powers, uses, grainOf, leaves}
-use Rattle.table.specs.Table.{Table, tree, readText, grain}
-use Rattle.turn.specs.Text.{tableText}
+use Rattle.table.specs.Table.{Table, tree, grain}
 use Rattle.turn.specs.Turn.{turnCode, turnLine, turnTable, turnKind, turnTree}
-use Rattle.turn.proofs.Canonical.{canonical}
 
 -- ---- one kind
 
@@ -89,10 +86,6 @@ table-twice t =
     let highest = negℤ-negℤ (t .head .highest) in
     let lines = lines-twice (t .lines) in
     λ j. record { head = record { total = t .head .total; second = t .head .second; lowest = lowest j; highest = highest j }; lines = lines j }
-
--- "Turning twice restores the text."
-pub turn-twice : (s : List ℕ) (t : Table) → readText s ≡ fine t → tableText (turnTable (turnTable t)) ≡ s
-turn-twice s t h = ap tableText (table-twice t) ∙ canonical s t h
 
 -- ---- the tree
 

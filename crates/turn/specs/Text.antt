@@ -1,4 +1,4 @@
--- The text of a table. Document 01, 'The table on paper'; of the totals document 02, Item 5.
+-- The blank-padded text of a table. Document 01, 'The table on paper'; of the totals document 02, Item 5; that "Turning writes blanks" Item 9.
 use Prim.Native.Nat.{ℕ}
 use mathlib.Core.Bool.{cond}
 use mathlib.Core.List.{List, [], _∷_, _++_}

@@ -1,26 +1,29 @@
 -- What turning an accepted text gives. Assumes nothing.
-use Prim.Native.Nat.{ℕ, _≤_, _<_}
+use Prim.Native.Nat.{ℕ, _+_, _*_, _≤_, _<_}
 use mathlib.Core.Path.{_≡_, refl, sym, ap, subst, _∙_}
 use mathlib.Core.Bool.{Bool, true, false, cond}
-use mathlib.Core.List.{List}
+use mathlib.Core.List.{List, _++_}
 use native.Mathlib.Omega.{arith}
 use borrow.Author.Tests.{lt-ltb, le-ltb}
 use lib.Dec.{ltb}
-use lib.ListN.{length}
-use lib.IntN.{ℤ}
+use lib.ListN.{length, drop}
+use lib.Seq.{sets}
+use Rattle.line.specs.declared.Head.{Head}
 use Rattle.line.specs.declared.Refusal.{Refusal}
 use Rattle.line.specs.declared.Refusal.the-variants.{NoRoom}
 use Rattle.line.specs.Refusal.{Verdict, refused, fine, unless, lineOf}
+use Rattle.line.specs.Inside.{Ranged}
 use Rattle.table.specs.declared.Summary.{Summary}
 use Rattle.table.specs.Table.{Table, readText}
 use Rattle.table.specs.Slices.{laid}
 use Rattle.table.proofs.Places.{refused-line}
-use Rattle.scale.proofs.Taken.{zeros, zeros-enough, Taken, of-table}
-use Rattle.turn.specs.Turn.{turnedText}
-use Rattle.turn.specs.Inside.{ReadyText, TextTurned}
-use Rattle.turn.proofs.Canonical.{canonical}
+use Rattle.table.proofs.Accepted.{accepted-ranged, accepted-size}
+use Rattle.scale.proofs.Taken.{Taken, of-table}
+use Rattle.turn.specs.Turn.{turnHead, turnedText}
+use Rattle.turn.specs.Text.{headerText}
+use Rattle.turn.specs.Inside.{turnedRows, RowsRoomy}
 use Rattle.turn.proofs.Accepted.{turned-length}
-use Rattle.turn.proofs.Ready.{accepted-turns, accepted-turned}
+use Rattle.turn.proofs.Turned.{text-size, rows-roomy, turned-laid}
 use Rattle.turn_call.specs.declared.Turned.the-variants.{Written, Refused}
 use Rattle.turn_call.specs.Call.{turnOf, turnAnswer, turnWritten, turnCall, turnBytes}
 
@@ -40,24 +43,27 @@ module _ {s : List ℕ} {t : Summary} {K S W H : List ℕ} (G : Taken s t K S W 
   room-short l = of-table G (λ t K S W H. turnOf (readText s) (length d) ≡ refused NoRoom) (λ T p. turn-short s T (length d) p l)
 
   module _ (long : length s ≤ length d) where
-    -- the two ends come as they are handed on
-    module _ {low high : ℤ} (is-low : low ≡ t .lowest) (is-high : high ≡ t .highest) where
-      pub turn-ready : ReadyText s K H (t .nodes) low high d
+    -- the header of the summary, as it is handed on
+    abbrev headOf : Summary → Head
+    headOf t = record { total = t .total; second = t .second; lowest = t .lowest; highest = t .highest }
+
+    module _ {h : Head} (is : h ≡ headOf t) where
+      pub turn-ready : (25 * t .nodes + 25 ≤ length s) × (25 * t .nodes + 25 ≤ length d) × (t .nodes ≤ 1024) × Ranged h × RowsRoomy (t .nodes) (drop 25 s)
       turn-ready =
-          rw (is-low, is-high)
-          (of-table G (λ t K S W H. ReadyText s K H (t .nodes) (t .lowest) (t .highest) d) (λ T p.
-          let z = zeros-enough s T p in accepted-turns s T p (canonical s T p) zeros zeros d z z long))
+          rw is
+          (of-table G (λ t K S W H. (25 * t .nodes + 25 ≤ length s) × (25 * t .nodes + 25 ≤ length d) × (t .nodes ≤ 1024) × Ranged (headOf t) × RowsRoomy (t .nodes) (drop 25 s)) (λ T p.
+          let z = text-size s T p in
+          (omega (arith, z), omega (arith, z), accepted-size s T p .1, accepted-ranged s T p, rows-roomy s T p)))
 
       -- b is the buffer after `turn`: so many bytes, and these
-      pub turned-at : {b : List ℕ} → TextTurned s K H (t .nodes) low high d b
+      pub turned-at : {b : List ℕ} → b ≡ sets d 0 (headerText (turnHead h) (t .nodes) ++ turnedRows (t .nodes) (drop 25 s))
           → (Written (length s) ≡ turnCall (readText s) (length d)) × (b ≡ laid (turnBytes (readText s) (length d)) d)
       turned-at {b} told =
-          of-table G (λ t K S W H. TextTurned s K H (t .nodes) (t .lowest) (t .highest) d b → (Written (length s) ≡ turnCall (readText s) (length d)) × (b ≡ laid (turnBytes (readText s) (length d)) d)) (λ T p told.
-          let z = zeros-enough s T p in
+          of-table G (λ t K S W H. b ≡ sets d 0 (headerText (turnHead (headOf t)) (t .nodes) ++ turnedRows (t .nodes) (drop 25 s)) → (Written (length s) ≡ turnCall (readText s) (length d)) × (b ≡ laid (turnBytes (readText s) (length d)) d)) (λ T p told.
           let e : turnOf (readText s) (length d) ≡ fine (turnedText T) = turn-fine s T (length d) p long in (
             ap Written (sym (turned-length s T p)) ∙ sym (ap turnAnswer e),
-            accepted-turned s T p (canonical s T p) zeros zeros d z z long b told ∙ sym (ap (λ (v : Verdict (List ℕ)). laid (turnWritten v) d) e),
-          )) (rw (is-low, is-high) at told)
+            told ∙ turned-laid s T p d long ∙ sym (ap (λ (v : Verdict (List ℕ)). laid (turnWritten v) d) e),
+          )) (told ∙ ap (λ (h : Head). sets d 0 (headerText (turnHead h) (t .nodes) ++ turnedRows (t .nodes) (drop 25 s))) is)
 
 -- ---- a refusal
 

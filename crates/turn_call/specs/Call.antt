@@ -1,4 +1,4 @@
--- What the call `turn_table` answers. Document 01, 'Judging and turning' and 'Refused tables and calls'.
+-- What the call `turn_table` answers. Document 01, 'Judging and turning' and 'Refused tables and calls'; document 02, Item 9: "Turning writes blanks".
 use Prim.Native.Nat.{ℕ}
 use mathlib.Core.List.{List, [], _∷_}
 use lib.Dec.{ltb}

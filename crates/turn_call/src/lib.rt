@@ -4,6 +4,7 @@ ghost use lib.ListN.{length};
 ghost use Rattle.table.specs.Table.{readText};
 ghost use Rattle.table.specs.Slices.{laid};
 ghost use Rattle.turn_call.specs.Call.{turnCall, turnBytes};
+use line::Head;
 use line::Refusal;
 use table::Reading;
 
@@ -29,7 +30,13 @@ pub fn turn_table(text: &[u8], buffer: &mut [u8]) -> Turned
             if buffer.len() < text.len() {
                 return Turned::Refused(Refusal::NoRoom);
             }
-            turn::turn(text, &kind, &height, t.nodes, t.lowest, t.highest, buffer);
+            let h = Head {
+                total: t.total,
+                second: t.second,
+                lowest: t.lowest,
+                highest: t.highest,
+            };
+            turn::turn(text, h, t.nodes, buffer);
             Turned::Written(text.len())
         }
     }

@@ -1,53 +1,29 @@
 -- `turn::turn_line` meets its contract. Assumes nothing.
-use Prim.Native.Nat.{_+_}
-use mathlib.Core.Path.{_≡_, ap, ap₂, _∙_}
+use Prim.Native.Nat.{ℕ, _+_, _≤_}
+use mathlib.Core.Path.{_≡_, ap, ap₂, sym, subst, _∙_}
+use mathlib.Core.List.{List}
 use native.Mathlib.Omega.{arith}
 use borrow.Author.Needs.{needs}
-use borrow.Author.Tests.{ne-eqb}
 use denote.Ref.{now}
-use lib.IntN.{ℤ, pos, negℤ, _+ℤ_}
-use mir.Syntax.{w64}
-use mir.Val.{toZ, ofZ}
-use mir.ValLaws.{toZ-ofZ}
-use Rattle.field.specs.Field.{written}
-use Rattle.field.proofs.Bits.{fits, back}
+use lib.ListN.{set, length-set}
+use lib.Seq.{sets}
+use Rattle.field.specs.declared.Field.{Field}
+use Rattle.line.specs.Line.{entryOf}
+use Rattle.turn.specs.Inside.{shown, Fits, negated, turnEntry}
+use Rattle.turn.proofs.Stored.{line-stored}
 use Rattle.turn.proofs.turn_line.Statement.{statement}
 use Rattle.turn.proofs.turn_line.Tie as tie
 
-add-write-negated : tie.Need-add-write-negated
-add-write-negated c = search needs
+add-last : tie.Need-add-last
+add-last c = search needs
 
-cast-write-negated : tie.Need-cast-write-negated
-cast-write-negated c = search needs
+read-requires : tie.Need-read-requires
+read-requires c κs = search needs
 
--- the sum that is computed is the one that is meant
-sum : (s : tie.Start)
-    → toZ w64 (ofZ w64 (s .args .lowest)) +ℤ toZ w64 (s .args .h) ≡ s .args .lowest +ℤ pos (s .args .h)
-sum s = ap₂ _+ℤ_ (toZ-ofZ w64 (s .args .lowest) (s .fits .lowest)) (toZ-ofZ w64 (pos (s .args .h)) (fits (pos (s .args .h)) (omega arith)))
-
-add-write-negated-2 : tie.Need-add-write-negated-2
-add-write-negated-2 c =
-    let s = c .before .before .before in
-    rw (sum s) (fits (s .args .lowest +ℤ pos (s .args .h)) (omega (arith, s .pre .1 (c .before .if1 .taken))))
-
-write-negated-requires : tie.Need-write-negated-requires
-write-negated-requires c κs =
-    let s = c .before .before .before in
-    let z = s .args .lowest +ℤ pos (s .args .h) in
-    let m = s .pre .1 (c .before .if1 .taken) in
-    rw (sum s, back z (omega (arith, m))) (omega arith, m)
-
-same-length : tie.Need-same-length
-same-length c = search needs
-
-returns : tie.Need-returns
-returns c =
-    let s = c .before .before .before .before .before .before in
-    let z = s .args .lowest +ℤ pos (s .args .h) in
-    let m = s .pre .1 (c .before .before .before .before .if1 .taken) in
-    c .before .before .write-negated .ensures
-    ∙ ap (λ (y : ℤ). written (now (s .args .buffer)) (s .args .at + 16) 8 (negℤ y)) (ap (λ (y : ℤ). toZ w64 (ofZ w64 y)) (sum s) ∙ back z (omega (arith, m)))
-    ∙ rw (c .before .before .before .before .if1 .taken)
+put-requires : tie.Need-put-requires
+put-requires c κs =
+    let s = c .before .before .before .before in
+    (omega (arith, s .pre .1), subst (Fits 4) (sym (c .read .ensures)) (s .pre .2 .number))
 
 add-buffer : tie.Need-add-buffer
 add-buffer c = search needs
@@ -55,47 +31,122 @@ add-buffer c = search needs
 slice-write-buffer : tie.Need-slice-write-buffer
 slice-write-buffer c = search needs
 
-same-length-2 : tie.Need-same-length-2
-same-length-2 c = search needs
+shared-slice-read-turned-letter : tie.Need-shared-slice-read-turned-letter
+shared-slice-read-turned-letter c = search needs
 
-returns-2 : tie.Need-returns-2
-returns-2 c =
-    let k = c .before .before .before .args .k in
-    rw (c .if2 .taken)
+turned-letter-requires : tie.Need-turned-letter-requires
+turned-letter-requires c κs = search needs
 
 add-buffer-2 : tie.Need-add-buffer-2
 add-buffer-2 c = search needs
 
 slice-write-buffer-2 : tie.Need-slice-write-buffer-2
-slice-write-buffer-2 c = search needs
+slice-write-buffer-2 c =
+    let s = c .before .before .before .before .before .before .before .before .before in
+    let k = c .before .before .before .before .put in
+    omega (arith, s .pre .1, k .kept .0, length-set (k .last .0) (s .args .at + 4) 32)
 
-same-length-3 : tie.Need-same-length-3
-same-length-3 c = search needs
+add-put : tie.Need-add-put
+add-put c = search needs
 
-returns-3 : tie.Need-returns-3
-returns-3 c = rw (c .if3 .taken)
+read-requires-2 : tie.Need-read-requires-2
+read-requires-2 c κs = search needs
 
-returns-4 : tie.Need-returns-4
-returns-4 c =
-    let k = c .before .before .before .before .args .k in
-    rw (ne-eqb k 0 (c .before .before .if1 .left), ne-eqb k 1 (c .before .if2 .left), ne-eqb k 2 (c .if3 .left))
+put-requires-2 : tie.Need-put-requires-2
+put-requires-2 c κs =
+    let s = c .before .before .before .before .before .before .before .before .before .before .before in
+    let k = c .before .before .before .before .before .before .put in
+    let at = s .args .at in
+    let l : List ℕ = set (k .last .0) (at + 4) 32 in
+    (omega (arith, s .pre .1, k .kept .0, length-set (k .last .0) (at + 4) 32, length-set l (at + 5) (c .before .before .turned-letter .result)), subst (Fits 5) (sym (c .read2 .ensures)) (s .pre .2 .parent))
+
+add-put-2 : tie.Need-add-put-2
+add-put-2 c = search needs
+
+read-requires-3 : tie.Need-read-requires-3
+read-requires-3 c κs = search needs
+
+-- the buffer after the parent, and after the weight, is as long as it was
+put-requires-3 : tie.Need-put-requires-3
+put-requires-3 c κs =
+    let s = c .before .before .before .before .before .before .before .before .before .before .before .before .before .before .before .before in
+    let k = c .before .before .before .before .before .before .before .before .before .before .before .put in
+    let at = s .args .at in
+    let l : List ℕ = set (k .last .0) (at + 4) 32 in
+    (omega (arith, s .pre .1, k .kept .0, length-set (k .last .0) (at + 4) 32, length-set l (at + 5) (c .before .before .before .before .before .before .before .turned-letter .result), c .before .before .before .before .put2 .kept .0), subst (Fits 5) (sym (c .read3 .ensures)) (s .pre .2 .weight))
+
+add-put-3 : tie.Need-add-put-3
+add-put-3 c = search needs
+
+read-requires-4 : tie.Need-read-requires-4
+read-requires-4 c κs = search needs
+
+negated-requires : tie.Need-negated-requires
+negated-requires c κs =
+    let s = c .before .before .before .before .before .before .before .before .before .before .before .before .before .before .before .before .before .before .before .before .before in
+    subst (λ (f : Field). Fits 8 (negated f)) (sym (c .read4 .ensures)) (s .pre .2 .utility)
+
+put-requires-4 : tie.Need-put-requires-4
+put-requires-4 c κs =
+    let s = c .before .before .before .before .before .before .before .before .before .before .before .before .before .before .before .before .before .before .before .before .before .before in
+    let k = c .before .before .before .before .before .before .before .before .before .before .before .before .before .before .before .before .before .put in
+    let at = s .args .at in
+    let l : List ℕ = set (k .last .0) (at + 4) 32 in (
+      omega (arith, s .pre .1, k .kept .0, length-set (k .last .0) (at + 4) 32, length-set l (at + 5) (c .before .before .before .before .before .before .before .before .before .before .before .before .before .turned-letter .result), c .before .before .before .before .before .before .before .before .before .before .put2 .kept .0, c .before .before .before .before .before .put3 .kept .0),
+      subst (Fits 8) (sym (c .negated .ensures ∙ ap negated (c .before .read4 .ensures))) (s .pre .2 .utility),
+    )
+
+slice-write-buffer-3 : tie.Need-slice-write-buffer-3
+slice-write-buffer-3 c =
+    let s = c .before .before .before .before .before .before .before .before .before .before .before .before .before .before .before .before .before .before .before .before .before .before .before .before .before in
+    let k = c .before .before .before .before .before .before .before .before .before .before .before .before .before .before .before .before .before .before .before .before .put in
+    let at = s .args .at in
+    let l : List ℕ = set (k .last .0) (at + 4) 32 in
+    omega (arith, s .pre .1, k .kept .0, length-set (k .last .0) (at + 4) 32, length-set l (at + 5) (c .before .before .before .before .before .before .before .before .before .before .before .before .before .before .before .before .turned-letter .result), c .before .before .before .before .before .before .before .before .before .before .before .before .before .put2 .kept .0, c .before .before .before .before .before .before .before .before .put3 .kept .0, c .before .before .put4 .kept .0)
+
+same-length : tie.Need-same-length
+same-length c =
+    let s = c .before .before .before .before .before .before .before .before .before .before .before .before .before .before .before .before .before .before .before .before .before .before .before .before .before in
+    let k = c .before .before .before .before .before .before .before .before .before .before .before .before .before .before .before .before .before .before .before .before .put in
+    let at = s .args .at in
+    length-set (c .before .before .put4 .last .0) (at + 24) 10 ∙ c .before .before .put4 .kept .0 ∙ c .before .before .before .before .before .before .before .before .put3 .kept .0 ∙ c .before .before .before .before .before .before .before .before .before .before .before .before .before .put2 .kept .0
+    ∙ length-set (set (k .last .0) (at + 4) 32) (at + 5) (c .before .before .before .before .before .before .before .before .before .before .before .before .before .before .before .before .turned-letter .result) ∙ length-set (k .last .0) (at + 4) 32 ∙ k .kept .0
+
+returns : tie.Need-returns
+returns c =
+    let s = c .before .before .before .before .before .before .before .before .before .before .before .before .before .before .before .before .before .before .before .before .before .before .before .before .before in
+    let a = s .args in
+    let at : ℕ = a .at in
+    let d1 = c .before .before .before .before .before .before .before .before .before .before .before .before .before .before .before .before .before .before .before .before .put .ensures ∙ ap (λ (f : Field). sets (now (a .buffer)) at (shown 4 f)) (c .before .before .before .before .before .before .before .before .before .before .before .before .before .before .before .before .before .before .before .before .before .read .ensures) in
+    let d3 = ap₂ (λ (l : List ℕ) (b : ℕ). set (set l (at + 4) 32) (at + 5) b) d1 (c .before .before .before .before .before .before .before .before .before .before .before .before .before .before .before .before .turned-letter .ensures) in
+    let d4 = c .before .before .before .before .before .before .before .before .before .before .before .before .before .put2 .ensures ∙ ap₂ (λ (l : List ℕ) (f : Field). sets l (at + 6) (shown 5 f)) d3 (c .before .before .before .before .before .before .before .before .before .before .before .before .before .before .read2 .ensures) in
+    let d5 = c .before .before .before .before .before .before .before .before .put3 .ensures ∙ ap₂ (λ (l : List ℕ) (f : Field). sets l (at + 11) (shown 5 f)) d4 (c .before .before .before .before .before .before .before .before .before .read3 .ensures) in
+    let d6 = c .before .before .put4 .ensures ∙ ap₂ (λ (l : List ℕ) (f : Field). sets l (at + 16) (shown 8 f)) d5 (c .before .before .before .negated .ensures ∙ ap negated (c .before .before .before .before .read4 .ensures)) in
+    ap (λ (l : List ℕ). set l (at + 24) 10) d6 ∙ line-stored (now (a .buffer)) at (turnEntry (entryOf (now (a .line)))) (s .pre .2)
 
 pub turn-line-spec : {M : Type 1} → statement M
 turn-line-spec =
     tie.close
     (tie.spec
-    add-write-negated
-    cast-write-negated
-    add-write-negated-2
-    write-negated-requires
-    same-length
-    returns
+    add-last
+    read-requires
+    put-requires
     add-buffer
     slice-write-buffer
-    same-length-2
-    returns-2
+    shared-slice-read-turned-letter
+    turned-letter-requires
     add-buffer-2
     slice-write-buffer-2
-    same-length-3
-    returns-3
-    returns-4)
+    add-put
+    read-requires-2
+    put-requires-2
+    add-put-2
+    read-requires-3
+    put-requires-3
+    add-put-3
+    read-requires-4
+    negated-requires
+    put-requires-4
+    slice-write-buffer-3
+    same-length
+    returns)

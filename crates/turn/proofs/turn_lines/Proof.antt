@@ -1,87 +1,91 @@
--- `turn::turn_lines` meets its contract. The loop's invariant: the lines before i are turned, and turning those from i on gives what is promised. Assumes nothing.
-use Prim.Native.Nat.{_-_, _≤_}
-use mathlib.Core.Path.{_≡_, refl, subst, _∙_}
+-- `turn::turn_lines` meets its contract. The loop's invariant: storing the lines from i on gives what storing all of them gives. Assumes nothing.
+use Prim.Native.Nat.{_+_, _-_, _*_, _≤_}
+use mathlib.Core.Path.{_≡_, refl, sym, _∙_}
 use native.Mathlib.Omega.{arith}
+use borrow.Author.Needs.{needs}
 use denote.Ref.{now}
-use lib.ListN.{length}
-use lib.IntN.{ℤ}
-use mir.Syntax.{w64}
-use mir.Val.{toZ, ofZ}
-use mir.ValLaws.{toZ-ofZ}
-use Rattle.turn.specs.Inside.{Rows, RowsTurned}
-use Rattle.turn.proofs.Rows.{row-inside, row-small, Turning, turning-more, turning-done}
+use lib.ListN.{length, drop}
+use lib.Seq.{sets}
+use Rattle.turn.specs.Inside.{turnedRows, RowsRoomy}
+use Rattle.turn.proofs.Stored.{part-long, row-roomy, rows-after, rows-stored, rows-done}
 use Rattle.turn.proofs.turn_lines.Statement.{statement}
 use Rattle.turn.proofs.turn_lines.Tie as tie
 
 abbrev Inv-loop : tie.InvT-loop
-Inv-loop kind height n lowest buffer₀ i₀ buffer i =
+Inv-loop text n buffer₀ i₀ buffer i =
     (i ≤ n)
     × (n ≤ 1024)
+    × (25 * n + 25 ≤ length text)
+    × (25 * n + 25 ≤ length buffer₀)
     × (length buffer ≡ length buffer₀)
-    × Turning kind height (toZ w64 lowest) n buffer₀ i buffer
+    × RowsRoomy (n - i) (drop (25 * i + 25) text)
+    × (sets buffer₀ 25 (turnedRows n (drop 25 text)) ≡ sets buffer (25 * i + 25) (turnedRows (n - i) (drop (25 * i + 25) text)))
 
 abbrev μ-loop : tie.MeasureT-loop
-μ-loop kind height n lowest buffer₀ i₀ buffer i = n - i
-
--- the lowest end, as the loop holds it
-back : (s : tie.Start Inv-loop μ-loop) → toZ w64 (ofZ w64 (s .args .lowest)) ≡ s .args .lowest
-back s = toZ-ofZ w64 (s .args .lowest) (s .fits .lowest)
-
-first : (s : tie.Start Inv-loop μ-loop) → Rows (now (s .args .kind)) (now (s .args .height)) (toZ w64 (ofZ w64 (s .args .lowest))) (s .args .n) 0 (now (s .args .buffer))
-first s = rw (back s) (s .pre)
+μ-loop text n buffer₀ i₀ buffer i = n - i
 
 loop-holds : tie.Need-loop-holds Inv-loop μ-loop
-loop-holds c = (omega arith, c .before .before .before .pre .few, refl, λ R. (R, refl))
+loop-holds c =
+    let s = c .before .before in
+    let z : s .args .n - 0 ≡ s .args .n = omega arith in
+    rw z (omega arith, s .pre .2, s .pre .0, s .pre .1, refl, s .pre .3, refl)
 
-mul-turn-line : tie.Need-mul-turn-line Inv-loop μ-loop
-mul-turn-line c = let v = c .before .before .loop .inv in record { fits = omega (arith, v .0, v .1) }
+mul-at : tie.Need-mul-at Inv-loop μ-loop
+mul-at c = let v = c .before .loop .inv in record { fits = omega (arith, v .0, v .1) }
+
+add-at : tie.Need-add-at Inv-loop μ-loop
+add-at c = let v = c .before .loop .inv in record { fits = omega (arith, v .0, v .1) }
 
 add-turn-line : tie.Need-add-turn-line Inv-loop μ-loop
-add-turn-line c = let v = c .before .before .loop .inv in record { fits = omega (arith, v .0, v .1) }
+add-turn-line c = let v = c .before .loop .inv in record { fits = omega (arith, v .0, v .1) }
 
-shared-slice-read-turn-line : tie.Need-shared-slice-read-turn-line Inv-loop μ-loop
-shared-slice-read-turn-line c =
-    let s = c .before .before .before .before .before .before .before in
-    omega (arith, s .pre .kinds, c .before .before .loop-test .taken)
+sub-turn-line : tie.Need-sub-turn-line Inv-loop μ-loop
+sub-turn-line c = omega arith
 
-mul-turn-line-2 : tie.Need-mul-turn-line-2 Inv-loop μ-loop
-mul-turn-line-2 c = let v = c .before .before .before .loop .inv in record { fits = omega (arith, v .0, v .1) }
+part-turn-line-start : tie.Need-part-turn-line-start Inv-loop μ-loop
+part-turn-line-start c = search needs
 
-shared-slice-read-turn-line-2 : tie.Need-shared-slice-read-turn-line-2 Inv-loop μ-loop
-shared-slice-read-turn-line-2 c =
-    let s = c .before .before .before .before .before .before .before .before in
-    omega (arith, s .pre .heights, c .before .before .before .loop-test .taken)
+part-turn-line-end : tie.Need-part-turn-line-end Inv-loop μ-loop
+part-turn-line-end c = search needs
 
 turn-line-requires : tie.Need-turn-line-requires Inv-loop μ-loop
 turn-line-requires c κs =
-    let s = c .before .before .before .before .before .before .before .before in
-    let l = c .before .before .before .before in
-    let t = c .before .before .before .loop-test .taken in
-    let (S, e) = l .loop .inv .3 (first s) in
-    (row-inside _ _ _ _ _ _ S t, row-small _ _ _ _ _ _ S t)
+    let l = c .before .before .before in
+    let a = l .before .before .before .args in
+    let v = l .loop .inv in
+    let t = c .before .before .loop-test .taken in
+    (part-long (now (a .text)) (l .loop .i) (omega (arith, v .2, t)), omega (arith, v .3, v .4, t), row-roomy (now (a .text)) (a .n) (l .loop .i) t (v .5))
 
 add-i : tie.Need-add-i Inv-loop μ-loop
-add-i c = let v = c .before .before .before .before .before .before .before .loop .inv in record { fits = omega (arith, v .0, v .1) }
+add-i c = let v = c .before .before .before .before .before .before .loop .inv in record { fits = omega (arith, v .0, v .1) }
 
 loop-less : tie.Need-loop-less Inv-loop μ-loop
-loop-less c = omega (arith, c .before .before .before .before .before .before .loop-test .taken)
+loop-less c = omega (arith, c .before .before .before .before .before .loop-test .taken)
 
 loop-again : tie.Need-loop-again Inv-loop μ-loop
 loop-again c =
-    let l = c .before .before .before .before .before .before .before in
-    let t = c .before .before .before .before .before .before .loop-test .taken in
+    let l = c .before .before .before .before .before .before in
+    let a = l .before .before .before .args in
     let v = l .loop .inv in
-    (omega arith, v .1, c .before .before .turn-line .kept .0 ∙ v .2, turning-more _ _ _ _ _ _ _ (v .3) t _ (c .before .before .turn-line .ensures))
+    let t = c .before .before .before .before .before .loop-test .taken in
+    let k = c .before .before .turn-line in (
+      omega arith,
+      v .1,
+      v .2,
+      v .3,
+      k .kept .1 .0 ∙ v .4,
+      rows-after (now (a .text)) (a .n) (l .loop .i) t (v .5),
+      v .6 ∙ rows-stored (now (a .text)) (a .n) (l .loop .i) t (v .5) (l .loop .buffer) _ (k .ensures),
+    )
 
 same-length : tie.Need-same-length Inv-loop μ-loop
-same-length c = c .before .loop .inv .2
+same-length c = c .before .loop .inv .4
 
 returns : tie.Need-returns Inv-loop μ-loop
 returns c =
-    let s = c .before .before .before .before .before in
-    let a = s .args in
-    subst (λ (z : ℤ). RowsTurned (now (a .kind)) (now (a .height)) z (a .n) (now (a .buffer)) (c .before .loop .buffer)) (back s)
-    (turning-done _ _ _ _ _ _ _ (c .before .loop .inv .3) (c .loop-test .left))
+    let l = c .before in
+    let a = l .before .before .before .args in
+    sym (l .loop .inv .6 ∙ rows-done (now (a .text)) (a .n) (l .loop .i) (c .loop-test .left) (l .loop .buffer))
 
 pub turn-lines-spec : {M : Type 1} → statement M
 turn-lines-spec =
@@ -90,11 +94,12 @@ turn-lines-spec =
     Inv-loop
     μ-loop
     loop-holds
-    mul-turn-line
+    mul-at
+    add-at
     add-turn-line
-    shared-slice-read-turn-line
-    mul-turn-line-2
-    shared-slice-read-turn-line-2
+    sub-turn-line
+    part-turn-line-start
+    part-turn-line-end
     turn-line-requires
     add-i
     loop-less

@@ -5,6 +5,9 @@ use mathlib.Core.List.{List}
 use borrow.Author.Needs.{needs}
 use denote.Ref.{now}
 use lib.ListN.{length}
+use mir.Syntax.{w64}
+use mir.Val.{toZ, ofZ}
+use Rattle.line.specs.declared.Head.{Head}
 use Rattle.line.specs.declared.Refusal.{Refusal}
 use Rattle.line.specs.declared.Refusal.the-variants.{NoRoom}
 use Rattle.line.specs.Refusal.{Verdict, refused}
@@ -44,6 +47,16 @@ taken : (c : tie.After-known-told2)
     → let x = read-of c .decode .last .1 in Taken (text-of (read-of c)) (summary-of c) (x .0) (x .1 .0) (x .1 .1 .0) (x .1 .1 .1 .0)
 taken c = taken-by (text-of (read-of c)) (read-of c .decode .ensures) (c .before .t .given .1)
 
+-- the header as it is handed on is that of the summary
+handed : (c : tie.After-known-told2)
+    → let t = summary-of c in
+    _≡_ {A = Head} (record { total = t .total; second = t .second; lowest = toZ w64 (ofZ w64 (t .lowest)); highest = toZ w64 (ofZ w64 (t .highest)) })
+    (record { total = t .total; second = t .second; lowest = t .lowest; highest = t .highest })
+handed c =
+    let t = summary-of c in
+    let G = taken c in
+    λ j. record { total = t .total; second = t .second; lowest = lowest-back G j; highest = highest-back G j }
+
 -- the refusals, and what is then in the buffer
 refusing : (R : tie.After-decode) (v : Verdict (List ℕ)) → turnOf (readText (text-of R)) (length (buffer-of R)) ≡ v
     → (turnAnswer v ≡ turnAnswer (turnOf (readText (text-of R)) (length (buffer-of R)))) × (laid (turnWritten v) (buffer-of R) ≡ laid (turnWritten (turnOf (readText (text-of R)) (length (buffer-of R)))) (buffer-of R))
@@ -56,9 +69,8 @@ returns c =
 
 turn-requires : tie.Need-turn-requires
 turn-requires c κs =
-    let E = c .before .before .before .before .before in
-    let G = taken (E .before) in
-    turn-ready G (buffer-of (read-of (E .before))) (E .if1 .left) (lowest-back G) (highest-back G)
+    let E = c .before .before in
+    turn-ready (taken (E .before)) (buffer-of (read-of (E .before))) (E .if1 .left) (handed (E .before))
 
 returns-2 : tie.Need-returns-2
 returns-2 c =
@@ -69,10 +81,8 @@ returns-2 c =
 
 returns-3 : tie.Need-returns-3
 returns-3 c =
-    let W = c .before .before in
-    let E = W .before .before .before .before .before .before in
-    let G = taken (E .before) in
-    turned-at G (buffer-of (read-of (E .before))) (E .if1 .left) (lowest-back G) (highest-back G) (W .turn .ensures)
+    let E = c .before .before .before .before .before in
+    turned-at (taken (E .before)) (buffer-of (read-of (E .before))) (E .if1 .left) (handed (E .before)) (c .before .before .turn .ensures)
 
 pub turn-table-spec : {M : Type 1} → statement M
 turn-table-spec =
@@ -86,8 +96,6 @@ turn-table-spec =
     (λ c. search needs)
     (λ c. search needs)
     returns
-    (λ c. search needs)
-    (λ c. search needs)
     turn-requires
     returns-2
     (λ c. search needs)
