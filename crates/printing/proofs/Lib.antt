@@ -6,4 +6,5 @@ pub mod Found
 pub mod Fitted
 pub mod Program
 pub mod Front
+pub mod Padding
 pub mod Worked

@@ -4,3 +4,4 @@ pub mod Rows
 pub mod Refusals
 pub mod Files
 pub mod Decisions
+pub mod Padding

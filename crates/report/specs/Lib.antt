@@ -1,3 +1,4 @@
 pub mod Report
 pub mod Files
+pub mod Padding
 pub mod Inside
