@@ -18,8 +18,9 @@ use Rattle.worth.specs.declared.Exact.the-variants.{Grains}
 use Rattle.worth.specs.Call.{exactCall}
 use Rattle.turn.specs.Text.{tableText}
 use Rattle.turn.specs.Turn.{turnTable, turnedText}
-use Rattle.turn.proofs.Tree.{turn-twice}
-use Rattle.turn.proofs.Accepted.{turned-accepted, turned-length}
+use Rattle.turn.specs.Text.{tableText}
+use Rattle.turn.proofs.Tree.{table-twice}
+use Rattle.turn.proofs.Accepted.{turned-accepted, turned-length, blank-accepted, blank-length, blank-same}
 use Rattle.turn_call.specs.Call.{turnOf}
 use Rattle.turn_call.proofs.Call.{turn-fine}
 use Rattle.search.specs.Whole.{searched}
@@ -79,10 +80,22 @@ turned-of s size u (refused r) p w = no-text r u w
 turned-of s size u (fine t) p w = (t, p, written t size u w)
 
 pub turning-twice : TurningTwice
-turning-twice s size u w other long =
+turning-twice s size u w =
     let (t, p, text) = turned-of s size u (readText s) refl w in
     let q : readText u ≡ fine (turnTable t) = subst (λ (x : List ℕ). readText x ≡ fine (turnTable t)) text (turned-accepted s t p) in
-    turn-fine u (turnTable t) other q long ∙ ap fine (turn-twice s t p)
+    let r = blank-accepted s t p in
+    let same : length (tableText t) ≡ length u = blank-length s t p ∙ sym (turned-length s t p) ∙ ap length text in (
+      t,
+      tableText t,
+      refl,
+      p,
+      r,
+      blank-same s t p,
+      λ other long. (
+        turn-fine u (turnTable t) other q long ∙ ap (λ (x : Table). fine (tableText x)) (table-twice t),
+        turn-fine (tableText t) t other r (omega (arith, same)) ∙ ap fine text,
+      ),
+    )
 
 pub turn-answers : TurnAnswers
 turn-answers s t size p long = (turnedText t, turn-fine s t size p long, turned-length s t p)

@@ -15,3 +15,4 @@ pub mod Totals
 pub mod Index
 pub mod Indexed
 pub mod Narrow
+pub mod Padded

@@ -15,8 +15,9 @@ use Rattle.field.specs.declared.Field.the-variants.{Blank, Number}
 use Rattle.line.specs.declared.Head.{Head}
 use Rattle.line.specs.declared.Heading.{Heading}
 use Rattle.line.specs.Refusal.{fine}
-use Rattle.line.specs.Line.{isIll, isBlank, hasNumber, outside, valueOf, countOf, header, headingOf, illHeading, wideHeading, among}
+use Rattle.line.specs.Line.{isIll, isBlank, hasNumber, outside, valueOf, countOf, secondOf, totalOf, header, headingOf, illHeading, wideHeading, among}
 use Rattle.line.specs.Inside.{Ranged}
+use Rattle.line.proofs.Columns.{second-number}
 use Rattle.line.proofs.Fine.{header-ranged}
 use Rattle.table.specs.Table.{count, badLength}
 use Rattle.table.proofs.Top.{good-length}
@@ -48,20 +49,20 @@ module _ (n : ℕ) (s : List ℕ) (h : Head) (long : length s ≡ 25) (e : heade
   ranged : Ranged h
   ranged = header-ranged n (getD s 24 0) (headingOf s) h e
 
-  second-is : fieldOf s 4 2 ≡ cond (eqb (h .second) 0) Blank (Number (pos (h .second)))
+  second-is : secondOf (fieldOf s 4 2) ≡ cond (eqb (h .second) 0) Blank (Number (pos (h .second)))
   second-is = ap (λ (g : Heading). g .second) said
 
-  total-is : cond (isBlank (fieldOf s 4 2)) (fieldOf s 4 4) (fieldOf s 6 2) ≡ Number (pos (h .total))
+  total-is : totalOf s (secondOf (fieldOf s 4 2)) ≡ Number (pos (h .total))
   total-is = ap (λ (g : Heading). g .total) said
 
   columns : Columns s h
   columns =
       record {
-        none = λ b. (second-none (h .second) (sym second-is ∙ b), ap (λ (f : Field). cond (isBlank f) (fieldOf s 4 4) (fieldOf s 6 2)) (sym b) ∙ total-is);
+        none = λ b. (second-none (h .second) (sym second-is ∙ b), ap (totalOf s) (sym b) ∙ total-is);
         some = λ b.
             let q = second-some (h .second) (λ z. b (second-is ∙ z)) in
-            let f : fieldOf s 4 2 ≡ Number (pos (h .second)) = second-is ∙ q .0 in
-            (f, ap (λ (f : Field). cond (isBlank f) (fieldOf s 4 4) (fieldOf s 6 2)) (sym f) ∙ total-is, q .1, ranged .second, ranged .apart);
+            let f : secondOf (fieldOf s 4 2) ≡ Number (pos (h .second)) = second-is ∙ q .0 in
+            (second-number (fieldOf s 4 2) (h .second) f, ap (totalOf s) (sym f) ∙ total-is, q .1, ranged .second, ranged .apart);
       }
 
 -- the header's 25 bytes
@@ -97,10 +98,10 @@ blank-wide g e =
     ap (λ (f : Field). (outside (pos 1) (pos 64) f || hasNumber (countOf (g .total)) f) || outside (pos 1) (pos 64) (g .total) || outside (negsuc 999999) (pos 1000000) (g .lowest)
     || outside (negsuc 999999) (pos 1000000) (g .highest) || ltZ (valueOf (g .highest)) (valueOf (g .lowest))) e
 
-one-heading : (s : List ℕ) → fieldOf s 4 2 ≡ Blank → OneHeading s
+one-heading : (s : List ℕ) → secondOf (fieldOf s 4 2) ≡ Blank → OneHeading s
 one-heading s b =
     record {
-      total = ap (λ (f : Field). cond (isBlank f) (fieldOf s 4 4) (fieldOf s 6 2)) b;
+      total = ap (totalOf s) b;
       ill = blank-heading (headingOf s) b;
       wide = blank-wide (headingOf s) b;
       none = ap countOf b;

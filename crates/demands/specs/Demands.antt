@@ -14,9 +14,11 @@ use Rattle.line.specs.Refusal.{Verdict, refused, fine}
 use Rattle.line.specs.Line.{Within}
 use Rattle.table.specs.Tree.{leaves}
 use Rattle.table.specs.Table.{Table, tree, readText}
+use Rattle.table.specs.Padding.{SameText}
 use Rattle.table.specs.declared.Play.the-variants.{Child}
 use Rattle.worth.specs.declared.Exact.the-variants.{Grains}
 use Rattle.worth.specs.Call.{exactCall}
+use Rattle.turn.specs.Text.{tableText}
 use Rattle.turn_call.specs.Call.{turnOf}
 use Rattle.search_call.specs.declared.Bounds.{Bounds}
 use Rattle.search_call.specs.declared.Bounded.the-variants.{Found}
@@ -137,11 +139,18 @@ abbrev pub TurnAnswers : Type 0
 TurnAnswers =
     (s : List ℕ) (t : Table) (size : ℕ) → readText s ≡ fine t → length s ≤ size → (u : List ℕ) × (turnOf (readText s) size ≡ fine u) × (length u ≡ length s)
 
--- document 01: "Turning twice restores the text.": u is what turning s writes, and turning u into a buffer with room for it writes s
+-- document 01: "Turning twice restores the text"; by document 02, Item 9, "turning twice now gives the blank-padded text of the same table". u is what
+-- turning s writes, and b is the blank-padded text of the table that s is read as: turning u into a buffer with room for it writes b, and turning b
+-- writes u again. b is accepted as that table, and differs from s in padding alone.
 abbrev pub TurningTwice : Type 0
 TurningTwice =
     (s : List ℕ) (size : ℕ) (u : List ℕ) → turnOf (readText s) size ≡ fine u
-    → (other : ℕ) → length u ≤ other → turnOf (readText u) other ≡ fine s
+    → (t : Table) × (b : List ℕ)
+    × (b ≡ tableText t)
+    × (readText s ≡ fine t)
+    × (readText b ≡ fine t)
+    × SameText s b
+    × ((other : ℕ) → length u ≤ other → (turnOf (readText u) other ≡ fine b) × (turnOf (readText b) other ≡ fine u))
 
 -- ---- demand 2: "Rollouts on tables without dice end on the exact worth under every policy list, and read no leaf twice."
 

@@ -10,3 +10,4 @@ pub mod Safer
 pub mod Sums
 pub mod Totals
 pub mod Indexed
+pub mod Padded

@@ -14,7 +14,7 @@ use Rattle.line.specs.declared.Head.{Head}
 use Rattle.line.specs.declared.Heading.{Heading}
 use Rattle.line.specs.declared.Refusal.the-variants.{TooManyGrains}
 use Rattle.line.specs.Refusal.{refused, fine}
-use Rattle.line.specs.Line.{isIll, isBlank, outside, valueOf, headingOf, illHeading, wideHeading, headOf, totals, among, larger}
+use Rattle.line.specs.Line.{isIll, isBlank, outside, valueOf, secondOf, headingOf, illHeading, wideHeading, headOf, totals, among, larger}
 use Rattle.table.specs.Table.{Table, tree, readText, greatest, grain}
 use Rattle.table.specs.Accepted.{Excessive}
 use Rattle.turn.specs.Text.{columns, totalsText}
@@ -24,10 +24,10 @@ use Rattle.search.specs.Exact.{NoRemainder}
 -- ---- the header
 
 -- "Header columns 5-6, blank so far, may hold a second total, 1 to 64, different from the first, which then has columns 7-8": what an accepted header
--- has there. Document 01: "5-8 the total T".
+-- has there. Document 01: "5-8 the total T"; Item 9: "Only zeros in header columns 5-6 mean no second total, and T has columns 5-8".
 pub record Columns (s : List ℕ) (h : Head) : Type 0 where
-  pub none : fieldOf s 4 2 ≡ Blank → (h .second ≡ 0) × (fieldOf s 4 4 ≡ Number (pos (h .total)))
-  pub some : (fieldOf s 4 2 ≡ Blank → ⊥)
+  pub none : secondOf (fieldOf s 4 2) ≡ Blank → (h .second ≡ 0) × (fieldOf s 4 4 ≡ Number (pos (h .total)))
+  pub some : (secondOf (fieldOf s 4 2) ≡ Blank → ⊥)
       → (fieldOf s 4 2 ≡ Number (pos (h .second))) × (fieldOf s 6 2 ≡ Number (pos (h .total))) × (0 < h .second) × (h .second ≤ 64) × (h .second ≡ h .total → ⊥)
 
 abbrev pub HeaderColumns : Type 0
@@ -73,7 +73,7 @@ formerWide g =
     || outside (negsuc 999999) (pos 1000000) (g .highest)
     || ltZ (valueOf (g .highest)) (valueOf (g .lowest))
 
--- a header whose columns 5-6 are blank: the total is that of columns 5-8, the conditions are those, and there is no second total
+-- a header whose columns 5-6 hold no second total: the total is that of columns 5-8, the conditions are those, and there is no second total
 pub record OneHeading (s : List ℕ) : Type 0 where
   pub total : headingOf s .total ≡ fieldOf s 4 4
   pub ill : (last : ℕ) → illHeading last (headingOf s) ≡ formerIll last (headingOf s)
@@ -89,7 +89,7 @@ pub record OneTotal (h : Head) : Type 0 where
 -- "The grain count G is T to the power K", and 18 is never given
 abbrev pub AsBefore : Type 0
 AsBefore =
-    ((s : List ℕ) → fieldOf s 4 2 ≡ Blank → OneHeading s)
+    ((s : List ℕ) → secondOf (fieldOf s 4 2) ≡ Blank → OneHeading s)
     × ((h : Head) → h .second ≡ 0 → OneTotal h)
     × ((s : List ℕ) (t : Table) → readText s ≡ fine t → t .head .second ≡ 0 → grain t ≡ t .head .total ^ greatest (t .lines))
-    × ((s : List ℕ) → fieldOf (take 25 s) 4 2 ≡ Blank → readText s ≡ refused TooManyGrains → ⊥)
+    × ((s : List ℕ) → secondOf (fieldOf (take 25 s) 4 2) ≡ Blank → readText s ≡ refused TooManyGrains → ⊥)
