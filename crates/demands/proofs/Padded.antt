@@ -19,12 +19,12 @@ use Rattle.turn_call.specs.Call.{turnCall, turnBytes}
 use Rattle.search_call.specs.Call.{searchCall, searchReads, withinCall, withinReads}
 use Rattle.index_call.specs.Call.{indexCall, indexLows, indexHighs, indexedCall, indexedReads}
 use Rattle.rolled.specs.Call.{rollCall, rollReads, rollStore}
-use Rattle.report.specs.Report.{Outcome}
 use Rattle.report.proofs.Padding.{match-same}
 use Rattle.mark.specs.Marks.{choiceOf}
-use Rattle.report.specs.Report.{kindsIn, lossesIn}
+use Rattle.report.specs.Report.{Outcome, kindsIn, lossesIn}
 use Rattle.report_call.specs.Call.{byScale, fit, reportAnswer, filled, marksBy}
-use Rattle.demands.specs.Padded.{EveryPadding, OnlyPaddings, MinusZeros, ZerosNoSecond, SameReading, OneTable, EveryCall, EveryReport}
+use Rattle.printing.proofs.Padding.{output-same}
+use Rattle.demands.specs.Padded.{EveryPadding, OnlyPaddings, MinusZeros, ZerosNoSecond, SameReading, OneTable, EveryCall, EveryReport, EveryOutput}
 use Rattle.demands.proofs.Totals.{header-columns}
 
 pub every-padding : EveryPadding
@@ -84,3 +84,6 @@ every-report a b M scale room =
       losses = ap (λ (o : Outcome). lossesIn (filled (byScale (choiceOf scale) (fit room o)))) e;
       marks = ap (λ (o : Outcome). marksBy (choiceOf scale) (filled (byScale (choiceOf scale) (fit room o)))) e;
     }
+
+pub every-output : EveryOutput
+every-output a b S = output-same a b S

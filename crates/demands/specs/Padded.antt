@@ -1,5 +1,5 @@
--- Zero-padded tables. Document 02, Item 9, which is quoted: of a field, of every call over texts, of match files. What turning writes is in Demands.antt
--- (`TurningTwice`), and what the margin program prints in printing/specs/Padding.antt. proofs/Padded.antt has the theorems.
+-- Zero-padded tables. Document 02, Item 9, which is quoted: of a field, of every call over texts, of match files and of the margin program. What turning
+-- writes is in Demands.antt (`TurningTwice`). proofs/Padded.antt has the theorems.
 use Prim.Native.Nat.{ℕ, _≤_}
 use mathlib.Core.Path.{_≡_}
 use mathlib.Core.List.{List, _∷_, _++_}
@@ -20,6 +20,8 @@ use Rattle.index_call.specs.Call.{indexCall, indexLows, indexHighs, indexedCall
 use Rattle.rolled.specs.Call.{rollCall, rollReads, rollStore}
 use Rattle.report.specs.Padding.{SameMatch}
 use Rattle.report_call.specs.Call.{reportCall, reportKinds, reportLosses, reportMarks}
+use Rattle.printing.specs.Program.{outputOf}
+use Rattle.printing.specs.Padding.{SameInput}
 
 -- ---- a field
 
@@ -88,3 +90,8 @@ pub record SameReport (a b : List ℕ) (scale : ℤ) (room : ℕ) : Type 0 where
 
 abbrev pub EveryReport : Type 0
 EveryReport = (a b : List ℕ) → SameMatch a b → (scale : ℤ) (room : ℕ) → SameReport a b scale room
+
+-- ---- an input of the margin program
+
+abbrev pub EveryOutput : Type 0
+EveryOutput = (a b : List ℕ) → SameInput a b → outputOf a ≡ outputOf b
