@@ -1,10 +1,5 @@
 -- The theorems of specs/Padded.antt. Assumes nothing.
-use Prim.Native.Nat.{ℕ}
-use mathlib.Core.Path.{_≡_, ap, _∙_}
-use mathlib.Core.List.{List}
-use lib.ListN.{take}
-use lib.IntN.{ℤ}
-use Rattle.field.specs.Field.{fieldOf}
+use mathlib.Core.Path.{_≡_, ap}
 use Rattle.field.proofs.Padding.{pads-read, minus-zeros as minus-zeros-ill}
 use Rattle.field.proofs.Inverse.{number-pads}
 use Rattle.line.specs.Refusal.{Verdict}

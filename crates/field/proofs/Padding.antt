@@ -1,7 +1,7 @@
 -- One number in any padding is read as that number. Document 02, Item 9. Assumes nothing.
 use Prim.Native.Nat.{ℕ, zero, suc}
 use mathlib.Core.Path.{_≡_, refl, sym, ap, _∙_}
-use mathlib.Core.List.{List, [], _∷_, _++_}
+use mathlib.Core.List.{List, _∷_, _++_}
 use lib.ListN.{replicate}
 use lib.IntN.{ℤ}
 use Rattle.field.specs.Field.{strip, digits, whole, minus, signed}

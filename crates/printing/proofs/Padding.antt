@@ -5,7 +5,7 @@ use mathlib.Core.Bool.{cond}
 use mathlib.Core.List.{List}
 use lib.Dec.{eqb}
 use lib.IntN.{negsuc}
-use Rattle.field.specs.Field.{strip, signed, fieldOf}
+use Rattle.field.specs.Field.{fieldOf}
 use Rattle.field.proofs.Padding.{repadded-read}
 use Rattle.table.proofs.Padding.{text-same}
 use Rattle.search_call.specs.Call.{sought}

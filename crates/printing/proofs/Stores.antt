@@ -3,11 +3,10 @@ use Prim.Native.Nat.{ℕ, zero, suc, _+_, _*_, _/_, _≤_, _<_}
 use mathlib.Core.Path.{_≡_, refl, sym, ap, _∙_}
 use mathlib.Core.List.{List, [], _∷_, _++_, map, append-assoc, append-nil}
 use native.Mathlib.Omega.{arith}
-use native.Mathlib.Nat.{add-zero}
 use native.Mathlib.Numerals.{add-one}
 use lib.Dec.{eqb·suc-zero}
-use lib.ListN.{length, getD, set, take, drop, length-append, length-replicate}
-use lib.Seq.{sets, sets-eq, length-sets, take-suc, length-take-le}
+use lib.ListN.{length, getD, set, take, length-append}
+use lib.Seq.{sets, length-sets, take-suc, length-take-le}
 use lib.IntN.{ℤ, pos}
 use Rattle.field.specs.Field.{leading, textOf, justified, written, digit}
 use Rattle.field.proofs.Stores.{sets-append, justified-long, written-stored}

@@ -1,28 +1,26 @@
 -- Texts that differ in padding alone are read alike. Document 02, Item 9. Assumes nothing.
-use Prim.Native.Nat.{ℕ, zero, suc, _+_, _-_, _/_, _≤_, _<_}
-use mathlib.Core.Path.{_≡_, refl, sym, ap, ap₂, _∙_}
+use Prim.Native.Nat.{ℕ, zero, suc, _-_, _/_, _≤_, _<_}
+use mathlib.Core.Path.{_≡_, refl, sym, ap, _∙_}
 use mathlib.Core.Bool.{Bool, true, false, cond}
-use mathlib.Core.List.{List, [], _∷_, _++_}
+use mathlib.Core.List.{List, [], _∷_}
 use native.Mathlib.Omega.{arith}
 use borrow.Author.Tests.{ne-eqb}
-use lib.Dec.{eqb, lit<}
-use lib.ListN.{length, getD, take, drop, replicate, length-append, length-replicate, length-take, length-drop, take-append-drop}
+use lib.Dec.{lit<}
+use lib.ListN.{length, take, drop, length-drop}
 use lib.Seq.{take-take, drop-drop, take-add, drop-at, length-take-le}
-use lib.IntN.{ℤ, pos}
-use Rattle.field.specs.Field.{strip, digits, whole, signed, fieldOf, decimal, textOf}
-use Rattle.field.specs.Padding.{padded, Pads, Repadded}
+use lib.IntN.{pos}
+use Rattle.field.specs.Field.{strip, digits, whole, signed, fieldOf}
+use Rattle.field.specs.Padding.{padded, Pads}
 use Rattle.field.specs.declared.Field.{Field}
 use Rattle.field.specs.declared.Field.the-variants.{Blank, Number}
 use Rattle.field.proofs.Padding.{pads-read, repadded-read}
 use Rattle.field.proofs.Width.{few-plain}
 use Rattle.line.specs.declared.Head.{Head}
-use Rattle.line.specs.declared.Heading.{Heading}
 use Rattle.line.specs.declared.Line.{Line}
-use Rattle.line.specs.declared.Entry.{Entry}
 use Rattle.line.specs.declared.Refusal.the-variants.{Length}
-use Rattle.line.specs.Refusal.{Verdict, refused, next}
-use Rattle.line.specs.Line.{isBlank, secondOf, totalOf, headingOf, header, headerFor, Step, Placed, entryOf, placeOf, nodeLine}
-use Rattle.table.specs.Table.{Table, prefix, nodeLines, linesOf, complete, badLength, count, readText}
+use Rattle.line.specs.Refusal.{refused, next}
+use Rattle.line.specs.Line.{isBlank, secondOf, totalOf, headingOf, header, headerFor, Step, Placed, placeOf, nodeLine}
+use Rattle.table.specs.Table.{prefix, nodeLines, linesOf, complete, badLength, count, readText}
 use Rattle.table.specs.Padding.{columnsOf, SameField, SameTotals, one-total, two-totals, kept-totals, SameHeader, SameLine, SameLines, SameText}
 use Rattle.table.proofs.Top.{good-length}
 

@@ -7,7 +7,7 @@ use native.Mathlib.Omega.{arith}
 use lib.Dec.{eqb, ltb, lit<, lit≤, eqb·suc-zero}
 use lib.ListN.{length, getD, take, drop, length-append, length-drop}
 use lib.Seq.{take-at, drop-at}
-use lib.IntN.{ℤ, pos, natAbs}
+use lib.IntN.{pos}
 use Rattle.field.specs.declared.Field.{Field}
 use Rattle.field.specs.declared.Field.the-variants.{Blank, Number}
 use Rattle.line.specs.declared.Head.{Head}

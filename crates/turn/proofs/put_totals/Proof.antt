@@ -1,6 +1,6 @@
 -- `turn::put_totals` meets its contract. Assumes nothing.
 use Prim.Native.Nat.{ℕ, _≤_}
-use mathlib.Core.Path.{_≡_, sym, ap, ap₂, _∙_}
+use mathlib.Core.Path.{ap, ap₂, _∙_}
 use mathlib.Core.List.{List}
 use native.Mathlib.Omega.{arith}
 use borrow.Author.Needs.{needs}
@@ -8,7 +8,7 @@ use borrow.Author.Tests.{eq-eqb, ne-eqb}
 use denote.Ref.{now}
 use lib.Dec.{lit<, lit≤}
 use lib.Seq.{sets}
-use lib.IntN.{ℤ, pos}
+use lib.IntN.{ℤ}
 use Rattle.turn.specs.Text.{columns}
 use Rattle.turn.proofs.Stored.{handed, fits-handed, totals-stored}
 use Rattle.turn.proofs.put_totals.Statement.{statement}
