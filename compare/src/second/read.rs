@@ -1,5 +1,5 @@
 //! Reads a table from its text, or refuses it: refusals 1 to 10, and 18 for its grain
-//! count (document 02, Item 5).
+//! count (document 02, Item 5). A number may have zeros before it (Item 9).
 
 use super::table::*;
 
@@ -51,9 +51,7 @@ impl Header {
             return Err(2);
         }
         let count = number(&line[0..4])?;
-        let second = field(&line[4..6])?;
-        // Where columns 5-6 are blank, those of a single total say no more than 7-8.
-        let total = number(&line[6..8])?;
+        let (total, second) = totals(&line[4..8])?;
         let lowest = number(&line[8..16])?;
         let highest = number(&line[16..24])?;
 
@@ -255,9 +253,20 @@ fn number(columns: &[u8]) -> Result<i64, u8> {
     field(columns)?.ok_or(2)
 }
 
-/// Reads a field: blanks, then nothing or a number right-justified. A number is
-/// digits without a leading zero, with a minus directly before them if it is
-/// below zero; anything else is ill-written.
+/// Reads columns 5-8 of the header: the first total, and the second if there is one. The
+/// second has the first two columns; where they hold blanks or zeros alone there is none,
+/// and the first has all four (document 02, Items 5 and 9).
+fn totals(columns: &[u8]) -> Result<(i64, Option<i64>), u8> {
+    let (left, right) = columns.split_at(2);
+    match field(left)? {
+        None | Some(0) => Ok((number(columns)?, None)),
+        second => Ok((number(right)?, second)),
+    }
+}
+
+/// Reads a field: blanks, then nothing or a number right-justified. A number is digits, the
+/// first of which may be zeros (document 02, Item 9), with a minus directly before them all if
+/// it is below zero; anything else is ill-written, a minus before zeros alone too.
 pub(super) fn field(columns: &[u8]) -> Result<Option<i64>, u8> {
     let Some(start) = columns.iter().position(|&byte| byte != b' ') else {
         return Ok(None);
@@ -266,11 +275,6 @@ pub(super) fn field(columns: &[u8]) -> Result<Option<i64>, u8> {
         [b'-', digits @ ..] => (true, digits),
         digits => (false, digits),
     };
-    match digits {
-        [] | [b'0', _, ..] => return Err(2),
-        [b'0'] if negative => return Err(2),
-        _ => {}
-    }
     let mut value = 0;
     for &digit in digits {
         if !digit.is_ascii_digit() {
@@ -278,5 +282,10 @@ pub(super) fn field(columns: &[u8]) -> Result<Option<i64>, u8> {
         }
         value = 10 * value + i64::from(digit - b'0');
     }
-    Ok(Some(if negative { -value } else { value }))
+    match (negative, value) {
+        _ if digits.is_empty() => Err(2),
+        (true, 0) => Err(2),
+        (true, _) => Ok(Some(-value)),
+        (false, _) => Ok(Some(value)),
+    }
 }

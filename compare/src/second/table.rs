@@ -45,9 +45,9 @@ pub struct Node {
 /// An accepted table.
 #[derive(Clone, Debug, PartialEq, Eq)]
 pub struct Table {
-    /// The first total, in columns 7-8.
+    /// The first total, in columns 7-8, or 5-8 where there is no second.
     pub total: i64,
-    /// The second, in columns 5-6 (document 02, Item 5); none where they are blank.
+    /// The second, in columns 5-6 (document 02, Item 5); none where they are blank or 0.
     pub second: Option<i64>,
     pub lowest: i64,
     pub highest: i64,

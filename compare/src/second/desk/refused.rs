@@ -130,10 +130,11 @@ fn header_out_of_range(line: &[u8]) -> Vec<Stretch> {
     wrong(totals.into_iter().chain(ends))
 }
 
-/// The columns of the totals, in sequence: T's are the last.
+/// The columns of the totals, in sequence: T's are the last. Blanks and zeros in 5-6 are no
+/// second total.
 pub(super) fn totals(header: &[u8]) -> &'static [Stretch] {
     match columns(header, SECOND) {
-        b"  " => &[TOTAL],
+        b"  " | b" 0" | b"00" => &[TOTAL],
         _ => &[SECOND, BESIDE_SECOND],
     }
 }
