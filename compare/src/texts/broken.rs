@@ -107,7 +107,9 @@ fn out_of_range(draft: &mut Draft, random: &mut Random) -> usize {
     match random.below(5) {
         0 => {
             let at = random.below(draft.totals.len());
-            let mut bad = vec![0, -1, MOST_TOTAL + 1];
+            let mut bad = vec![-1, MOST_TOTAL + 1];
+            // As the second total 0 is none.
+            bad.extend((at == 0).then_some(0));
             // Or both are the same.
             bad.extend(draft.totals.get(1 - at));
             draft.totals[at] = random.pick(&bad);

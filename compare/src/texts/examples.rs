@@ -248,25 +248,27 @@ pub fn refused_examples() -> Vec<(Vec<u8>, u8, usize)> {
         // 2: the header's T is blank; the kind of node 2 is blank.
         (table_b_with(0, "...5...........0.......8"), 2, 0),
         (table_b_with(3, "...2......0............."), 2, 3),
-        // 2: a leading zero; -0; a plus; a digit short of the last column; a
-        // blank between minus and digit.
-        (table_b_with(2, "...1.L....0...........05"), 2, 2),
+        // 2: a blank after a zero; -0; a minus before zeros alone; a plus; a digit short
+        // of the last column; a blank between minus and digit.
+        (table_b_with(2, "...1.L....0..........0.5"), 2, 2),
         (table_b_with(2, "...1.L....0...........-0"), 2, 2),
+        (table_b_with(2, "...1.L....0.....-0000000"), 2, 2),
         (table_b_with(2, "...1.L....0...........+5"), 2, 2),
         (table_b_with(2, "...1.L....0...........5."), 2, 2),
         (table_b_with(2, "...1.L....0..........-.5"), 2, 2),
-        // 2 before 3 in the header: the lowest end has a leading zero, and T is 0.
-        (table_b_with(0, "...5...0......00.......8"), 2, 0),
-        // 2 before 4: the utility has a leading zero, and the number is wrong.
-        (table_b_with(4, "...4.L....2....3......02"), 2, 4),
+        // 2 before 3 in the header: the lowest end is -0, and T is 0.
+        (table_b_with(0, "...5...0......-0.......8"), 2, 0),
+        // 2 before 4: the utility is -0, and the number is wrong.
+        (table_b_with(4, "...4.L....2....3......-0"), 2, 4),
         // 3: T is 0; T is 65; an end too far out; the lowest above the highest.
         (table_b_with(0, "...5...0.......0.......8"), 3, 0),
         (table_b_with(0, "...5..65.......0.......8"), 3, 0),
         (table_b_with(0, "...5...4-1000001.......8"), 3, 0),
         (table_b_with(0, "...5...4.......9.......8"), 3, 0),
-        // 3: a weight above T; a weight of 0; a utility above the highest end.
+        // 3: a weight above T; a weight of 0, or of zeros; a utility above the highest end.
         (table_b_with(4, "...3.L....2....5.......2"), 3, 4),
         (table_b_with(4, "...3.L....2....0.......2"), 3, 4),
+        (table_b_with(4, "...3.L....200000.......2"), 3, 4),
         (table_b_with(4, "...3.L....2....3.......9"), 3, 4),
         // 3 before 4 in the header: T is 0 and the count is wrong.
         (table_b_with(0, "...6...0.......0.......8"), 3, 0),
@@ -282,8 +284,9 @@ pub fn refused_examples() -> Vec<(Vec<u8>, u8, usize)> {
         (table_b_with(1, "...0.m.................."), 5, 1),
         // 5 before 6: no kind, and a leaf as parent.
         (table_b_with(3, "...2.X....1............."), 5, 3),
-        // 6: node 0 has a parent; node 2 has none.
+        // 6: node 0 has a parent, 0 or zeros; node 2 has none.
         (table_b_with(1, "...0.M....0............."), 6, 1),
+        (table_b_with(1, "...0.M00000............."), 6, 1),
         (table_b_with(3, "...2.C.................."), 6, 3),
         // 6: node 2's parent is a leaf; is itself; is below zero.
         (table_b_with(3, "...2.C....1............."), 6, 3),
@@ -292,9 +295,10 @@ pub fn refused_examples() -> Vec<(Vec<u8>, u8, usize)> {
         // 6: node 6 stands under node 1, whose run ended when node 4 came.
         (dotted(&TABLE_A.replace("...6.L....4", "...6.L....1")), 6, 7),
         // 7: node 3, a child of a C, has no weight; node 1, no such child, has
-        // one; and so has the root.
+        // one, or zeros; and so has the root.
         (table_b_with(4, "...3.L....2............2"), 7, 4),
         (table_b_with(2, "...1.L....0....1.......5"), 7, 2),
+        (table_b_with(2, "...1.L....000000.......5"), 7, 2),
         (table_b_with(1, "...0.M.........1........"), 7, 1),
         // 7: the leaf 1 has no utility; node 2, no leaf, has one.
         (table_b_with(2, "...1.L....0............."), 7, 2),
@@ -313,19 +317,23 @@ pub fn refused_examples() -> Vec<(Vec<u8>, u8, usize)> {
         // 8 before 9, although 9's line is the lower one: node 2's weights do
         // not sum to T, and node 4 has no child.
         (table_b_with(5, "...4.M....2....2........"), 8, 5),
-        // 2: the second total is 00, -0 or has a plus, or a blank after its digit.
+        // 2: zeros in columns 5-6 and a blank after them, as T is then in columns 5-8.
         (table_b_with(0, "...500.4.......0.......8"), 2, 0),
+        (table_b_with(0, "...5.0.4.......0.......8"), 2, 0),
+        (table_b_with(0, "...500.........0.......8"), 2, 0),
+        // 2: the second total is -0 or has a plus, or a blank after its digit, also a 0.
         (table_b_with(0, "...5-0.4.......0.......8"), 2, 0),
         (table_b_with(0, "...5+3.4.......0.......8"), 2, 0),
         (table_b_with(0, "...53..4.......0.......8"), 2, 0),
-        // 2: there is a second total and no first, or one with a leading zero, which
-        // would be the T of 100 in four columns.
+        (table_b_with(0, "...50.04.......0.......8"), 2, 0),
+        // 2: there is a second total and no first.
         (table_b_with(0, "...5.4.........0.......8"), 2, 0),
-        (table_b_with(0, "...5.100.......0.......8"), 2, 0),
-        // 2 before 3 among the totals: the second is 0, the first 04.
-        (table_b_with(0, "...5.004.......0.......8"), 2, 0),
-        // 3: the second total is 0, -1 or 65, or it is the first; the first is 65 or 0.
-        (table_b_with(0, "...5.0.4.......0.......8"), 3, 0),
+        // 2 before 3 among the totals: the second is 65, the first -0.
+        (table_b_with(0, "...565-0.......0.......8"), 2, 0),
+        // 3: T is 0 in four columns; the first total is 0, in what would be a T of 100.
+        (table_b_with(0, "...50000.......0.......8"), 3, 0),
+        (table_b_with(0, "...5.100.......0.......8"), 3, 0),
+        // 3: the second total is -1 or 65, or it is the first; the first is 65 or 0.
         (table_b_with(0, "...5-1.4.......0.......8"), 3, 0),
         (table_b_with(0, "...565.4.......0.......8"), 3, 0),
         (table_b_with(0, "...5.4.4.......0.......8"), 3, 0),

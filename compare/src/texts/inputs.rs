@@ -1,6 +1,7 @@
 //! Random inputs of the margin program, beyond the tables in them.
 
 use super::damage::carriage_returns;
+use super::padding::padded_line;
 use crate::random::Random;
 use crate::second::{GREATEST_MARGIN, LINE, MOST_NODES};
 
@@ -21,14 +22,16 @@ pub fn margin_line(random: &mut Random, span: i64) -> (bool, Vec<u8>) {
         _ => random.between(0, span),
     };
     let well = format!("{margin:>14}\n").into_bytes();
-    if !random.one_in(4) {
-        return (true, well);
+    match random.below(8) {
+        0 | 1 => {}
+        2 => return (true, padded_line(&well, random)),
+        _ => return (true, well),
     }
     let columns = match random.below(18) {
         0 => String::new(),
         1 => "-0".to_string(),
-        2 => format!("0{margin}"),
-        3 => format!("{margin:0>14}"),
+        2 => format!("0 {}", margin.abs()),
+        3 => format!("-{}", "0".repeat(13)),
         4 => format!("+{}", margin.abs()),
         5 => "-".to_string(),
         6 => format!("{margin:<14}"),

@@ -7,7 +7,8 @@
 //! those of `level` are made otherwise, by a plan of what their plays lose, and some
 //! matches of such tables; those of `windows`, whose windows under C are narrow;
 //! those of `ties`, whose plays are much alike; and those of `totals`, whose two totals
-//! have a planned number of uses. `parts` gives any of them other utilities.
+//! have a planned number of uses. `parts` gives any of them other utilities, and `padding`
+//! zeros before their numbers.
 
 pub mod bench;
 pub mod broken;
@@ -20,6 +21,7 @@ pub mod knobs;
 pub mod largest;
 pub mod level;
 pub mod matches;
+pub mod padding;
 pub mod parts;
 mod settings;
 pub mod small;

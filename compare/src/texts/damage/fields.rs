@@ -53,6 +53,8 @@ fn wrong_total(draft: &mut Draft, _: usize, random: &mut Random) {
         _ => [99, -9],
     };
     let mut wrong = vec![total - 1, total + 1, 0, 65, -1, far, below];
+    // As the second total 0 is none, and no fault by itself.
+    wrong.retain(|wrong| at == 0 || *wrong != 0);
     wrong.extend(draft.totals.get(1 - at));
     draft.totals[at] = random.pick(&wrong);
 }

@@ -115,8 +115,8 @@ fn ill_written_play(position: &mut Position, random: &mut Random) {
     let columns = match random.below(14) {
         0 => String::new(),
         1 => "-0".to_string(),
-        2 => format!("0{play}"),
-        3 => format!("{play:0>4}"),
+        2 => format!("0 {play}"),
+        3 => "-000".to_string(),
         4 => format!("+{play}"),
         5 => "-".to_string(),
         6 => format!("{play:<4}"),
@@ -125,7 +125,7 @@ fn ill_written_play(position: &mut Position, random: &mut Random) {
         9 => format!("--{play}"),
         10 => format!("\t{play}"),
         11 => format!("{play}\n"),
-        12 => "00".to_string(),
+        12 => "-00".to_string(),
         _ => {
             let any = (0..4).map(|_| char::from(random.pick(b"  -01+x\n")));
             any.collect()
@@ -176,16 +176,16 @@ fn other_count(position: &mut Position, random: &mut Random) {
 fn ill_written_header(position: &mut Position, random: &mut Random) {
     let fields = [
         (0, "    "),
-        (0, "  05"),
+        (0, "0 05"),
         (4, "    "),
         (4, "  +1"),
         (4, "36  "),
-        (4, "0036"),
-        (4, " 100"),
+        (4, "00 4"),
+        (4, "0 36"),
         (8, "        "),
         (8, "      -0"),
         (16, "      - "),
-        (16, "      00"),
+        (16, "     -00"),
         (24, " "),
         (24, "\r"),
     ];
@@ -198,7 +198,7 @@ fn header_out_of_range(position: &mut Position, random: &mut Random) {
         (4, "   0"),
         (4, "  65"),
         (4, "  -1"),
-        (4, " 036"),
+        (4, " 100"),
         (4, "6536"),
         (4, "-136"),
         (4, "3636"),
