@@ -8,6 +8,7 @@ pub mod indexed;
 pub mod judging;
 pub mod leaves;
 pub mod numbers;
+pub mod padded;
 pub mod reading;
 pub mod reporting;
 pub mod rolling;

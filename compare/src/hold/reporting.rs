@@ -12,6 +12,7 @@ use crate::second::{
     MOST_POSITIONS, PLAY_LINE,
 };
 use crate::texts::examples::escaped;
+use crate::texts::padding::has_second_total;
 
 /// No call writes these, so an entry that was written shows.
 const NO_KIND: u8 = 0xa5;
@@ -213,7 +214,7 @@ impl Comparison {
         match &answer {
             Ok(report) => {
                 for position in second::positions(file) {
-                    self.tally.add_header(position.text[4..6] != *b"  ");
+                    self.tally.add_header(has_second_total(position.text));
                 }
                 count_report(&mut self.accepted, scale, report);
                 count_forced(&mut self.forced, file, report);

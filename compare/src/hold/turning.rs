@@ -7,6 +7,7 @@ use super::tally::Tally;
 use crate::engine;
 use crate::second::{self, Kind, Refusal, Table, FARTHEST_END, LINE, MOST_NODES};
 use crate::texts::examples::escaped;
+use crate::texts::padding::blanked;
 
 /// No text has this byte in it, so a byte that was written shows.
 pub const PATTERN: u8 = 0xa5;
@@ -60,7 +61,7 @@ impl Comparison {
 
     /// Gives a text to both engines, with several buffers where it is accepted.
     /// Fails the test unless the engines agree, and the turned text turned again
-    /// is the text.
+    /// is the blank-padded text (document 02, Item 9).
     pub fn hold(&mut self, text: &[u8]) -> Result<Table, Refusal> {
         let table = second::read(text);
         let mut codes = Vec::new();
@@ -82,7 +83,7 @@ impl Comparison {
             self.tally.add_table(table);
             let turned = turned(text);
             assert!(!turned.windows(2).any(|pair| pair == b"-0"), "-0 written");
-            hold_to(&self.tally, &turned, text.len(), &Ok(text));
+            hold_to(&self.tally, &turned, text.len(), &Ok(&blanked(text)));
             self.add_table(table, text == turned);
         }
         table
