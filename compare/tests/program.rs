@@ -19,11 +19,12 @@ use compare::hold::seen::Seen;
 use compare::hold::tally::{Tally, OF_GRAINS, OF_TABLES};
 use compare::random::{number_from_environment, Random};
 use compare::second::{self, LINE, MOST_NODES};
+use compare::texts::broken::broken;
 use compare::texts::examples::*;
 use compare::texts::inputs::{damage, margin_line};
 use compare::texts::knobs::Knobs;
 use compare::texts::totals::too_grainy;
-use compare::texts::{self, largest};
+use compare::texts::{self, largest, padding};
 
 // ---------------------------------------------------------------------------
 // Running the program
@@ -234,6 +235,66 @@ fn random_inputs() {
     }
 }
 
+/// Zeros before the margin and the numbers of the table (document 02, Item 9): the program
+/// writes what it writes where blanks stand there. It fails where the program refused too
+/// seldom for one of its reasons.
+#[test]
+fn padded_inputs() {
+    const BROKEN: [u8; 11] = [1, 2, 3, 4, 5, 6, 7, 8, 9, 10, 18];
+    let mut comparison = Comparison::new("the program on padded inputs");
+    let mut seen = Seen::default();
+    for number in 0..2_800 {
+        let mut random = Random::of_case(comparison.tally.seed, number);
+        let text = match number % 8 {
+            0 => texts::make(Knobs::close, &mut random),
+            1 => texts::make(Knobs::any, &mut random),
+            _ => broken(BROKEN[number as usize / 8 % 11], &mut random).0,
+        };
+        let mut padded = padding::padded(&text, &mut random);
+        let of_zeros = number % 8 == 1 && random.one_in(4);
+        if of_zeros {
+            let (_, put) = random.pick(&padding::FAULTS);
+            put(&mut padded, &mut random);
+        }
+        let (well, line) = match random.one_in(8) {
+            // No other margin that is out of range has room for a zero.
+            true => {
+                let below = -random.between(1, 1_000_000);
+                (true, format!("{below:>14}\n").into_bytes())
+            }
+            false => margin_line(&mut random, span(&text)),
+        };
+        let padded_margin = padding::padded_line(&line, &mut random);
+        let input = [&padded_margin[..], &padded].concat();
+        if input == [&line[..], &text].concat() {
+            continue;
+        }
+        let output = comparison.hold(&input, Way::Pipe);
+        if !of_zeros {
+            let blank = [&line[..], &text].concat();
+            assert_eq!(second::output(&blank), output, "{}", input.escape_ascii());
+            if number % 3 == 0 {
+                let (tally, program) = (&comparison.tally, &comparison.program);
+                hold_to(tally, program, &blank, Way::Pipe, &output);
+            }
+        }
+        let refused = refusal(&output);
+        let zeros = padding::is_padded_line(&padded_margin);
+        let below = zeros && padded_margin.contains(&b'-');
+        seen.count("a padded margin, an answer", zeros && refused == 0);
+        seen.count("one below zero, refused 12", below && refused == 12);
+        seen.count("an ill-written margin, refused 12", !well && refused == 12);
+        let table = !padding::padded_fields(&padded).is_empty();
+        seen.count("a padded table, an answer", table && refused == 0);
+    }
+    comparison.tally.report();
+    seen.demand(20);
+    comparison.tally.demand_refusals(&OF_TABLES);
+    comparison.tally.demand_refusals(&OF_GRAINS);
+    comparison.tally.demand_refusals(&[12]);
+    assert!(comparison.tally.cases >= 2_000, "too few inputs");
+}
+
 /// The greatest tables, whose answers have the widest numbers and the most
 /// lines; and inputs of megabytes.
 #[test]
@@ -396,6 +457,13 @@ fn known() -> Vec<(Vec<u8>, String)> {
             with_margin("             3\n", &turned),
             blanks(OUTPUT_CUT_PLAYS_TURNED),
         ),
+        // Zeros before the margin (document 02, Item 9).
+        (with_margin("00000000000012\n", &b), blanks(OUTPUT_B)),
+        (with_margin("           012\n", &b), blanks(OUTPUT_B)),
+        (
+            with_margin("00000000000000\n", &dotted(LONE_LEAF)),
+            blanks(OUTPUT_LONE_LEAF),
+        ),
         // The table is all after byte 15; there is none in these.
         (Vec::new(), refused(1, 0)),
         (b"\n".to_vec(), refused(1, 0)),
@@ -416,7 +484,7 @@ fn known() -> Vec<(Vec<u8>, String)> {
         "            -0\n",
         "            -1\n",
         "            +1\n",
-        "            01\n",
+        "          0 12\n",
         "           1 2\n",
         "12            \n",
         "           12 \n",
@@ -429,7 +497,9 @@ fn known() -> Vec<(Vec<u8>, String)> {
         "40000000000001\n",
         "99999999999999\n",
         "-9999999999999\n",
-        "00000000000012\n",
+        "-0000000000000\n",
+        "-0000000000012\n",
+        "0000000000012 \n",
     ];
     for line in bad_margins {
         assert_eq!(line.len(), 15);

@@ -22,6 +22,7 @@ use compare::texts::knobs::Knobs;
 use compare::texts::largest;
 use compare::texts::matches::rounding::Loss;
 use compare::texts::matches::{self, file, whole, whole_of, Position, NO_SCALES};
+use compare::texts::padding::ways;
 
 /// The mark of a loss by scale 1 or 2, as document 02 has it.
 fn marked(scale: i64, loss: i64) -> Mark {
@@ -466,8 +467,8 @@ fn every_play_number() {
 #[test]
 fn every_play_line() {
     let mut tally = Tally::new("reports of every play number's line");
-    let numbers = (-999..=9_999).map(|play| format!("{play:>4}\n").into_bytes());
-    let well: HashSet<Vec<u8>> = numbers.collect();
+    let lines = (-999..=9_999).flat_map(|play| ways(play, 4));
+    let well: HashSet<Vec<u8>> = lines.map(|way| [&way[..], b"\n"].concat()).collect();
     let mut hold = |play: Vec<u8>| {
         let expected = match well.contains(&play) {
             true => Ok(vec![no_decision(Kind::Leaf)]),
@@ -540,7 +541,7 @@ type Fault = (u8, usize, fn(&mut Faulty));
 const FAULTS: [&[Fault]; 9] = [
     &[(15, 0, |file| file.before = MOST_POSITIONS)],
     &[
-        (16, 0, |file| file.position.play[2] = b'0'),
+        (16, 0, |file| file.position.play[1] = b'0'),
         (16, 0, |file| file.position.play[3] = b' '),
         (16, 0, |file| file.position.play[4] = b' '),
         (16, 0, |file| file.position.table.truncate(LINE - 1)),
@@ -550,13 +551,13 @@ const FAULTS: [&[Fault]; 9] = [
         (2, 0, |file| file.put(4, "    ")),
         (2, 0, |file| file.put(4, " 4  ")),
         (2, 0, |file| file.put(4, "00 4")),
-        (2, 0, |file| file.put(14, "00")),
+        (2, 0, |file| file.put(14, "-0")),
         (2, 0, |file| file.put(24, " ")),
     ],
     &[
         (3, 0, |file| file.put(4, "   0")),
         (3, 0, |file| file.put(4, "  65")),
-        (3, 0, |file| file.put(4, " 0 4")),
+        (3, 0, |file| file.put(4, " 100")),
         (3, 0, |file| file.put(4, " 4 4")),
         (3, 0, |file| file.put(4, "65 4")),
         (3, 0, |file| file.put(15, "9")),

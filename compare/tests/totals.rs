@@ -6,7 +6,9 @@
 //! The environment variable SEED sets the seed of the random tables, CASES their
 //! number.
 
+use std::collections::HashMap;
 use std::ops::RangeInclusive;
+use std::sync::LazyLock;
 
 use compare::engine::{self, Record};
 use compare::hold::budget::{self, turning_points, Asked, Known, NONE};
@@ -27,6 +29,7 @@ use compare::texts;
 use compare::texts::examples::*;
 use compare::texts::knobs::Knobs;
 use compare::texts::matches::{file, Position};
+use compare::texts::padding::ways;
 use compare::texts::small::{for_each_of, six_nodes};
 use compare::texts::totals::{
     too_grainy, too_grainy_and_wrong, with_weights, Grains, Plan, GRAINS,
@@ -228,21 +231,26 @@ fn windows_below_both_totals() {
 // The header
 // ---------------------------------------------------------------------------
 
-/// What columns 5-8 must come to, from the words of the request alone: nothing where they
-/// are ill-written; otherwise the first total and the second.
+/// What columns 5-8 must come to, from the words of the requests alone (Items 5 and 9):
+/// nothing where they are ill-written; otherwise the first total and the second.
 fn totals_in(columns: &[u8]) -> Option<(i64, Option<i64>)> {
-    let (second, first) = (written(&columns[..2])?, written(&columns[2..])?);
-    Some((first?, second))
+    let (left, right) = columns.split_at(2);
+    match left {
+        b"  " | b" 0" | b"00" => Some((written(columns)?, None)),
+        _ => Some((written(right)?, Some(written(left)?))),
+    }
 }
 
-/// A field of two columns: nothing where it is ill-written; a number or a blank.
-fn written(columns: &[u8]) -> Option<Option<i64>> {
-    if columns == b"  " {
-        return Some(None);
-    }
-    let all = -9..=99;
-    let mut numbers = all.filter(|number: &i64| format!("{number:>2}").as_bytes() == columns);
-    Some(Some(numbers.next()?))
+/// The number in a field of two or four columns; nothing where there is none.
+fn written(columns: &[u8]) -> Option<i64> {
+    static WRITTEN: LazyLock<HashMap<Vec<u8>, i64>> = LazyLock::new(|| {
+        let (two, four) = (-9..=99, -999..=9_999);
+        let two = two.flat_map(|number| ways(number, 2).into_iter().map(move |way| (way, number)));
+        let four =
+            four.flat_map(|number| ways(number, 4).into_iter().map(move |way| (way, number)));
+        two.chain(four).collect()
+    });
+    WRITTEN.get(columns).copied()
 }
 
 /// The refusal of the totals themselves, if they are refused.
