@@ -17,7 +17,8 @@ use compare::second::{self, Refusal, LINE};
 use compare::texts;
 use compare::texts::broken::broken;
 use compare::texts::examples::*;
-use compare::texts::largest;
+use compare::texts::knobs::Knobs;
+use compare::texts::{largest, padding};
 
 /// A text that is refused: what is wrong with it, and what must be printed.
 struct Bad {
@@ -112,14 +113,18 @@ const LINES_OF_B: &str = "\
 2 0 5-8 ...5...........0.......8 no T
 2 0 9-16 ...5...4...............8 no lowest end
 2 0 17-24 ...5...4.......0........ no highest end
-2 0 1-4 ..05...4.......0.......8 a leading zero in the count
+2 0 1-4 0.05...4.......0.......8 a blank after a zero in the count
 2 0 5-8 ...5..+4.......0.......8 a plus before T
 2 0 9-16 ...5...4......-0.......8 an end of -0
 2 0 17-24 ...5...4.......08....... an end left-justified
-2 0 1-4,9-16 ..05...4......00.......8 two leading zeros
-2 0 1-4,5-8,9-16,17-24 ..05..+4......-0......8. every field
-2 0 5-6 ...500.4.......0.......8 a second total of 00
-2 0 5-6 ...503.4.......0.......8 a leading zero in a second total
+2 0 1-4,9-16 -000...4......-0.......8 two that are minus zero
+2 0 1-4,5-8,9-16,17-24 0.05..+4......-0......8. every field
+2 0 5-8 ...500.4.......0.......8 zeros in columns 5-6, a blank before T
+2 0 5-8 ...5.0.4.......0.......8 a zero in column 6, a blank before T
+2 0 5-8 ...500.........0.......8 zeros left-justified
+2 0 5-8 ...500-4.......0.......8 zeros before a minus
+2 0 5-6 ...50.36.......0.......8 a zero in column 5, a blank after it
+2 0 5-6 ...5-004.......0.......8 minus zeros
 2 0 5-6 ...5+3.4.......0.......8 a plus before a second total
 2 0 5-6 ...5-0.4.......0.......8 a second total of -0
 2 0 5-6 ...53..4.......0.......8 a second total left-justified
@@ -127,21 +132,22 @@ const LINES_OF_B: &str = "\
 2 0 5-6 ...5.x.4.......0.......8 a letter for a second total
 2 0 7-8 ...536.........0.......8 T left-justified in columns 5-8
 2 0 7-8 ...5.3.........0.......8 a second total and no T
-2 0 7-8 ...5.100.......0.......8 three digits in columns 5-8
-2 0 7-8 ...51504.......0.......8 a leading zero in T beside a second total
+2 0 7-8 ...515-0.......0.......8 T -0 beside a second total
+2 0 7-8 ...5034........0.......8 T left-justified beside a padded one
 2 0 7-8 ...5154........0.......8 T left-justified beside a second total
-2 0 5-6,7-8 ...50004.......0.......8 four digits, the first three 0
+2 0 5-6,7-8 ...5-0-0.......0.......8 minus zero twice
 2 0 5-6 ...5.--4.......0.......8 a minus in column 6, -4 after it
-2 0 1-4,5-6,7-8,9-16,17-24 ..0503+4......-0......8. every field, and a second total
-2 0 9-16 ...5.0.4......00.......8 2 comes before 3 of a second total
+2 0 1-4,5-6,7-8,9-16,17-24 0.05+3+4......-0......8. every field, and a second total
+2 0 9-16 ...565.4......-0.......8 2 comes before 3 of a second total
 2 1 1-4 .....M.................. no number
-2 1 1-4 ..00.M.................. a leading zero in a number
+2 1 1-4 -000.M.................. minus zeros as a number
 2 3 6 ...2......0............. no kind
-2 3 7-11 ...2.C...01............. a leading zero in a parent
+2 3 7-11 ...2.C-0000............. minus zeros as a parent
 2 3 7-11 ...2.C.0................ a parent left-justified
 2 4 12-16 ...3.L....2...+3.......2 a plus before a weight
 2 4 12-16 ...3.L....2...3a.......2 a letter in a weight
-2 2 17-24 ...1.L....0...........05 a leading zero in a utility
+2 2 17-24 ...1.L....0.....000000.5 a blank after zeros in a utility
+2 2 17-24 ...1.L....0.....-0000000 a utility of minus zeros
 2 2 17-24 ...1.L....0...........-0 a utility of -0
 2 2 17-24 ...1.L....0...........+5 a plus before a utility
 2 2 17-24 ...1.L....0...........5. a blank after a utility
@@ -151,11 +157,13 @@ const LINES_OF_B: &str = "\
 2 2 5 ...1xL....0............5 column 5
 2 2 5,6 ...1x.....0............5 column 5 and the kind
 2 2 5,7-11 ...1xL...+0............5 column 5 and the parent
-2 2 1-4,17-24 ..01.L....0...........05 the number and the utility
-2 4 17-24 ...4.L....2....3......02 2 comes before 4
+2 2 1-4,17-24 0.01.L....0..........0.5 the number and the utility
+2 4 17-24 ...4.L....2....3......-0 2 comes before 4
 3 0 5-8 ...5...0.......0.......8 T 0
 3 0 5-8 ...5..65.......0.......8 T 65
 3 0 5-8 ...5..-4.......0.......8 T -4
+3 0 5-8 ...50000.......0.......8 T of zeros
+3 0 5-8 ...5.065.......0.......8 T 65 with a zero
 3 0 9-16 ...5...4-1000001.......8 the lowest end too low
 3 0 17-24 ...5...4.......0.1000001 the highest end too high
 3 0 9-16,17-24 ...5...4.......9.......8 the lowest end above the highest
@@ -163,11 +171,12 @@ const LINES_OF_B: &str = "\
 3 0 9-16,17-24 ...5...4.......0-1000001 an end too low and below the other
 3 0 5-8,9-16,17-24 ...5...0.......9.......8 T 0, and the lowest end above the highest
 3 0 5-8 ...6...0.......0.......8 3 comes before 4
-3 0 5-6 ...5.0.4.......0.......8 a second total of 0
+3 0 7-8 ...5.100.......0.......8 three digits in columns 5-8
 3 0 5-6 ...565.4.......0.......8 a second total of 65
 3 0 5-6 ...599.4.......0.......8 a second total of 99
 3 0 5-6 ...5-1.4.......0.......8 a second total below zero
 3 0 5-6 ...5.4.4.......0.......8 a second total that T is already
+3 0 5-6 ...50404.......0.......8 the same, with zeros
 3 0 5-6 ...56464.......0.......8 both the greatest
 3 0 7-8 ...515.0.......0.......8 T 0 beside a second total
 3 0 7-8 ...51565.......0.......8 T 65 beside a second total
@@ -180,6 +189,7 @@ const LINES_OF_B: &str = "\
 4 0 1-4 ...615.4.......0.......8 a node too many counted, with a second total
 3 4 12-16 ...3.L....2....5.......2 a weight above T
 3 4 12-16 ...3.L....2....0.......2 a weight of 0
+3 4 12-16 ...3.L....200000.......2 a weight of zeros
 3 4 12-16 ...3.L....2...-1.......2 a weight below zero
 3 2 17-24 ...1.L....0............9 a utility above the ends
 3 2 17-24 ...1.L....0...........-1 a utility below the ends
@@ -192,6 +202,7 @@ const LINES_OF_B: &str = "\
 5 2 6 ...1.l....0............5 a small letter
 5 3 6 ...2.X....1............. 5 comes before 6
 6 1 7-11 ...0.M....0............. a parent of the root
+6 1 7-11 ...0.M00000............. zeros as a parent of the root
 6 3 7-11 ...2.C.................. no parent
 6 3 7-11 ...2.C....1............. a leaf as parent
 6 3 7-11 ...2.C....2............. itself as parent
@@ -200,6 +211,8 @@ const LINES_OF_B: &str = "\
 7 4 12-16 ...3.L....2............2 no weight
 7 2 12-16 ...1.L....0....1.......5 a weight too many
 7 1 12-16 ...0.M.........1........ a weight of the root
+7 2 12-16 ...1.L....000000.......5 a weight of zeros too many
+7 3 17-24 ...2.C....0.....00000000 a utility of zeros too many
 7 2 17-24 ...1.L....0............. no utility
 7 3 17-24 ...2.C....0............5 a utility too many
 7 4 12-16,17-24 ...3.L....2............. neither
@@ -314,7 +327,13 @@ fn random_refused_texts() {
         let (text, refusal) = match case % 20 {
             number @ 0..10 => broken(1 + number as u8, random),
             10 => broken(18, random),
+            11..=13 => zeros_at_fault(random),
             _ => damaged(random),
+        };
+        // The same with zeros before its numbers (document 02, Item 9).
+        let text = match random.one_in(2) {
+            true => padding::padded(&text, random),
+            false => text,
         };
         assert_eq!(second::read(&text), Err(refusal));
         let form = random.pick(&FORMS);
@@ -325,6 +344,7 @@ fn random_refused_texts() {
         for (number, stretch) in [
             (2, (5, 6)),
             (2, (7, 8)),
+            (2, (5, 8)),
             (3, (5, 6)),
             (3, (7, 8)),
             (3, (5, 8)),
@@ -346,6 +366,18 @@ fn random_refused_texts() {
     for number in OF_TABLES.into_iter().chain(OF_GRAINS) {
         let count = tally.counts[number];
         assert!(count >= 50, "refusal {number} came only {count} times");
+    }
+}
+
+/// A table that is refused for zeros in it.
+fn zeros_at_fault(random: &mut Random) -> (Vec<u8>, Refusal) {
+    loop {
+        let mut text = texts::make(Knobs::any, random);
+        let (_, put) = random.pick(&padding::FAULTS);
+        put(&mut text, random);
+        if let Err(refusal) = second::read(&text) {
+            return (text, refusal);
+        }
     }
 }
 
@@ -465,13 +497,18 @@ fn causes_of_wrong_lengths() {
 const REASONS: &str = "\
 0 .......4.......0.......8 the count of nodes is blank
 0 ...5..+4.......0.......8 T has a plus
-0 ...5...4......-0.......8 the lowest end is -0
+0 ...5...4......-0.......8 the lowest end is minus zero
+0 ...5...4-0000000.......8 the lowest end is minus zero
 0 ...5...4.......08....... the highest end is not right-justified
 0 ...5...0.......0.......8 T is not 1 to 64
-0 ...500.4.......0.......8 the second total has a leading zero
+0 ...500.4.......0.......8 T has a blank within
+0 ...500.........0.......8 T is not right-justified
+0 ...5-004.......0.......8 the second total is minus zero
 0 ...53..4.......0.......8 the second total is not right-justified
-0 ...536.........0.......8 T (columns 7-8, as 5-6 are not blank) is blank
-0 ...5.100.......0.......8 T (columns 7-8, as 5-6 are not blank) has a leading zero
+0 ...536.........0.......8 T (columns 7-8, as 5-6 are neither blank nor 0) is blank
+0 ...5.100.......0.......8 T is not 1 to 64
+0 ...50000.......0.......8 T is not 1 to 64
+0 0006...4.......0.......8 it is 6, and there are 5
 0 ...565.4.......0.......8 the second total is not 1 to 64
 0 ...5.4.4.......0.......8 the second total is the same as T
 0 ...515.0.......0.......8 T is not 1 to 64
@@ -483,7 +520,9 @@ const REASONS: &str = "\
 0 ...5...4.......9.......8 the lowest end is above the highest
 0 ...6...4.......0.......8 it is 6, and there are 5
 1 ...0.M....0............. node 0 has none
-2 ...1.L....0...........05 the utility has a leading zero
+1 ...0.M00000............. node 0 has none
+2 ...1.L....0.....000000.5 the utility has a blank within
+2 ...1.L....0.....00-00005 the utility is no number
 2 ...1.L....0..........-.5 the utility has a blank after its minus
 2 ...1x.....0............5 column 5 is not blank, the kind is blank
 2 ...1.l....0............5 it is `l`
@@ -492,13 +531,19 @@ const REASONS: &str = "\
 2 ...1.L....0....1.......5 only the children of a C have a weight
 3 ...2.C.................. it is missing
 3 ...2.C....1............. node 1 is a leaf
+3 ...2.C00001............. node 1 is a leaf
 3 ...2.C....2............. node 2 does not come before this one
+3 ...2.C...02............. node 2 does not come before this one
 3 ...2.C...-1............. there is no node -1
+3 ...2.C-0001............. there is no node -1
 3 ...2.C....0............5 only a leaf has a utility
 4 ...3.L....2...3a.......2 the weight is no number
 4 ...3.L....2....5.......2 the weight is not 1 to 4
 4 ...3.L....2............2 a child of a C needs a weight
 4 ...4.L....2....3.......2 it is 4 and should be 3
+4 0004.L....2....3.......2 it is 4 and should be 3
+4 ...3.L....200005.......2 the weight is not 1 to 4
+4 ...3.L....200002.......2 they sum to 3, and T is 4
 4 ...3.L....2....2.......2 they sum to 3, and T is 4
 ";
 
@@ -514,7 +559,7 @@ fn reasons_in_words() {
         Said::new(table_b_with(line, columns), detail, "").hold(&["show"]);
         told += 1;
     }
-    assert_eq!(told, 37);
+    assert_eq!(told, 50);
 
     let two = two_totals_with;
     let weight = "the weight is not 1 to 4";

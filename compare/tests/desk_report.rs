@@ -24,6 +24,7 @@ use compare::texts::largest;
 use compare::texts::matches::chosen::chosen;
 use compare::texts::matches::rounding::Loss;
 use compare::texts::matches::{self, file, whole, whole_of, Position};
+use compare::texts::padding::padded_match;
 
 /// The position of this play in a table that is written with dots.
 fn position(play: i64, table: &str) -> Position {
@@ -384,6 +385,7 @@ fn random_files(random: &mut Random) -> Vec<Given> {
                 file(&positions.collect::<Vec<_>>())
             }
         };
+        let bytes = some_padded(bytes, random);
         if lacking && random.one_in(4) {
             Given::missing(&format!("no-such-{at}.txt"))
         } else if at != dash {
@@ -911,11 +913,13 @@ const PLAY_LINES: &str = "\
 1-4 $ an empty line
 1-4 ...$ three blanks
 1-4 ....$ no number
-1-4 ..02$ a leading zero
-1-4 0002$ leading zeros
-1-4 ..00$ two zeros
+1-4 .0.2$ a blank after a zero
+1-4 00.2$ a blank after zeros
+1-4 02..$ left-justified with a zero
 1-4 ..+2$ a plus
 1-4 ..-0$ minus zero
+1-4 -000$ minus zeros
+1-4 00-2$ zeros before a minus
 1-4 ...-$ a minus alone
 1-4 .-.2$ a blank after the minus
 1-4 .--2$ two minus
@@ -925,7 +929,7 @@ const PLAY_LINES: &str = "\
 1-4 ..2x$ a letter
 1-4,5 ....2$ a blank too many
 1-4,5 ..2..$ five columns, not right-justified
-1-4,5 00002$ five columns of zeros
+5 00002$ five columns with zeros
 5 ...2.$ a blank after column 4
 5 ...22$ a digit too many
 5 ...2.good.words$ words
@@ -944,7 +948,7 @@ const ENDS: &str = "\
 1-4 2$ a line of one column
 1-4 ...$ a line of three blanks
 1-4 $$ two empty lines
-1-4 ..02$ an ill-written number
+1-4 ..-0$ an ill-written number
 5 ...2x five columns
 1-4,5 xxxxx five columns that are no number
 ";
@@ -1086,14 +1090,18 @@ fn refused_tables() -> Vec<Bad> {
             bad(&text, number, line);
         }
     }
-    for count in ["...0", "..-1", "..-5", "-999", "1025", "9999"] {
+    for count in [
+        "...0", "0000", "..-1", "-001", "..-5", "-999", "1025", "9999",
+    ] {
         let header = format!("{count}...4.......0.......8");
         bad(&table_b_with(0, &header), 4, 0);
     }
     for (header, number) in [
         ("...500.4.......0.......8", 2),
-        ("...5.100.......0.......8", 2),
+        ("...50.36.......0.......8", 2),
         ("...536.........0.......8", 2),
+        ("...5.100.......0.......8", 3),
+        ("...50000.......0.......8", 3),
         ("...565.4.......0.......8", 3),
         ("...5.4.4.......0.......8", 3),
         ("...515.0.......0.......8", 3),
@@ -1179,10 +1187,19 @@ fn random_refused_matches() {
     }
 }
 
+/// The file, or in one of three cases the same with zeros before its numbers (document 02,
+/// Item 9).
+fn some_padded(bytes: Vec<u8>, random: &mut Random) -> Vec<u8> {
+    match random.one_in(3) {
+        true => padded_match(&bytes, random),
+        false => bytes,
+    }
+}
+
 /// A damaged match that is refused.
 fn damaged(random: &mut Random) -> Vec<u8> {
     loop {
-        let bytes = matches::case(random);
+        let bytes = some_padded(matches::case(random), random);
         if second::report(&bytes, USUAL_SCALE, usize::MAX).is_err() {
             return bytes;
         }
@@ -1209,7 +1226,8 @@ fn reasons_as_of_the_table_alone() {
     };
     let mut tally = Tally::new("desk on reasons in a match");
     let more = [
-        (table_b_with(0, "...5.100.......0.......8"), 2, 0),
+        (table_b_with(0, "...50.36.......0.......8"), 2, 0),
+        (table_b_with(0, "...5.100.......0.......8"), 3, 0),
         (table_b_with(0, "...5.4.4.......0.......8"), 3, 0),
         (table_b_with(0, "...51536.......0.......8"), 9, 3),
         (too_many_grains(), 18, 0),
@@ -1224,10 +1242,19 @@ fn reasons_as_of_the_table_alone() {
         assert_eq!(row_of(&ran, "reason"), row_of(&alone, "reason"));
         tally.add(&[u64::from(number)]);
     }
-    for play in ["0", "3", "-1", "9999"] {
+    // A padded number is told as the number that it is.
+    for (play, written) in [
+        ("0", "0"),
+        ("0", "0000"),
+        ("3", "3"),
+        ("3", "003"),
+        ("-1", "-1"),
+        ("-1", "-001"),
+        ("9999", "9999"),
+    ] {
         let text = dotted(TABLE_B);
         let alone = run(&["judge", "--tsv", "--", play], &text);
-        let ran = in_match(play, &text);
+        let ran = in_match(written, &text);
         assert_eq!(row_of(&ran, "refused"), "14");
         assert_eq!(row_of(&ran, "reason"), row_of(&alone, "reason"));
         tally.add(&[14]);

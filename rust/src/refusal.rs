@@ -48,11 +48,11 @@ impl Refusal {
             2 => match self.line {
                 0 => (
                     "the header is ill-written",
-                    "right-justify each number, with blanks alone before it: columns 1-4, 5-8 (with a second total 5-6 and 7-8), 9-16, 17-24, then a newline",
+                    "right-justify each number, with nothing but blanks and then zeros before it, a minus before the zeros: columns 1-4, 5-8 (with a second total 5-6 and 7-8), 9-16, 17-24, then a newline",
                 ),
                 _ => (
                     "the line is ill-written",
-                    "right-justify each number, with blanks alone before it; column 5 is blank, 6 the kind, 25 the newline",
+                    "right-justify each number, with nothing but blanks and then zeros before it, a minus before the zeros; column 5 is blank, 6 the kind, 25 the newline",
                 ),
             },
             3 => (

@@ -108,7 +108,8 @@ impl Table {
     }
 }
 
-/// Reads a table. Refuses 1 to 10 and 18.
+/// Reads a table. A number may have zeros before it, after a minus if it is below 0; the
+/// table is the same as with blanks. Refuses 1 to 10 and 18.
 ///
 /// ```
 /// use margin_engine::{Kind, read};
@@ -130,6 +131,11 @@ impl Table {
 /// assert_eq!((table.total, table.second), (36, Some(15)));
 /// assert_eq!((table.chances, table.per_point), (2, 36 * 15));
 /// assert_eq!((table.sum(0), table.children(0).count()), (15, 15));
+///
+/// // Blanks or zeros before the numbers.
+/// let blanks = std::fs::read("../examples/bar.txt")?;
+/// let zeros = std::fs::read("../examples/bar-zeros.txt")?;
+/// assert_eq!(read(&zeros)?, read(&blanks)?);
 /// # Ok::<(), Box<dyn std::error::Error>>(())
 /// ```
 pub fn read(text: &[u8]) -> Result<Table, Refusal> {

@@ -24,9 +24,9 @@ const fn field(first: usize, last: usize, name: &'static str) -> Field {
 
 const COUNT: Field = field(1, 4, "the count of nodes");
 const TOTAL: Field = field(5, 8, "T");
-/// Where these columns are not blank, T has those after them.
+/// Where these columns are neither blank nor 0, T has those after them.
 const SECOND: Field = field(5, 6, "the second total");
-const TOTAL_AFTER: Field = field(7, 8, "T (columns 7-8, as 5-6 are not blank)");
+const TOTAL_AFTER: Field = field(7, 8, "T (columns 7-8, as 5-6 are neither blank nor 0)");
 const LOWEST: Field = field(9, 16, "the lowest end");
 const HIGHEST: Field = field(17, 24, "the highest end");
 
@@ -265,7 +265,7 @@ fn header_faults(header: &[u8; LINE], number: u8, lines: &[[u8; LINE]]) -> Fault
         }
         3 => header_range(header),
         _ => {
-            let (count, nodes) = (shown(header, COUNT), lines.len() - 1);
+            let (count, nodes) = (value(header, COUNT), lines.len() - 1);
             vec![(COUNT, format!("it is {count}, and there are {nodes}"))]
         }
     }
@@ -279,12 +279,12 @@ struct Totals {
 
 impl Totals {
     fn of(header: &[u8; LINE]) -> Totals {
-        match blank(header, SECOND) {
-            true => Totals {
+        match columns(header, SECOND) {
+            b"  " | b" 0" | b"00" => Totals {
                 total: TOTAL,
                 second: None,
             },
-            false => Totals {
+            _ => Totals {
                 total: TOTAL_AFTER,
                 second: Some(SECOND),
             },
@@ -313,14 +313,16 @@ fn number_fault(columns: &[u8]) -> Option<String> {
     }
     let start = columns.iter().position(|byte| *byte != b' ');
     let written = &columns[start.unwrap_or(columns.len())..];
-    let digits = written.strip_prefix(b"-").unwrap_or(written);
+    let minus = written.starts_with(b"-");
+    let digits = &written[usize::from(minus)..];
+    let all = |is_one: fn(&u8) -> bool| !digits.is_empty() && digits.iter().all(is_one);
     let fault = match digits {
         [.., b' '] => "is not right-justified",
         [b'+', ..] => "has a plus",
         [b' ', ..] => "has a blank after its minus",
-        [b'0'] if written.len() > 1 => "is -0",
-        [b'0', _, ..] => "has a leading zero",
-        [_, ..] if digits.iter().all(u8::is_ascii_digit) => return None,
+        _ if minus && all(|byte| *byte == b'0') => "is minus zero",
+        _ if all(u8::is_ascii_digit) => return None,
+        _ if all(|byte| *byte == b' ' || byte.is_ascii_digit()) => "has a blank within",
         _ => "is no number",
     };
     Some(fault.to_string())
@@ -392,10 +394,10 @@ impl<'a> Nodes<'a> {
             2 => self.ill_written(line),
             3 => self.range(line),
             4 => {
-                let number = shown(line, NUMBER);
+                let number = value(line, NUMBER);
                 vec![(NUMBER, format!("it is {number} and should be {node}"))]
             }
-            5 => vec![(KIND, format!("it is `{}`", shown(line, KIND)))],
+            5 => vec![(KIND, format!("it is `{}`", printable(columns(line, KIND))))],
             6 => vec![(PARENT, self.parent_fault(node))],
             7 => self.missing(node),
             8 => vec![(KIND, String::new())],
@@ -450,8 +452,8 @@ impl<'a> Nodes<'a> {
         if blank(line, PARENT) {
             return "it is missing".to_string();
         }
-        let parent = shown(line, PARENT);
-        match usize::try_from(value(line, PARENT)) {
+        let parent = value(line, PARENT);
+        match usize::try_from(parent) {
             Ok(above) if above >= node => format!("node {parent} does not come before this one"),
             Ok(above) if self.kind(above) == b'L' => format!("node {parent} is a leaf"),
             Ok(_) => format!("other nodes than those under node {parent} stand between"),
@@ -529,14 +531,14 @@ fn blank(line: &[u8; LINE], field: Field) -> bool {
     columns(line, field).iter().all(|byte| *byte == b' ')
 }
 
-/// What stands in a field, without the blanks around it.
-fn shown(line: &[u8; LINE], field: Field) -> String {
-    printable(columns(line, field)).trim().to_string()
-}
-
 /// The number in a field that is well-written.
 fn value(line: &[u8; LINE], field: Field) -> i64 {
-    shown(line, field).parse().unwrap_or_default()
+    number(columns(line, field))
+}
+
+/// The number in columns that are well-written, whatever blanks and zeros stand before it.
+fn number(columns: &[u8]) -> i64 {
+    printable(columns).trim().parse().unwrap_or_default()
 }
 
 /// Bytes as a terminal can show them: what it might obey, or cannot show, as `?`.

@@ -2,9 +2,7 @@
 
 use margin_engine::{LINE, PLAY_LINE, Refusal, places, read};
 
-use super::{
-    COUNT, Faults, Field, Line, SHOWN, Spot, field, number_fault, printable, said, shown, value,
-};
+use super::{COUNT, Faults, Field, Line, SHOWN, Spot, field, number, number_fault, said, value};
 use crate::verbs::judge;
 
 const PLAY: Field = field(1, 4, "the play number");
@@ -34,7 +32,7 @@ fn within(position: &[u8], after: &[u8], refusal: &Refusal) -> Spot {
     match (refusal.number, refusal.line) {
         (2, line) => newline_within(spot, line),
         (4, 0) => Spot {
-            detail: format!("it is {}", shown(&header(table), COUNT)),
+            detail: format!("it is {}", value(&header(table), COUNT)),
             ..spot
         },
         (8 | 9, _) if is_node_line(after) => Spot {
@@ -70,9 +68,9 @@ fn newline_within(spot: Spot, number: usize) -> Spot {
 }
 
 fn no_such_child(play: &[u8], table: &[u8]) -> Spot {
-    let played = printable(&play[..PLAY.last]);
+    let played = number(&play[..PLAY.last]).to_string();
     let table = read(table).ok();
-    let given = table.map(|table| judge::given(played.trim(), &table));
+    let given = table.map(|table| judge::given(&played, &table));
     Spot {
         detail: given.unwrap_or_default(),
         ..Spot::default()

@@ -14,7 +14,8 @@ pub const VERB: Verb = Verb {
     does: "prints the table from the other side",
     more: &["\
 M and N change places, utilities get the other sign, and the two ends are negated
-and exchanged. All else is kept, both totals too.
+and exchanged. All else is kept, both totals too. Numbers are written with blanks
+before them, whatever zeros stood there.
 "],
     ask: |words| words.about_table(Asked),
 };
