@@ -1,6 +1,6 @@
 /* Calls every function of the header on document 01's tables A and B, on a forced play, on level plays, on plays that tie in the search, on a
- * match and on a first roll, whose table has two totals, and says where an answer is not as it should be: calls B A FORCED LEVEL TIES MATCH
- * ROLL, the files of all seven. What it expects is printed in document 01, or read off the tables. */
+ * match, on a first roll, whose table has two totals, and on B with zeros before its numbers, and says where an answer is not as it should be:
+ * calls B A FORCED LEVEL TIES MATCH ROLL, the files of the first seven. What it expects is printed in document 01, or read off the tables. */
 #include <stdio.h>
 #include <string.h>
 
@@ -196,6 +196,32 @@ static void turning(void) {
     }
 }
 
+/* Table B with zeros before its numbers. */
+static char zeros[] = "000500040000000000000008\n"
+                      "0000 M                  \n"
+                      "0001 L00000     00000005\n"
+                      "0002 C00000             \n"
+                      "0003 L000020000300000002\n"
+                      "0004 L000020000100000008\n";
+
+/* It has B's worth, and turned twice it is B with blanks; a lowest end of -0000000 is refused. */
+static void padding(void) {
+    static uint8_t turned[MARGIN_MOST_BYTES], twice[MARGIN_MOST_BYTES];
+    const size_t length = sizeof zeros - 1;
+    int64_t numbers[3];
+    memset(numbers, 0xff, sizeof numbers);
+    returned("margin_worth of zeros", margin_worth((const uint8_t *)zeros, length, numbers, 3), 0);
+    SAME(2, numbers, 20, 4);
+    returned("margin_turn of zeros", margin_turn((const uint8_t *)zeros, length, turned, sizeof turned), 0);
+    returned("margin_turn of these turned", margin_turn(turned, length, twice, sizeof twice), 0);
+    if (length != b_len || memcmp(b, twice, b_len) != 0) {
+        printf("calls.c: B with zeros, turned twice, is not B\n");
+        bad = 1;
+    }
+    zeros[8] = '-';
+    returned("margin_worth of minus zeros", margin_worth((const uint8_t *)zeros, length, numbers, 3), 2);
+}
+
 static void rollouts(void) {
     int64_t numbers[3];
     uint16_t leaves[5];
@@ -266,6 +292,7 @@ int main(int argc, char **argv) {
     ties_broken();
     indexing();
     turning();
+    padding();
     rollouts();
     report();
     return bad;

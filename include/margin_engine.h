@@ -19,6 +19,9 @@
  * `numbers` gets as many of an answer's numbers as it has room for. Entries past the answer keep what they held, in every area.
  *
  * Worths, bounds, margins and losses are whole numbers of grains, G of them to a point; in a report losses are thousandths of a point.
+ *
+ * A number in a text ends in the last of its columns. Before its digits may stand zeros, before these a minus if it is below 0, and before
+ * that blanks alone; a minus before zeros alone is refused. Every call answers the same whatever zeros and blanks stand there.
  */
 #ifndef MARGIN_ENGINE_H
 #define MARGIN_ENGINE_H
@@ -46,7 +49,7 @@ extern "C" {
  * Reads a table. Refuses 1 to 10 and 18.
  *
  * numbers (8): the number of nodes, T, the lowest end, the highest end, K (the most C on a path), G, the number of leaves, the second
- * total (0 for none). The weights under a C sum to T or to the second total; G is T to the power K, or with a second total each of the
+ * total (0 for none, where columns 5-6 of the header hold blanks or zeros alone). The weights under a C sum to T or to the second total; G is T to the power K, or with a second total each of the
  * two to the power of the most C of it on a path, multiplied.
  * The other four get an entry for each node, by node number, as far as each has room:
  * kind: 0 for L, 1 for M, 2 for N, 3 for C.
@@ -134,7 +137,8 @@ uint64_t margin_search_indexed(const uint8_t *text, size_t text_len, int64_t mar
 /*
  * The turned table; both totals are kept. Refuses 1 to 10 and 18, and 11 where `buffer` is shorter than the text.
  *
- * buffer: the turned text, text_len bytes.
+ * buffer: the turned text, text_len bytes. Its numbers have blanks alone before them, so that turning twice gives the text of the same table
+ * with blanks for zeros.
  */
 uint64_t margin_turn(const uint8_t *text, size_t text_len, uint8_t *buffer, size_t buffer_len);
 

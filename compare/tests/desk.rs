@@ -21,6 +21,7 @@ use compare::second::{self, root_children, Refusal, Table, GREATEST_BUDGET};
 use compare::texts;
 use compare::texts::examples::*;
 use compare::texts::knobs::{Kinds, Knobs};
+use compare::texts::padding::{self, blanked, filled};
 
 const EXAMPLES: [&str; 11] = [
     "a",
@@ -86,6 +87,39 @@ fn every_verb_on_the_examples() {
     comparison.demand(500);
     let rollouts = EXAMPLES.map(|name| second::read(&example(name).1).expect("accepted").chances);
     assert!(rollouts.contains(&0), "no example was rolled out");
+}
+
+/// The example that a spreadsheet padded with zeros (document 02, Item 9): every verb
+/// prints of it what it prints of the one with blanks, `turn` too.
+#[test]
+fn the_example_of_zeros() {
+    let mut comparison = Comparison::new("desk on the example of zeros");
+    let (file, text) = example("bar-zeros");
+    let (blank_file, blank) = example("bar");
+    assert!(text.starts_with(b"00670036-000300000003000\n0000 M"));
+    assert_eq!(escaped(&filled(&blank)), escaped(&text));
+    assert_eq!(escaped(&blanked(&text)), escaped(&blank));
+    let mut questions = vec![Show, Worth, Index, Turn, Judge(1), Judge(2), Judge(4)];
+    for margin in MARGINS {
+        questions.push(Search(margin.to_string()));
+        questions.push(SearchIndexed(margin.to_string()));
+        questions.push(ShowTo(margin.to_string()));
+        questions.push(within(margin, "40"));
+    }
+    // A C is refused, and a number that no child has.
+    questions.extend([Rollout(Vec::new()), Judge(77)]);
+    for question in &questions {
+        for form in FORMS {
+            let answer = comparison.hold(question, &text, form, Way::File(&file));
+            let same = comparison.hold(question, &blank, form, Way::File(&blank_file));
+            assert_eq!(answer, same, "{question:?}");
+        }
+    }
+    comparison.demand(4 * questions.len() as u64);
+
+    let ran = ask(words(&["turn"]), &text, Form::People, Way::File(&file), 0);
+    let twice = run(&["turn"], ran.out.as_bytes());
+    assert_eq!(twice.out.as_bytes(), blank, "turned twice");
 }
 
 /// Each verb with the table from a file, from standard input and as `-`.
@@ -409,7 +443,8 @@ fn random_question(table: &Table, random: &mut Random) -> Question {
     }
 }
 
-/// Tables of every sort, by turns.
+/// Tables of every sort, by turns; some with zeros before their numbers (document 02, Item
+/// 9).
 fn random_text(number: u64, random: &mut Random) -> Vec<u8> {
     let knobs = match number % 12 {
         0 => Knobs::close(random),
@@ -431,7 +466,11 @@ fn random_text(number: u64, random: &mut Random) -> Vec<u8> {
         },
         _ => Knobs::any(random),
     };
-    knobs.text(random)
+    let text = knobs.text(random);
+    match random.one_in(3) {
+        true => padding::padded(&text, random),
+        false => text,
+    }
 }
 
 /// Tables of every sort, a question each. It also fails where the tables or the
@@ -462,6 +501,9 @@ fn random_tables() {
             }
             let sort = format!("{} of two totals, both used", verb[0]);
             seen.count(&sort, is_one && both_used);
+            let zeros = !padding::padded_fields(&text).is_empty();
+            let sort = format!("{} of a padded table", verb[0]);
+            seen.count(&sort, is_one && zeros);
         }
         let refused = answer.as_ref().err().map(|refusal| refusal.number);
         seen.count("an answer", answer.is_ok());

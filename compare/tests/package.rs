@@ -21,7 +21,7 @@ use compare::texts::examples::{dotted, escaped, table_b_with, TABLE_A, TABLE_B};
 use compare::texts::knobs::Knobs;
 use compare::texts::matches::chosen::chosen;
 use compare::texts::matches::NO_SCALES;
-use compare::texts::{self, matches};
+use compare::texts::{self, matches, padding};
 use margin_engine::{self as package, Index};
 
 /// What both say of one question: an answer, or the refusal's number, line and
@@ -299,6 +299,11 @@ fn typed_calls() {
             1 => texts::make(Knobs::dice, &mut random),
             _ => texts::case(&mut random).text,
         };
+        // Some have zeros before their numbers (document 02, Item 9).
+        let text = match random.one_in(3) {
+            true => padding::padded(&text, &mut random),
+            false => text,
+        };
         let table = second::read(&text).ok();
         let children = table.as_ref().map_or(0, root_children) as i64;
         let span = table.as_ref().map_or(0, span);
@@ -353,6 +358,8 @@ fn typed_calls() {
             seen.count_table(table);
             seen.count_chances(table);
             seen.count("a second total", table.second.is_some());
+            let zeros = !padding::padded_fields(&text).is_empty();
+            seen.count("zeros before numbers", zeros);
             if second::judge(table, number) == Ok(second::Judgement::NoDecision) {
                 seen.count_forced(table, &[number]);
             }
@@ -472,6 +479,10 @@ fn typed_report() {
             }
             _ => matches::case(&mut random),
         };
+        let file = match random.one_in(3) {
+            true => padding::padded_match(&file, &mut random),
+            false => file,
+        };
         let scale = matches::scale(&mut random);
         let expected = second_report(&file, scale);
         let said = package_report(&file, scale);
@@ -490,10 +501,12 @@ fn typed_report() {
     assert!(tally.counts[0] >= 1_000, "too few reports");
 }
 
-/// Counts the reports where a root M or N is listed as "no decision", and those with
-/// each mark by each scale.
+/// Counts the reports that begin with a padded play number, those where a root M or N is
+/// listed as "no decision", and those with each mark by each scale.
 fn count_listed(seen: &mut Seen, file: &[u8], scale: i64) {
     let report = second::report(file, scale, usize::MAX);
+    let padded = padding::is_padded_line(file.get(..PLAY_LINE).unwrap_or_default());
+    seen.count("a padded play number", padded && report.is_ok());
     let entries = report.map_or(vec![], |report| report.entries);
     for root in SIDES {
         let forced = Entry {
