@@ -691,6 +691,18 @@ const MIXED_TURNED: &str = "\
 ...3.L....0....1.......1
 ";
 
+/// A lone leaf of 0 between ends of 0, padded; and the same with blanks, which turning leaves
+/// as it is.
+const LONE_ZERO: &str = "\
+000100010000000000000000
+0000.L..........00000000
+";
+
+const LONE_ZERO_BLANK: &str = "\
+...1...1.......0.......0
+...0.L.................0
+";
+
 /// Whole tables: table B with every number padded has table B's answers; turning writes
 /// blanks, and turning twice gives the text with blanks.
 #[test]
@@ -714,6 +726,12 @@ fn tables_by_hand() {
         assert_eq!(escaped(&buffer), escaped(&turned));
     }
     turning::hold_to(&tally, &turned, turned.len(), &Ok(&blank));
+
+    let [zeros, blank] = [LONE_ZERO, LONE_ZERO_BLANK].map(dotted);
+    for text in [&zeros, &blank] {
+        hold_read(&tally, text, 0, &[1, 1, 0, 0, 0, 1, 1, 0]);
+        turning::hold_to(&tally, text, text.len(), &Ok(&blank));
+    }
 }
 
 /// Play numbers before table B, and what is reported: the thousandths lost, or the refusal.
