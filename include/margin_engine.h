@@ -49,8 +49,8 @@ extern "C" {
  * Reads a table. Refuses 1 to 10 and 18.
  *
  * numbers (8): the number of nodes, T, the lowest end, the highest end, K (the most C on a path), G, the number of leaves, the second
- * total (0 for none, where columns 5-6 of the header hold blanks or zeros alone). The weights under a C sum to T or to the second total; G is T to the power K, or with a second total each of the
- * two to the power of the most C of it on a path, multiplied.
+ * total (0 for none: columns 5-6 of the header hold blanks or zeros alone). The weights under a C sum to T or to the second total; G is T
+ * to the power K, or with a second total each of the two to the power of the most C of it on a path, multiplied.
  * The other four get an entry for each node, by node number, as far as each has room:
  * kind: 0 for L, 1 for M, 2 for N, 3 for C.
  * stop: one past the last node under the node.
