@@ -6,7 +6,7 @@ use mathlib.Core.List.{List, [], _∷_, _++_, append-assoc, append-nil}
 use native.Mathlib.Omega.{arith}
 use borrow.Author.Tests.{eqb-true, eqb-false, ltb-false, ne-eqb}
 use lib.Dec.{eqb, ltb}
-use lib.ListN.{length, take, drop, replicate, length-append, length-replicate, length-take, length-drop}
+use lib.ListN.{length, take, drop, replicate, length-replicate, length-take, length-drop}
 use lib.Seq.{length-take-le}
 use lib.IntN.{ℤ, pos, negsuc, negℤ, natAbs}
 use Rattle.field.specs.Field.{strip, digits, whole, plain, minus, signed, fieldOf, digit, leading, decimal}
@@ -14,7 +14,7 @@ use Rattle.field.specs.Padding.{signOf, Pads}
 use Rattle.field.specs.declared.Whole.{Whole}
 use Rattle.field.specs.declared.Whole.the-variants.{Digits, Wrong}
 use Rattle.field.specs.declared.Field.the-variants.{Blank, Ill, Number}
-use Rattle.field.proofs.Small.{more-digits, wider, small}
+use Rattle.field.proofs.Small.{more-digits, wider, strip-shorter, small}
 use Rattle.field.proofs.Writing.{leading-all}
 
 -- ---- digits
@@ -177,12 +177,6 @@ stripped (b ∷ t) = go (stripped t) (eqb b 32) refl
     go : Stripped t → (c : Bool) → eqb b 32 ≡ c → Stripped (b ∷ t)
     go r true x = record { blanks = suc (r .blanks); is = rw x (ap₂ _∷_ (eqb-true b 32 x) (r .is)) }
     go r false x = record { blanks = 0; is = rw x refl }
-
-strip-shorter : (t : List ℕ) → length (strip t) ≤ length t
-strip-shorter t =
-    let r = stripped t in
-    let l : length t ≡ r .blanks + length (strip t) = ap length (r .is) ∙ simp (length-append, length-replicate) in
-    omega arith
 
 all-blank : (t : List ℕ) → strip t ≡ [] → t ≡ replicate (length t) 32
 all-blank t e =

@@ -79,7 +79,7 @@ signed-near k (b ∷ s) h =
     (λ _. minus-near k (whole s) (whole-few k s (omega arith)))
     (λ _. plain-near k (whole (b ∷ s)) (whole-few k (b ∷ s) h))
 
-strip-shorter : (t : List ℕ) → length (strip t) ≤ length t
+pub strip-shorter : (t : List ℕ) → length (strip t) ≤ length t
 unfolding strip
 strip-shorter [] = omega arith
 strip-shorter (b ∷ s) =

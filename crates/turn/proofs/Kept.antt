@@ -19,12 +19,11 @@ use Rattle.line.specs.Inside.{Ranged}
 use Rattle.table.specs.Tree.{childless, unbalanced}
 use Rattle.table.specs.Table.{Table, badLength, nodeLines, tree, grain, complete, count, readText}
 use Rattle.table.proofs.Accepted.{Checked, checked, accepted-ranged, accepted-size}
-use Rattle.table.proofs.Known.{read-length}
 use Rattle.turn.specs.Text.{headerText, lineText, linesText, tableText}
 use Rattle.turn.specs.Inside.{Fits, Roomy}
 use Rattle.turn.proofs.Lines.{fits-natural, fits-signed, text-entry, HeadRoomy, text-heading}
 use Rattle.turn.proofs.Said.{entryFor, headingFor, head-text, line-text, isNone, Short, Said}
-use Rattle.turn.proofs.Padding.{first}
+use Rattle.turn.proofs.Padding.{first, counted}
 use Rattle.turn.proofs.Checks.{header-passes}
 
 -- ---- room in the columns
@@ -143,9 +142,6 @@ module _ (s : List ℕ) (t u : Table) (h : readText s ≡ fine t) (K : Kept t u)
   abbrev n : ℕ
   n = length (t .lines)
 
-  counted : n ≡ count s
-  counted = read-length t (count s) (drop 25 s) (checked s t h .lines)
-
   -- the header
   abbrev top : List ℕ
   top = headerText (u .head) n
@@ -161,7 +157,7 @@ module _ (s : List ℕ) (t u : Table) (h : readText s ≡ fine t) (K : Kept t u)
   lines-again =
       lines-kept (t .head) (u .head) (K .on) (accepted-ranged s t h) n 0 [] (drop 25 s) (t .lines)
       (omega (arith, accepted-size s t h .2, length-drop 25 s)) refl
-      (subst (λ (m : ℕ). nodeLines (t .head) m 0 [] (drop 25 s) ≡ fine (t .lines)) (sym counted) (checked s t h .lines)) (u .lines) (K .lines)
+      (subst (λ (m : ℕ). nodeLines (t .head) m 0 [] (drop 25 s) ≡ fine (t .lines)) (sym (counted s t h)) (checked s t h .lines)) (u .lines) (K .lines)
 
   text-is : tableText u ≡ top ++ linesText (u .lines)
   text-is = ap (λ (m : ℕ). headerText (u .head) m ++ linesText (u .lines)) (standing-long (t .head) (u .head) (K .on) (K .lines))
@@ -173,7 +169,7 @@ module _ (s : List ℕ) (t u : Table) (h : readText s ≡ fine t) (K : Kept t u)
       ∙ omega (arith, top-again .2, lines-again .long, accepted-size s t h .2)
 
   kept-counted : count (tableText u) ≡ n
-  kept-counted = ap (λ (m : ℕ). m / 25 - 1) kept-length ∙ sym counted
+  kept-counted = ap (λ (m : ℕ). m / 25 - 1) kept-length ∙ sym (counted s t h)
 
   kept-top : take 25 (tableText u) ≡ top
   kept-top = ap (take 25) text-is ∙ take-at top (linesText (u .lines)) 25 (top-again .2)

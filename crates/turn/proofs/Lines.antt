@@ -8,12 +8,12 @@ use lib.Dec.{lit<, lit≤}
 use lib.ListN.{length, getD, set, take, drop, replicate, length-append, length-replicate}
 use lib.Seq.{sets, take-at, drop-at, drop-drop, getD-drop}
 use lib.IntN.{ℤ, pos, natAbs}
-use Rattle.field.specs.Field.{strip, signed, fieldOf}
+use Rattle.field.specs.Field.{strip, signed, fieldOf, textOf}
 use Rattle.field.specs.declared.Field.{Field}
 use Rattle.field.specs.declared.Field.the-variants.{Blank, Ill, Number}
 use Rattle.field.proofs.RoundTrip.{columns-read, blanks-read}
 use Rattle.field.proofs.Small.{wider}
-use Rattle.field.proofs.Stores.{byte-stored}
+use Rattle.field.proofs.Stores.{byte-stored, justified-long}
 use Rattle.field.proofs.Width.{few-plain, few-columns}
 use Rattle.line.specs.declared.Heading.{Heading}
 use Rattle.line.specs.declared.Entry.{Entry}
@@ -33,7 +33,7 @@ fits-signed z h = (few-columns z 7 (lit< tt) h, wider (natAbs z) 7 15 h (lit≤ 
 pub shown-long : (width : ℕ) (f : Field) → Fits width f → length (shown width f) ≡ width
 shown-long width Blank h = length-replicate width 32
 shown-long width Ill h = absurd h
-shown-long width (Number z) h = simp (length-append, length-replicate) (omega (arith, h .0))
+shown-long width (Number z) h = justified-long width (textOf z) (h .0)
 
 shown-read : (width : ℕ) (f : Field) → Fits width f → signed (strip (shown width f)) ≡ f
 shown-read width Blank h = blanks-read width

@@ -146,10 +146,10 @@ module _ (h : Head) (n : ℕ) (r : Ranged h) where
 -- ---- the texts
 
 module _ (s : List ℕ) (t : Table) (h : readText s ≡ fine t) where
-  counted : length (t .lines) ≡ count s
+  pub counted : length (t .lines) ≡ count s
   counted = read-length t (count s) (drop 25 s) (checked s t h .lines)
 
-  pub text-long : length s ≡ 25 * count s + 25
+  text-long : length s ≡ 25 * count s + 25
   text-long = let n : ℕ = count s in omega (arith, accepted-size s t h .2, counted)
 
   heading : HeadSaid (count s) (take 25 s) (t .head)

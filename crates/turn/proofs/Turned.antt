@@ -16,15 +16,14 @@ use Rattle.line.specs.declared.Line.{Line}
 use Rattle.line.specs.Refusal.{fine}
 use Rattle.line.specs.Line.{Step, entryOf}
 use Rattle.line.specs.Inside.{Ranged}
-use Rattle.table.specs.Table.{Table, nodeLines, count, readText}
+use Rattle.table.specs.Table.{Table, nodeLines, readText}
 use Rattle.table.specs.Slices.{laid}
-use Rattle.table.proofs.Known.{read-length}
 use Rattle.table.proofs.Accepted.{checked, accepted-ranged, accepted-size}
 use Rattle.turn.specs.Text.{letterOf, headerText, lineText, linesText}
 use Rattle.turn.specs.Turn.{turnCode, turnLine, turnHead, turnedText}
 use Rattle.turn.specs.Inside.{entryText, Roomy, turnLetter, negated, turnEntry, turnedRows, RowsRoomy}
 use Rattle.turn.proofs.Said.{entryFor, line-text, isNone, Short, Said}
-use Rattle.turn.proofs.Padding.{first}
+use Rattle.turn.proofs.Padding.{first, counted}
 use Rattle.turn.proofs.Tree.{code-leaf}
 use Rattle.turn.proofs.Kept.{line-roomy}
 use Rattle.turn.proofs.Accepted.{turned-length}
@@ -79,9 +78,6 @@ rows-turned h r (suc n) i P s ls long root e =
 -- ---- the text
 
 module _ (s : List ℕ) (t : Table) (e : readText s ≡ fine t) where
-  counted : length (t .lines) ≡ count s
-  counted = read-length t (count s) (drop 25 s) (checked s t e .lines)
-
   abbrev n : ℕ
   n = length (t .lines)
 
@@ -91,7 +87,7 @@ module _ (s : List ℕ) (t : Table) (e : readText s ≡ fine t) where
   rows : (turnedRows n (drop 25 s) ≡ linesText (map turnLine (t .lines))) × RowsRoomy n (drop 25 s)
   rows =
       rows-turned (t .head) (accepted-ranged s t e) n 0 [] (drop 25 s) (t .lines) (omega (arith, text-size, length-drop 25 s)) refl
-      (subst (λ (m : ℕ). nodeLines (t .head) m 0 [] (drop 25 s) ≡ fine (t .lines)) (sym counted) (checked s t e .lines))
+      (subst (λ (m : ℕ). nodeLines (t .head) m 0 [] (drop 25 s) ≡ fine (t .lines)) (sym (counted s t e)) (checked s t e .lines))
 
   pub rows-roomy : RowsRoomy n (drop 25 s)
   rows-roomy = rows .1
