@@ -13,7 +13,7 @@ use Rattle.field.specs.declared.Field.the-variants.{Blank, Ill, Number}
 use Rattle.field.proofs.Inverse.{blank-text}
 use Rattle.line.specs.Line.{isBlank, hasNumber, secondOf, headingOf}
 
--- what columns 5-6 hold where there is no second total, and where there is one
+-- a second total stands in columns 5-6 as it is
 pub second-number : (f : Field) (m : ℕ) → secondOf f ≡ Number (pos m) → f ≡ Number (pos m)
 second-number f m e = go (hasNumber 0 f) e
   where

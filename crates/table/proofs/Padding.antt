@@ -24,7 +24,7 @@ use Rattle.table.specs.Table.{prefix, nodeLines, linesOf, complete, badL
 use Rattle.table.specs.Padding.{columnsOf, SameField, SameTotals, one-total, two-totals, kept-totals, SameHeader, SameLine, SameLines, SameText}
 use Rattle.table.proofs.Top.{good-length}
 
-pub field-same : (s u : List ℕ) (from width : ℕ) → SameField s u from width → fieldOf s from width ≡ fieldOf u from width
+field-same : (s u : List ℕ) (from width : ℕ) → SameField s u from width → fieldOf s from width ≡ fieldOf u from width
 field-same s u from width r = repadded-read (columnsOf s from width) (columnsOf u from width) r
 
 -- ---- the totals
@@ -40,25 +40,6 @@ second-none (suc zero) (suc j) n h l = refl
 second-none (suc (suc b)) j n h l = refl
 
 module _ (s : List ℕ) (room : 8 ≤ length s) where
-  -- what the header says of its totals
-  record Totalled (second total : Field) : Type 0 where
-    is-second : secondOf (fieldOf s 4 2) ≡ second
-    is-total : totalOf s (secondOf (fieldOf s 4 2)) ≡ total
-
-  one : (n : ℕ) → n < 100 → Pads (pos n) (columnsOf s 4 4) → Totalled Blank (Number (pos n))
-  one n h P =
-      let long : length (columnsOf s 4 4) ≡ 4 = length-take-le 4 (drop 4 s) (omega (arith, length-drop 4 s)) in
-      let e : secondOf (fieldOf s 4 2) ≡ Blank =
-      ap (λ (x : List ℕ). secondOf (signed (strip x))) (sym (take-take 2 4 (drop 4 s) (omega arith)) ∙ ap (take 2) (P .is))
-      ∙ second-none (P .blanks) (P .zeros) n h (sym (ap length (P .is)) ∙ long) in
-      record { is-second = e; is-total = ap (totalOf s) e ∙ pads-read (pos n) (columnsOf s 4 4) P }
-
-  two : (m n : ℕ) → 0 < m → Pads (pos m) (columnsOf s 4 2) → Pads (pos n) (columnsOf s 6 2) → Totalled (Number (pos m)) (Number (pos n))
-  two m n h P Q =
-      let e : secondOf (fieldOf s 4 2) ≡ Number (pos m) =
-      ap secondOf (pads-read (pos m) (columnsOf s 4 2) P) ∙ rw (ne-eqb m 0 (λ z. omega arith)) refl in
-      record { is-second = e; is-total = ap (totalOf s) e ∙ pads-read (pos n) (columnsOf s 6 2) Q }
-
   -- the two pairs of four columns
   first-pair : columnsOf s 4 2 ≡ take 2 (columnsOf s 4 4)
   first-pair = sym (take-take 2 4 (drop 4 s) (omega arith))
@@ -68,6 +49,25 @@ module _ (s : List ℕ) (room : 8 ≤ length s) where
       ap (take 2) (sym (drop-drop 2 4 s))
       ∙ sym (drop-at (take 2 (drop 4 s)) (take 2 (drop 2 (drop 4 s))) 2 (length-take-le 2 (drop 4 s) (omega (arith, length-drop 4 s))))
       ∙ ap (drop 2) (sym (take-add 2 2 (drop 4 s)))
+
+  -- what the header says of its totals
+  record Totalled (second total : Field) : Type 0 where
+    is-second : secondOf (fieldOf s 4 2) ≡ second
+    is-total : totalOf s (secondOf (fieldOf s 4 2)) ≡ total
+
+  one : (n : ℕ) → n < 100 → Pads (pos n) (columnsOf s 4 4) → Totalled Blank (Number (pos n))
+  one n h P =
+      let long : length (columnsOf s 4 4) ≡ 4 = length-take-le 4 (drop 4 s) (omega (arith, length-drop 4 s)) in
+      let e : secondOf (fieldOf s 4 2) ≡ Blank =
+      ap (λ (x : List ℕ). secondOf (signed (strip x))) (first-pair ∙ ap (take 2) (P .is))
+      ∙ second-none (P .blanks) (P .zeros) n h (sym (ap length (P .is)) ∙ long) in
+      record { is-second = e; is-total = ap (totalOf s) e ∙ pads-read (pos n) (columnsOf s 4 4) P }
+
+  two : (m n : ℕ) → 0 < m → Pads (pos m) (columnsOf s 4 2) → Pads (pos n) (columnsOf s 6 2) → Totalled (Number (pos m)) (Number (pos n))
+  two m n h P Q =
+      let e : secondOf (fieldOf s 4 2) ≡ Number (pos m) =
+      ap secondOf (pads-read (pos m) (columnsOf s 4 2) P) ∙ rw (ne-eqb m 0 (λ z. omega arith)) refl in
+      record { is-second = e; is-total = ap (totalOf s) e ∙ pads-read (pos n) (columnsOf s 6 2) Q }
 
 totals-same : (s u : List ℕ) → 8 ≤ length s → 8 ≤ length u → SameTotals s u
     → (secondOf (fieldOf s 4 2) ≡ secondOf (fieldOf u 4 2)) × (totalOf s (secondOf (fieldOf s 4 2)) ≡ totalOf u (secondOf (fieldOf u 4 2)))
@@ -95,7 +95,7 @@ heading-same s u a b H =
     let highest = field-same s u 16 8 (H .highest) in
     λ i. record { count = count i; second = T .0 i; total = T .1 i; lowest = lowest i; highest = highest i }
 
-pub header-same : (n : ℕ) (s u : List ℕ) → 8 ≤ length s → 8 ≤ length u → SameHeader s u → header n s ≡ header n u
+header-same : (n : ℕ) (s u : List ℕ) → 8 ≤ length s → 8 ≤ length u → SameHeader s u → header n s ≡ header n u
 header-same n s u a b H = let g = heading-same s u a b H in λ i. headerFor n (H .last i) (g i)
 
 line-same : (h : Head) (i : ℕ) (P : List Step) (s u : List ℕ) → SameLine s u → nodeLine h i P s ≡ nodeLine h i P u

@@ -91,9 +91,9 @@ line-stored d at e R =
 pub part-long : (text : List ℕ) (i : ℕ) → 25 * i + 50 ≤ length text → length (take (25 * i + 25 + 25 - (25 * i + 25)) (drop (25 * i + 25) text)) ≡ 25
 part-long text i h = rw (part-of text (25 * i + 25) 25) (length-take-le 25 (drop (25 * i + 25) text) (omega (arith, length-drop (25 * i + 25) text)))
 
-rows-roomy : (m : ℕ) (s : List ℕ) → RowsRoomy (suc m) s → Roomy (turnEntry (entryOf (take 25 s))) × RowsRoomy m (drop 25 s)
+split-roomy : (m : ℕ) (s : List ℕ) → RowsRoomy (suc m) s → Roomy (turnEntry (entryOf (take 25 s))) × RowsRoomy m (drop 25 s)
 unfolding RowsRoomy
-rows-roomy m s R = R
+split-roomy m s R = R
 
 rows-text : (m : ℕ) (s : List ℕ) → turnedRows (suc m) s ≡ entryText (turnEntry (entryOf (take 25 s))) ++ turnedRows m (drop 25 s)
 unfolding turnedRows
@@ -105,7 +105,7 @@ module _ (text : List ℕ) (n i : ℕ) (more : i < n) (R : RowsRoomy (n - i) (dr
   left = omega arith
 
   both : Roomy (turnEntry (entryOf (take 25 (drop (25 * i + 25) text)))) × RowsRoomy (n - (i + 1)) (drop 25 (drop (25 * i + 25) text))
-  both = rows-roomy (n - (i + 1)) (drop (25 * i + 25) text) (subst (λ (m : ℕ). RowsRoomy m (drop (25 * i + 25) text)) left R)
+  both = split-roomy (n - (i + 1)) (drop (25 * i + 25) text) (subst (λ (m : ℕ). RowsRoomy m (drop (25 * i + 25) text)) left R)
 
   after : drop 25 (drop (25 * i + 25) text) ≡ drop (25 * (i + 1) + 25) text
   after = let e : 25 * i + 25 + 25 ≡ 25 * (i + 1) + 25 = omega arith in drop-drop 25 (25 * i + 25) text ∙ ap (λ (k : ℕ). drop k text) e
