@@ -16,11 +16,11 @@ use Rattle.table.specs.Tree.{leaves}
 use Rattle.table.specs.Table.{Table, tree, readText, grain}
 use Rattle.worth.specs.declared.Exact.the-variants.{Grains}
 use Rattle.worth.specs.Call.{exactCall}
-use Rattle.turn.specs.Text.{tableText}
+use Rattle.writing.specs.Text.{tableText}
 use Rattle.turn.specs.Turn.{turnTable, turnedText}
-use Rattle.turn.specs.Text.{tableText}
 use Rattle.turn.proofs.Tree.{table-twice}
-use Rattle.turn.proofs.Accepted.{turned-accepted, turned-length, blank-accepted, blank-length, blank-same}
+use Rattle.writing.proofs.Reread.{blank-accepted, blank-length, blank-same}
+use Rattle.turn.proofs.Accepted.{turned-accepted, turned-length}
 use Rattle.turn_call.specs.Call.{turnOf}
 use Rattle.turn_call.proofs.Call.{turn-fine}
 use Rattle.search.specs.Whole.{searched}

@@ -14,7 +14,7 @@ use Rattle.table.specs.Tree.{run, after as afterRun, forest, weigh, nodesWhere,
 use Rattle.table.specs.Table.{nodeLines, complete, readText, greatest}
 use Rattle.table.specs.Examples.{max-root, b1, chance}
 use Rattle.table.specs.declared.Play.the-variants.{Child}
-use Rattle.turn.specs.Text.{linesText}
+use Rattle.writing.specs.Text.{linesText}
 use Rattle.turn_call.specs.Call.{turnBytes}
 use Rattle.index.specs.Index.{valuesOf, lowestOf, highestOf, entries, written, agrees}
 use Rattle.search.specs.Search.{begin, finish, cut, point, metSpent, lower, upper, safer, update, stop, scan, search, searchRoot}

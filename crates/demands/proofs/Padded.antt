@@ -9,7 +9,7 @@ use Rattle.table.specs.Slices.{kindsOf, stopsOf, weightsOf, heightsOf, decoded}
 use Rattle.table.proofs.Padding.{text-same}
 use Rattle.worth.specs.Call.{exactCall}
 use Rattle.judge.specs.Call.{judgeCall}
-use Rattle.turn.proofs.Padding.{accepted-same}
+use Rattle.writing.proofs.Padding.{accepted-same}
 use Rattle.turn_call.specs.Call.{turnCall, turnBytes}
 use Rattle.search_call.specs.Call.{searchCall, searchReads, withinCall, withinReads}
 use Rattle.index_call.specs.Call.{indexCall, indexLows, indexHighs, indexedCall, indexedReads}

@@ -9,7 +9,7 @@ use Rattle.table.specs.Root.{nodes}
 use Rattle.table.specs.Table.{nodeLines, complete, readText, greatest}
 use Rattle.worth.specs.Worth.{largest, smallest, weighted, total, value, shares}
 use Rattle.judge.specs.Judge.{levels}
-use Rattle.turn.specs.Text.{linesText}
+use Rattle.writing.specs.Text.{linesText}
 use Rattle.search.specs.Search.{begin, finish, cut, point, lower, upper, safer, update, stop, scan, search, searchRoot}
 use Rattle.search.specs.Whole.{downZ, upZ, gainZ, lossZ, inGrains}
 use Rattle.rollout.specs.Rollout.{fresh, lows, highs, candidates, over, walk, roll}

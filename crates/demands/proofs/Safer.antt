@@ -14,7 +14,7 @@ use Rattle.line.specs.Line.{toNat, climb, among}
 use Rattle.table.specs.Tree.{run, after as afterRun, forest, weigh, nodesWhere, powers, uses, leaves}
 use Rattle.table.specs.Table.{Table, tree, nodeLines, complete, readText, greatest}
 use Rattle.table.specs.Root.{Side, toPlay, rootOf, playOf}
-use Rattle.turn.specs.Text.{linesText}
+use Rattle.writing.specs.Text.{linesText}
 use Rattle.search.specs.Search.{Seen, unlimited, limited, begin, finish, cut, point, metSpent, lower, upper, safer, update, stop, scan, search, searchRoot}
 use Rattle.search.specs.Whole.{searched, searchedUntil, searchedWithin, downZ, upZ, gainZ, lossZ, inGrains}
 use Rattle.search.specs.Former.{formerly, formerUntil}

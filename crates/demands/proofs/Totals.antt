@@ -23,7 +23,7 @@ use Rattle.table.specs.Table.{count, badLength}
 use Rattle.table.proofs.Top.{good-length}
 use Rattle.table.proofs.Accepted.{checked, one-total}
 use Rattle.table.proofs.Places.{eighteen-needs, eighteen-given, one-total-never}
-use Rattle.turn.proofs.Said.{headingFor, header-said}
+use Rattle.writing.proofs.Said.{headingFor, header-said}
 use Rattle.worth.proofs.Worth.{totals-are, exact}
 use Rattle.search.proofs.Table.{no-remainder}
 use Rattle.demands.specs.Totals.{Columns, HeaderColumns, OwnSums, DivisionExact, EighteenIs, formerIll, formerWide, OneHeading, OneTotal, AsBefore}

@@ -1,29 +1,26 @@
 -- Lines with other utilities: their tree, and that their text is accepted. Assumes nothing.
 use Prim.Native.Nat.{ℕ, zero, suc, _+_}
 use mathlib.Core.Path.{_≡_, refl, sym, ap, ap₂, subst, _∙_}
-use mathlib.Core.Bool.{Bool, true, false, not, _&&_, cond}
+use mathlib.Core.Bool.{Bool, true, false, cond}
 use mathlib.Core.List.{List, [], _∷_, _++_, List·Memᴰ}
+use native.Mathlib.Omega.{arith}
 use lib.Dec.{eqb, leb}
 use lib.ListN.{length}
-use lib.IntN.{ℤ, pos}
-use Rattle.field.specs.declared.Field.the-variants.{Number}
+use lib.IntN.{ℤ}
 use Rattle.line.specs.declared.Head.{Head}
 use Rattle.line.specs.declared.Line.{Line}
-use Rattle.line.specs.declared.Entry.{Entry}
 use Rattle.line.specs.Refusal.{fine}
-use Rattle.line.specs.Line.{outside, totals, among, larger, Step, Above, ancestors, stepsOf, stepped, Placed, placed, lineChecks, placeOf, Within}
-use Rattle.line.specs.Inside.{Ranged}
-use Rattle.line.proofs.Checks.{or-left}
-use Rattle.line.proofs.Fine.{unless-fine}
-use Rattle.table.specs.Tree.{Kind, Forest, leaf, inner, kindOf, isChance, run, after, grow, forest, isEnd, weigh, nodesWhere, childless, unbalanced}
+use Rattle.line.specs.Line.{totals, among, larger, Within}
+use Rattle.line.proofs.Signs.{true-ne-false}
+use Rattle.table.specs.Tree.{Kind, Forest, end, leaf, inner, kindOf, isChance, run, after, grow, forest, isEnd}
 use Rattle.table.specs.Table.{Table, tree, readText}
-use Rattle.table.proofs.Accepted.{accepted-ranged}
-use Rattle.turn.specs.Text.{tableText}
-use Rattle.turn.proofs.Said.{entryFor, utility-short}
-use Rattle.turn.proofs.Checks.{unless-passed}
-use Rattle.turn.proofs.Kept.{Stands, Standing, standing-none, standing-more, kept-accepted}
+use Rattle.table.specs.Accepted.{flat, one, Filled, Balanced, Proper, Rooted}
+use Rattle.table.proofs.Runs.{size, Numbered, code-inner}
+use Rattle.table.proofs.Accepted.{accepted-flat}
+use Rattle.writing.specs.Text.{tableText}
+use Rattle.writing.proofs.Reread.{Sound, read-back, accepted-sound}
 use Rattle.promise.specs.Unread.{Alike, alike-end, alike-leaf, alike-inner}
-use Rattle.promise.proofs.Changed.{alike-grain}
+use Rattle.promise.proofs.Changed.{alike-weigh, alike-grain}
 use Rattle.demands.specs.Demands.{withUtility, SameLines, same-none, same-more, Given, given-none, given-kept, given-new}
 
 -- ---- the tree
@@ -53,7 +50,10 @@ module _ (read : List ℕ) where
       → Alike Read (grow (l .utility) l u r) (grow z (withUtility z l) u2 r2)
   grown l z {u} {u2} {r} {r2} q a b = go (eqb (l .kind) 0)
     where
-      go : (c : Bool) → Alike Read (cond c (leaf (l .node) (l .weight) (l .utility) r) (inner (l .node) (l .weight) (kindOf (l .kind)) u r)) (cond c (leaf (l .node) (l .weight) z r2) (inner (l .node) (l .weight) (kindOf (l .kind)) u2 r2))
+      go : (c : Bool)
+          → Alike Read
+          (cond c (leaf (l .node) (l .weight) (l .utility) r) (inner (l .node) (l .weight) (kindOf (l .kind)) u r))
+          (cond c (leaf (l .node) (l .weight) z r2) (inner (l .node) (l .weight) (kindOf (l .kind)) u2 r2))
       go true = alike-leaf q b
       go false = alike-inner a b
 
@@ -71,90 +71,120 @@ module _ (read : List ℕ) where
   pub tree-alike : (t u : Table) → SameLines read (t .lines) (u .lines) → Alike Read (tree t) (tree u)
   tree-alike t u s = subst (λ (k : ℕ). Alike Read (tree t) (forest value k (u .lines))) (same-long s) (forest-alike (length (t .lines)) s)
 
-  -- the same nodes have no child, and the same sums are wrong
-  end-alike : {f g : Forest ℤ} → Alike Read f g → isEnd g ≡ isEnd f
-  end-alike alike-end = refl
-  end-alike (alike-leaf q b) = refl
-  end-alike (alike-inner a b) = refl
-
-  weigh-alike : {f g : Forest ℤ} → Alike Read f g → weigh g ≡ weigh f
-  unfolding weigh
-  weigh-alike alike-end = refl
-  weigh-alike (alike-leaf {w = w} q b) = ap (λ (x : ℕ). w + x) (weigh-alike b)
-  weigh-alike (alike-inner {w = w} a b) = ap (λ (x : ℕ). w + x) (weigh-alike b)
-
-  nodes-alike : (bad : Kind → Forest ℤ → Bool) → ((k : Kind) (f g : Forest ℤ) → Alike Read f g → bad k g ≡ bad k f)
-      → {f g : Forest ℤ} → Alike Read f g → nodesWhere bad g ≡ nodesWhere bad f
-  unfolding nodesWhere
-  nodes-alike bad kept alike-end = refl
-  nodes-alike bad kept (alike-leaf q b) = nodes-alike bad kept b
-  nodes-alike bad kept (alike-inner {n} {w} {k} {under} {under2} a b) =
-      ap₂ _++_ (ap (λ (c : Bool). cond c (n ∷ []) []) (kept k under under2 a)) (ap₂ _++_ (nodes-alike bad kept a) (nodes-alike bad kept b))
-
-  childless-alike : {f g : Forest ℤ} → Alike Read f g → childless g ≡ childless f
-  childless-alike a = nodes-alike (λ (k : Kind) (under : Forest ℤ). isEnd under) (λ k f g b. end-alike b) a
-
-  unbalanced-alike : (ts : List ℕ) {f g : Forest ℤ} → Alike Read f g → unbalanced ts g ≡ unbalanced ts f
-  unbalanced-alike ts a =
-      nodes-alike (λ (k : Kind) (under : Forest ℤ). isChance k && not (among (weigh under) ts)) (λ k f g b. ap (λ (x : ℕ). isChance k && not (among x ts)) (weigh-alike b)) a
-
--- ---- the text
-
--- a leaf's line
-abbrev leafLine : ℕ → ℕ → ℕ → ℕ → ℤ → Line
-leafLine n p w c z = record { node = n; kind = 0; parent = p; weight = w; utility = z; chances = c }
-
--- no check refuses another utility within the ends
-leaf-placed : (h : Head) (i n p w c : ℕ) (v z : ℤ) (P S : List Step) → Within h z
-    → placeOf h i (entryFor (leafLine n p w c v)) 32 10 P ≡ fine (record { line = leafLine n p w c v; steps = S })
-    → placeOf h i (entryFor (leafLine n p w c z)) 32 10 P ≡ fine (record { line = leafLine n p w c z; steps = S })
-leaf-placed h i n p w c v z P S inside eq =
-    let e : Entry = entryFor (leafLine n p w c v) in
-    let f : Entry = entryFor (leafLine n p w c z) in
-    let a : Above = ancestors (e .parent) P in
-    let r = unless-fine (lineChecks h i e 32 10 a) (placed i 0 e (stepped i 0 (stepsOf a))) (record { line = leafLine n p w c v; steps = S }) eq in
-    let k = r .0 in
-    let late = k .1 .1 .1 .1 in
-    let weight = or-left (outside (pos 1) (pos (larger h)) (e .weight)) (outside (h .lowest) (h .highest) (Number v)) (late .1 .1 .0) in
-    unless-passed (lineChecks h i f 32 10 a) (placed i 0 f (stepped i 0 (stepsOf a)))
-    (k .0, (k .1 .0, (k .1 .1 .0, (k .1 .1 .1 .0, (late .0, (late .1 .0, (rw (weight, inside .0, inside .1) refl, tt)))))))
-    ∙ ap (λ (q : Placed). fine (record { line = withUtility z (q .line); steps = q .steps })) (r .1)
-
-module _ (h : Head) (ranged : Ranged h) where
-  abbrev Same : Line → Line → Type 0
-  Same = Stands h h (λ (P : List Step). P)
-
-  leaf-stands : (l : Line) (z : ℤ) → l .kind ≡ 0 → Within h z → Same l (withUtility z l)
-  leaf-stands l z kind inside =
-      let is : leafLine (l .node) (l .parent) (l .weight) (l .chances) (l .utility) ≡ l =
-      λ j. record { node = l .node; kind = sym kind j; parent = l .parent; weight = l .weight; utility = l .utility; chances = l .chances } in
-      subst (λ (x : Line). Same x (withUtility z x)) is
-      (record {
-        short = λ S. record { node = S .node; parent = S .parent; weight = S .weight; utility = utility-short h true z ranged inside };
-        place = λ i P S small eq. leaf-placed h i (l .node) (l .parent) (l .weight) (l .chances) (l .utility) z P S inside eq;
-      })
-
-  given-stand : (read : List ℕ) {ls ms : List Line} → Given h read ls ms → Standing h h (λ (P : List Step). P) ls ms
-  given-stand read given-none = standing-none
-  given-stand read (given-kept g) = standing-more (record { short = λ S. S; place = λ i P S small eq. eq }) (given-stand read g)
-  given-stand read (given-new {l} {z} kind unread inside g) = standing-more (leaf-stands l z kind inside) (given-stand read g)
+-- ---- the lines
 
 pub given-same : (h : Head) (read : List ℕ) {ls ms : List Line} → Given h read ls ms → SameLines read ls ms
 given-same h read given-none = same-none
 given-same h read (given-kept g) = same-more (λ m. refl) (given-same h read g)
 given-same h read (given-new kind unread inside g) = same-more (λ m. absurd (unread m)) (given-same h read g)
 
+-- lines given for some lines and then others are those given for each, one after the other
+given-split : (h : Head) (read : List ℕ) (xs ys : List Line) {ms : List Line} → Given h read (xs ++ ys) ms
+    → (a b : List Line) × (a ++ b ≡ ms) × Given h read xs a × Given h read ys b
+given-split h read [] ys {ms} g = ([], ms, refl, given-none, g)
+given-split h read (l ∷ xs) ys (given-kept g) =
+    let r = given-split h read xs ys g in
+    (l ∷ r .0, r .1, ap (λ (ms : List Line). l ∷ ms) (r .2), given-kept (r .3), r .4)
+given-split h read (l ∷ xs) ys (given-new {z = z} kind unread inside g) =
+    let r = given-split h read xs ys g in
+    (withUtility z l ∷ r .0, r .1, ap (λ (ms : List Line). withUtility z l ∷ ms) (r .2), given-new kind unread inside (r .3), r .4)
+
+-- ---- the rules
+
+module _ (h : Head) where
+  -- the same nodes, with leaf values that are within the ends where the old ones are
+  data Changed : Forest ℤ → Forest ℤ → Type 0 where
+    changed-end : Changed end end
+    changed-leaf : {n w : ℕ} {v z : ℤ} {rest rest2 : Forest ℤ}
+        → (Within h v → Within h z) → Changed rest rest2 → Changed (leaf n w v rest) (leaf n w z rest2)
+    changed-inner : {n w : ℕ} {k : Kind} {under under2 rest rest2 : Forest ℤ}
+        → Changed under under2 → Changed rest rest2 → Changed (inner n w k under rest) (inner n w k under2 rest2)
+
+  -- the lines given for a tree's are those of a changed tree: an inner node's line is kept, as its kind is not a leaf's
+  given-tree : (read : List ℕ) (p c : ℕ) (F : Forest ℤ) {ms : List Line} → Given h read (flat p c F) ms
+      → (G : Forest ℤ) × (flat p c G ≡ ms) × Changed F G
+  unfolding flat
+  given-tree read p c end given-none = (end, refl, changed-end)
+  given-tree read p c (leaf n w v rest) (given-kept {l} g) =
+      let r = given-tree read p c rest g in
+      (leaf n w v (r .0), ap (λ (ms : List Line). l ∷ ms) (r .1), changed-leaf (λ x. x) (r .2))
+  given-tree read p c (leaf n w v rest) (given-new {l} {z} kind unread inside g) =
+      let r = given-tree read p c rest g in
+      (leaf n w z (r .0), ap (λ (ms : List Line). withUtility z l ∷ ms) (r .1), changed-leaf (λ x. inside) (r .2))
+  given-tree read p c (inner n w k under rest) (given-kept {l} g) =
+      let s = given-split h read (flat n (c + one k) under) (flat p c rest) g in
+      let u = given-tree read n (c + one k) under (s .3) in
+      let r = given-tree read p c rest (s .4) in
+      (inner n w k (u .0) (r .0), ap (λ (ms : List Line). l ∷ ms) (ap₂ _++_ (u .1) (r .1) ∙ s .2), changed-inner (u .2) (r .2))
+  given-tree read p c (inner n w k under rest) (given-new kind unread inside g) =
+      absurd (true-ne-false (sym (ap (λ (m : ℕ). eqb m 0) kind) ∙ code-inner k))
+
+  -- for the sums and grains, in which no leaf value stands
+  changed-alike : {F G : Forest ℤ} → Changed F G → Alike (λ (n : ℕ). ⊥) F G
+  changed-alike changed-end = alike-end
+  changed-alike (changed-leaf q b) = alike-leaf (λ x. absurd x) (changed-alike b)
+  changed-alike (changed-inner a b) = alike-inner (changed-alike a) (changed-alike b)
+
+  changed-none : {G : Forest ℤ} → Changed end G → G ≡ end
+  changed-none changed-end = refl
+
+  size-changed : {F G : Forest ℤ} → Changed F G → size G ≡ size F
+  size-changed changed-end = refl
+  size-changed (changed-leaf q b) = ap suc (size-changed b)
+  size-changed (changed-inner a b) = ap suc (ap₂ _+_ (size-changed a) (size-changed b))
+
+  end-changed : {F G : Forest ℤ} → Changed F G → isEnd G ≡ isEnd F
+  end-changed changed-end = refl
+  end-changed (changed-leaf q b) = refl
+  end-changed (changed-inner a b) = refl
+
+  numbered-changed : (i : ℕ) {F G : Forest ℤ} → Changed F G → Numbered i F → Numbered i G
+  numbered-changed i changed-end N = tt
+  numbered-changed i (changed-leaf q b) N = (N .0, numbered-changed (suc i) b (N .1))
+  numbered-changed i (changed-inner {under = under} a b) N =
+      (N .0, numbered-changed (suc i) a (N .1), rw (size-changed a) (numbered-changed (suc i + size under) b (N .2)))
+
+  rooted-changed : {F G : Forest ℤ} → Changed F G → Rooted F → Rooted G
+  rooted-changed changed-end R = R
+  rooted-changed (changed-leaf q b) R = (R .0, R .1, changed-none (rw (R .2) at b))
+  rooted-changed (changed-inner a b) R = (R .0, R .1, changed-none (rw (R .2) at b))
+
+  filled-changed : {F G : Forest ℤ} → Changed F G → Filled F → Filled G
+  filled-changed changed-end x = tt
+  filled-changed (changed-leaf q b) x = filled-changed b x
+  filled-changed (changed-inner a b) x = (end-changed a ∙ x .0, filled-changed a (x .1), filled-changed b (x .2))
+
+  balanced-changed : (ts : List ℕ) {F G : Forest ℤ} → Changed F G → Balanced ts F → Balanced ts G
+  balanced-changed ts changed-end x = tt
+  balanced-changed ts (changed-leaf q b) x = balanced-changed ts b x
+  balanced-changed ts (changed-inner a b) x =
+      (λ e. ap (λ (m : ℕ). among m ts) (sym (alike-weigh (changed-alike a))) ∙ x .0 e, balanced-changed ts a (x .1), balanced-changed ts b (x .2))
+
+  proper-changed : (T K d c : ℕ) (u : Bool) {F G : Forest ℤ} → Changed F G → Proper T K (Within h) d c u F → Proper T K (Within h) d c u G
+  proper-changed T K d c u changed-end x = tt
+  proper-changed T K d c u (changed-leaf q b) x = (x .0, q (x .1), x .2, x .3, proper-changed T K d c u b (x .4))
+  proper-changed T K d c u (changed-inner {k = k} a b) x =
+      (x .0, x .1, x .2, proper-changed T K (suc d) (c + one k) (isChance k) a (x .3), proper-changed T K d c u b (x .4))
+
+  sound-changed : {F G : Forest ℤ} → Changed F G → Sound h F → Sound h G
+  sound-changed c S =
+      record {
+        ranged = S .ranged;
+        numbered = numbered-changed 0 c (S .numbered);
+        rooted = rooted-changed c (S .rooted);
+        filled = filled-changed c (S .filled);
+        balanced = balanced-changed (totals h) c (S .balanced);
+        proper = proper-changed (larger h) 4 0 0 false c (S .proper);
+        few = omega (arith, size-changed c, S .few);
+        grains = omega (arith, alike-grain (totals h) (changed-alike c), S .grains);
+      }
+
+-- ---- the text
+
 pub given-accepted : (s : List ℕ) (t : Table) → readText s ≡ fine t → (read : List ℕ) (ls : List Line) → Given (t .head) read (t .lines) ls
     → readText (tableText (record { head = t .head; lines = ls })) ≡ fine (record { head = t .head; lines = ls })
 given-accepted s t p read ls g =
-    let u : Table = record { head = t .head; lines = ls } in
-    let a : Alike (Read read) (tree t) (tree u) = tree-alike read t u (given-same (t .head) read g) in
-    kept-accepted s t u p (record {
-      on = λ P. P;
-      start = refl;
-      ranged = accepted-ranged s t p;
-      lines = given-stand (t .head) (accepted-ranged s t p) read g;
-      no-childless = childless-alike read a;
-      no-unbalanced = unbalanced-alike read (totals (t .head)) a;
-      same-grain = sym (alike-grain (totals (t .head)) a);
-    })
+    let h : Head = t .head in
+    let c = given-tree h read 0 0 (tree t) (subst (λ (ms : List Line). Given h read ms ls) (sym (accepted-flat s t p)) g) in
+    subst (λ (ms : List Line). readText (tableText (record { head = h; lines = ms })) ≡ fine (record { head = h; lines = ms })) (c .1)
+    (read-back h (c .0) (sound-changed h (c .2) (accepted-sound s t p)))

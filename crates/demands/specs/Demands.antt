@@ -18,7 +18,7 @@ use Rattle.table.specs.Padding.{SameText}
 use Rattle.table.specs.declared.Play.the-variants.{Child}
 use Rattle.worth.specs.declared.Exact.the-variants.{Grains}
 use Rattle.worth.specs.Call.{exactCall}
-use Rattle.turn.specs.Text.{tableText}
+use Rattle.writing.specs.Text.{tableText}
 use Rattle.turn_call.specs.Call.{turnOf}
 use Rattle.search_call.specs.declared.Bounds.{Bounds}
 use Rattle.search_call.specs.declared.Bounded.the-variants.{Found}

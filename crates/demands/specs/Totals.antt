@@ -17,7 +17,7 @@ use Rattle.line.specs.Refusal.{refused, fine}
 use Rattle.line.specs.Line.{isIll, isBlank, outside, valueOf, secondOf, headingOf, illHeading, wideHeading, headOf, totals, among, larger}
 use Rattle.table.specs.Table.{Table, tree, readText, greatest, grain}
 use Rattle.table.specs.Accepted.{Excessive}
-use Rattle.turn.specs.Text.{columns, totalsText}
+use Rattle.writing.specs.Text.{columns, totalsText}
 use Rattle.worth.specs.Worth.{TotalsAre, Exact}
 use Rattle.search.specs.Exact.{NoRemainder}
 

@@ -218,7 +218,7 @@ weighs : (u : Bool) (T : ℕ) (f : Field) → isIll f ≡ false → cond u (isBl
 weighs true T f i b o = inside-natural T (valueOf f) (inside-field (pos 1) (pos T) f b i o)
 weighs false T f i b o = ap toNat (blank-value f (not-false (isBlank f) b))
 
-weighs-small : (u : Bool) (T w : ℕ) → Weighs u T w → w ≤ T
+pub weighs-small : (u : Bool) (T w : ℕ) → Weighs u T w → w ≤ T
 weighs-small true T w h = h .1
 weighs-small false T w h = omega arith
 

@@ -1,82 +1,112 @@
--- The blank-padded text of an accepted table is accepted as that table, and so is the turned one as the turned table. Assumes nothing.
-use Prim.Native.Nat.{ℕ}
-use mathlib.Core.Path.{_≡_, refl, ap, _∙_}
-use mathlib.Core.List.{List, [], _∷_, map}
-use lib.ListN.{length}
-use Rattle.field.proofs.Bits.{abs-neg}
+-- The turned text of an accepted table is accepted as the turned table, as turning keeps the rules of a table. Assumes nothing.
+use Prim.Native.Nat.{ℕ, suc, _+_, _*_}
+use mathlib.Core.Path.{_≡_, refl, sym, ap, ap₂, subst, _∙_}
+use mathlib.Core.Bool.{Bool, false}
+use mathlib.Core.List.{List, map, map-append}
+use native.Mathlib.Omega.{arith}
+use lib.ListN.{length, length-map}
+use lib.IntN.{ℤ, negℤ}
 use Rattle.line.specs.declared.Head.{Head}
 use Rattle.line.specs.declared.Line.{Line}
 use Rattle.line.specs.Refusal.{fine}
-use Rattle.line.specs.Line.{totals, Step}
-use Rattle.table.specs.Tree.{childless, unbalanced}
+use Rattle.line.specs.Line.{totals, among, larger, Within}
+use Rattle.table.specs.Tree.{Kind, MAX, MIN, CHANCE, Forest, end, leaf, inner, codeOf, isChance}
 use Rattle.table.specs.Table.{Table, tree, readText}
-use Rattle.table.specs.Padding.{SameText}
-use Rattle.table.proofs.Accepted.{accepted-ranged}
-use Rattle.turn.specs.Text.{tableText}
-use Rattle.turn.specs.Turn.{turnLine, turnHead, turnTable, turnedText}
-use Rattle.turn.proofs.Padding.{accepted-same}
-use Rattle.turn.proofs.Tree.{tree-turned, grain-turned, childless-turned, unbalanced-turned}
-use Rattle.turn.proofs.Checks.{ranged-turned, turnStep, place-turned}
-use Rattle.turn.proofs.Kept.{Stands, Standing, standing-none, standing-more, Kept, kept-length, kept-accepted}
+use Rattle.table.specs.Accepted.{flat, one, Filled, Balanced, Proper, Rooted}
+use Rattle.table.proofs.Runs.{size, Numbered}
+use Rattle.table.proofs.Accepted.{accepted-flat, accepted-size}
+use Rattle.writing.specs.Text.{tableText}
+use Rattle.writing.proofs.Reread.{Sound, tableOf, text-length, read-back, accepted-sound}
+use Rattle.turn.specs.Turn.{turnCode, turnLine, turnHead, turnTable, turnedText, turnKind, turnTree}
+use Rattle.turn.proofs.Signs.{neg-less, ranged-turned}
+use Rattle.turn.proofs.Tree.{kind-chance, weigh-turned, end-turned, tree-grain-turned}
 
-line-stands : (h : Head) (l : Line) → Stands h (turnHead h) (map turnStep) l (turnLine l)
-line-stands h l =
+-- ---- the lines of a turned tree
+
+kind-code : (k : Kind) → codeOf (turnKind k) ≡ turnCode (codeOf k)
+kind-code MAX = refl
+kind-code MIN = refl
+kind-code CHANCE = refl
+
+flat-turned : (p c : ℕ) (F : Forest ℤ) → flat p c (turnTree F) ≡ map turnLine (flat p c F)
+unfolding flat turnTree
+flat-turned p c end = refl
+flat-turned p c (leaf n w v rest) = rw (flat-turned p c rest)
+flat-turned p c (inner n w k under rest) =
+    rw (kind-chance k, kind-code k, flat-turned n (c + one k) under, flat-turned p c rest, map-append)
+
+-- ---- the rules
+
+size-turned : (F : Forest ℤ) → size (turnTree F) ≡ size F
+unfolding turnTree
+size-turned end = refl
+size-turned (leaf n w v rest) = ap suc (size-turned rest)
+size-turned (inner n w k under rest) = ap suc (ap₂ _+_ (size-turned under) (size-turned rest))
+
+numbered-turned : (i : ℕ) (F : Forest ℤ) → Numbered i F → Numbered i (turnTree F)
+unfolding turnTree
+numbered-turned i end N = tt
+numbered-turned i (leaf n w v rest) N = (N .0, numbered-turned (suc i) rest (N .1))
+numbered-turned i (inner n w k under rest) N =
+    (N .0, numbered-turned (suc i) under (N .1), rw (size-turned under) (numbered-turned (suc i + size under) rest (N .2)))
+
+rooted-turned : (F : Forest ℤ) → Rooted F → Rooted (turnTree F)
+unfolding turnTree
+rooted-turned end R = R
+rooted-turned (leaf n w v rest) R = (R .0, R .1, ap turnTree (R .2))
+rooted-turned (inner n w k under rest) R = (R .0, R .1, ap turnTree (R .2))
+
+filled-turned : (F : Forest ℤ) → Filled F → Filled (turnTree F)
+unfolding turnTree
+filled-turned end x = tt
+filled-turned (leaf n w v rest) x = filled-turned rest x
+filled-turned (inner n w k under rest) x = (end-turned under ∙ x .0, filled-turned under (x .1), filled-turned rest (x .2))
+
+balanced-turned : (ts : List ℕ) (F : Forest ℤ) → Balanced ts F → Balanced ts (turnTree F)
+unfolding turnTree
+balanced-turned ts end x = tt
+balanced-turned ts (leaf n w v rest) x = balanced-turned ts rest x
+balanced-turned ts (inner n w k under rest) x =
+    (λ e. ap (λ (m : ℕ). among m ts) (weigh-turned under) ∙ x .0 (sym (kind-chance k) ∙ e), balanced-turned ts under (x .1), balanced-turned ts rest (x .2))
+
+-- "utilities negated" are within the ends negated and exchanged
+within-turned : (h : Head) (z : ℤ) → Within h z → Within (turnHead h) (negℤ z)
+within-turned h z w = (neg-less z (h .highest) ∙ w .1, neg-less (h .lowest) z ∙ w .0)
+
+proper-turned : (h : Head) (T K d c : ℕ) (u : Bool) (F : Forest ℤ) → Proper T K (Within h) d c u F → Proper T K (Within (turnHead h)) d c u (turnTree F)
+unfolding turnTree
+proper-turned h T K d c u end x = tt
+proper-turned h T K d c u (leaf n w v rest) x = (x .0, within-turned h v (x .1), x .2, x .3, proper-turned h T K d c u rest (x .4))
+proper-turned h T K d c u (inner n w k under rest) x =
+    rw (kind-chance k) (x .0, x .1, x .2, proper-turned h T K (suc d) (c + one k) (isChance k) under (x .3), proper-turned h T K d c u rest (x .4))
+
+sound-turned : (h : Head) (F : Forest ℤ) → Sound h F → Sound (turnHead h) (turnTree F)
+sound-turned h F S =
     record {
-      short = λ S. record { node = S .node; parent = S .parent; weight = S .weight; utility = rw (abs-neg (l .utility)) (S .utility) };
-      place = λ i P S small eq. place-turned h i l P (record { line = l; steps = S }) small eq;
+      ranged = ranged-turned h (S .ranged);
+      numbered = numbered-turned 0 F (S .numbered);
+      rooted = rooted-turned F (S .rooted);
+      filled = filled-turned F (S .filled);
+      balanced = balanced-turned (totals h) F (S .balanced);
+      proper = proper-turned h (larger h) 4 0 0 false F (S .proper);
+      few = omega (arith, size-turned F, S .few);
+      grains = omega (arith, tree-grain-turned (totals h) F, S .grains);
     }
 
-lines-stand : (h : Head) (ls : List Line) → Standing h (turnHead h) (map turnStep) ls (map turnLine ls)
-lines-stand h [] = standing-none
-lines-stand h (l ∷ ls) = standing-more (line-stands h l) (lines-stand h ls)
+-- ---- the text
 
-module _ (s : List ℕ) (t : Table) (h : readText s ≡ fine t) where
-  kept : Kept t (turnTable t)
-  kept =
-      record {
-        on = map turnStep;
-        start = refl;
-        ranged = ranged-turned (t .head) (accepted-ranged s t h);
-        lines = lines-stand (t .head) (t .lines);
-        no-childless = ap childless (tree-turned t) ∙ childless-turned (tree t);
-        no-unbalanced = ap (unbalanced (totals (t .head))) (tree-turned t) ∙ unbalanced-turned (totals (t .head)) (tree t);
-        same-grain = grain-turned t;
-      }
+module _ (s : List ℕ) (t : Table) (e : readText s ≡ fine t) where
+  sound : Sound (turnHead (t .head)) (turnTree (tree t))
+  sound = sound-turned (t .head) (tree t) (accepted-sound s t e)
+
+  table-is : tableOf (turnHead (t .head)) (turnTree (tree t)) ≡ turnTable t
+  table-is = ap (λ (ls : List Line). record { head = turnHead (t .head); lines = ls }) (flat-turned 0 0 (tree t) ∙ ap (map turnLine) (accepted-flat s t e))
 
   pub turned-length : length (turnedText t) ≡ length s
-  turned-length = kept-length s t (turnTable t) h kept
+  turned-length =
+      subst (λ (x : Table). length (tableText x) ≡ 25 * length (x .lines) + 25) table-is (text-length (turnHead (t .head)) (turnTree (tree t)) sound)
+      ∙ ap (λ (n : ℕ). 25 * n + 25) (length-map (t .lines) turnLine)
+      ∙ sym (accepted-size s t e .2)
 
   pub turned-accepted : readText (turnedText t) ≡ fine (turnTable t)
-  turned-accepted = kept-accepted s t (turnTable t) h kept
-
--- ---- the table's own text
-
-own-line : (h : Head) (l : Line) → Stands h h (λ (P : List Step). P) l l
-own-line h l = record { short = λ S. S; place = λ i P S small eq. eq }
-
-own-lines : (h : Head) (ls : List Line) → Standing h h (λ (P : List Step). P) ls ls
-own-lines h [] = standing-none
-own-lines h (l ∷ ls) = standing-more (own-line h l) (own-lines h ls)
-
-module _ (s : List ℕ) (t : Table) (h : readText s ≡ fine t) where
-  own : Kept t t
-  own =
-      record {
-        on = λ (P : List Step). P;
-        start = refl;
-        ranged = accepted-ranged s t h;
-        lines = own-lines (t .head) (t .lines);
-        no-childless = refl;
-        no-unbalanced = refl;
-        same-grain = refl;
-      }
-
-  pub blank-length : length (tableText t) ≡ length s
-  blank-length = kept-length s t t h own
-
-  pub blank-accepted : readText (tableText t) ≡ fine t
-  blank-accepted = kept-accepted s t t h own
-
-  -- "the blank-padded text of the same table"
-  pub blank-same : SameText s (tableText t)
-  blank-same = accepted-same s (tableText t) t h blank-accepted
+  turned-accepted = subst (λ (x : Table). readText (tableText x) ≡ fine x) table-is (read-back (turnHead (t .head)) (turnTree (tree t)) sound)

@@ -1,9 +1,5 @@
-pub mod Lines
-pub mod Said
-pub mod Padding
+pub mod Signs
 pub mod Tree
-pub mod Checks
-pub mod Kept
 pub mod Accepted
 pub mod Worked
 pub mod Turned

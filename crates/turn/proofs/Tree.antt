@@ -1,16 +1,15 @@
 -- The turned table's tree, grains and leaves, and that turning twice changes nothing. Assumes nothing.
-use Prim.Native.Nat.{ℕ, zero, suc, _+_, _<_}
-use mathlib.Core.Path.{_≡_, refl, sym, ap, ap₂, _∙_}
-use mathlib.Core.Bool.{Bool, true, false, not, _&&_, cond}
-use mathlib.Core.List.{List, [], _∷_, _++_, map}
-use native.Mathlib.Omega.{arith}
+use Prim.Native.Nat.{ℕ, zero, suc, _+_}
+use mathlib.Core.Path.{_≡_, refl, ap, ap₂, _∙_}
+use mathlib.Core.Bool.{Bool, true, false, cond}
+use mathlib.Core.List.{List, [], _∷_, map}
 use borrow.Author.Tests.{eqb-true}
 use lib.Dec.{eqb, leb}
 use lib.ListN.{length, length-map}
 use lib.IntN.{ℤ, negℤ, negℤ-negℤ}
 use Rattle.line.specs.declared.Line.{Line}
-use Rattle.line.specs.Line.{totals, among}
-use Rattle.table.specs.Tree.{Kind, MAX, MIN, CHANCE, Forest, end, leaf, inner, kindOf, isChance, run, after, grow, forest, isEnd, weigh, nodesWhere, childless, unbalanced, powers, uses, grainOf, leaves}
+use Rattle.line.specs.Line.{totals}
+use Rattle.table.specs.Tree.{Kind, MAX, MIN, CHANCE, Forest, end, leaf, inner, kindOf, isChance, run, after, grow, forest, isEnd, weigh, powers, uses, grainOf, leaves}
 use Rattle.table.specs.Table.{Table, tree, grain}
 use Rattle.turn.specs.Turn.{turnCode, turnLine, turnTable, turnKind, turnTree}
 
@@ -30,7 +29,7 @@ code k = go (eqb k 1) (eqb k 2) refl refl
     go false true x y = code-min (eqb-true k 2 y)
     go false false x y = code-kept x y
 
-pub code-twice : (k : ℕ) → turnCode (turnCode k) ≡ k
+code-twice : (k : ℕ) → turnCode (turnCode k) ≡ k
 code-twice k = go (code k)
   where
     go : Code k → turnCode (turnCode k) ≡ k
@@ -38,28 +37,14 @@ code-twice k = go (code k)
     go (code-min e) = rw e
     go (code-kept x y) = simp (x, y)
 
--- and so is the answer to whether it is the number j of neither
-pub code-other : (j k : ℕ) → eqb 1 j ≡ false → eqb 2 j ≡ false → eqb (turnCode k) j ≡ eqb k j
-code-other j k m n = go (code k)
-  where
-    go : Code k → eqb (turnCode k) j ≡ eqb k j
-    go (code-max e) = rw e (n ∙ sym m)
-    go (code-min e) = rw e (m ∙ sym n)
-    go (code-kept x y) = simp (x, y)
-
+-- and so is the answer to whether it is that of a leaf
 pub code-leaf : (k : ℕ) → eqb (turnCode k) 0 ≡ eqb k 0
-code-leaf k = code-other 0 k refl refl
-
-pub code-chance : (k : ℕ) → eqb (turnCode k) 3 ≡ eqb k 3
-code-chance k = code-other 3 k refl refl
-
-pub code-small : (k : ℕ) → k < 4 → turnCode k < 4
-code-small k h = go (code k)
+code-leaf k = go (code k)
   where
-    go : Code k → turnCode k < 4
-    go (code-max e) = rw e (omega arith)
-    go (code-min e) = rw e (omega arith)
-    go (code-kept x y) = rw (x, y) h
+    go : Code k → eqb (turnCode k) 0 ≡ eqb k 0
+    go (code-max e) = rw e
+    go (code-min e) = rw e
+    go (code-kept x y) = simp (x, y)
 
 code-kind : (k : ℕ) → kindOf (turnCode k) ≡ turnKind (kindOf k)
 code-kind k = go (code k)
@@ -69,7 +54,7 @@ code-kind k = go (code k)
     go (code-min e) = rw e
     go (code-kept x y) = simp (x, y)
 
-kind-chance : (k : Kind) → isChance (turnKind k) ≡ isChance k
+pub kind-chance : (k : Kind) → isChance (turnKind k) ≡ isChance k
 kind-chance MAX = refl
 kind-chance MIN = refl
 kind-chance CHANCE = refl
@@ -145,9 +130,9 @@ tree-leaves (inner n w k under rest) = ap₂ _+_ (tree-leaves under) (tree-leave
 pub tree-leaves-turned : (t : Table) → leaves (tree (turnTable t)) ≡ leaves (tree t)
 tree-leaves-turned t = ap leaves (tree-turned t) ∙ tree-leaves (tree t)
 
--- ---- sums and grains, and nodes without a child
+-- ---- sums and grains
 
-weigh-turned : (f : Forest ℤ) → weigh (turnTree f) ≡ weigh f
+pub weigh-turned : (f : Forest ℤ) → weigh (turnTree f) ≡ weigh f
 unfolding weigh turnTree
 weigh-turned end = refl
 weigh-turned (leaf n w u rest) = ap (λ (x : ℕ). w + x) (weigh-turned rest)
@@ -165,24 +150,8 @@ tree-grain-turned ts f i = powers ts (λ (t : ℕ). uses-turned t f i)
 pub grain-turned : (t : Table) → grain (turnTable t) ≡ grain t
 grain-turned t = ap (grainOf (totals (t .head))) (tree-turned t) ∙ tree-grain-turned (totals (t .head)) (tree t)
 
-end-turned : (f : Forest ℤ) → isEnd (turnTree f) ≡ isEnd f
+pub end-turned : (f : Forest ℤ) → isEnd (turnTree f) ≡ isEnd f
 unfolding turnTree
 end-turned end = refl
 end-turned (leaf n w u rest) = refl
 end-turned (inner n w k under rest) = refl
-
--- a condition on a node that turning keeps is met by the same nodes
-nodes-turned : (bad : Kind → Forest ℤ → Bool) → ((k : Kind) (f : Forest ℤ) → bad (turnKind k) (turnTree f) ≡ bad k f)
-    → (f : Forest ℤ) → nodesWhere bad (turnTree f) ≡ nodesWhere bad f
-unfolding nodesWhere turnTree
-nodes-turned bad kept end = refl
-nodes-turned bad kept (leaf n w u rest) = nodes-turned bad kept rest
-nodes-turned bad kept (inner n w k under rest) =
-    ap₂ _++_ (ap (λ (b : Bool). cond b (n ∷ []) []) (kept k under)) (ap₂ _++_ (nodes-turned bad kept under) (nodes-turned bad kept rest))
-
-pub childless-turned : (f : Forest ℤ) → childless (turnTree f) ≡ childless f
-childless-turned f = nodes-turned (λ (k : Kind) (under : Forest ℤ). isEnd under) (λ k under. end-turned under) f
-
-pub unbalanced-turned : (ts : List ℕ) (f : Forest ℤ) → unbalanced ts (turnTree f) ≡ unbalanced ts f
-unbalanced-turned ts f =
-    nodes-turned (λ (k : Kind) (under : Forest ℤ). isChance k && not (among (weigh under) ts)) (λ k under. rw (kind-chance k, weigh-turned under)) f

@@ -19,13 +19,14 @@ use Rattle.line.specs.Inside.{Ranged}
 use Rattle.table.specs.Table.{Table, nodeLines, readText}
 use Rattle.table.specs.Slices.{laid}
 use Rattle.table.proofs.Accepted.{checked, accepted-ranged, accepted-size}
-use Rattle.turn.specs.Text.{letterOf, headerText, lineText, linesText}
+use Rattle.writing.specs.Text.{letterOf, headerText, lineText, linesText}
 use Rattle.turn.specs.Turn.{turnCode, turnLine, turnHead, turnedText}
-use Rattle.turn.specs.Inside.{entryText, Roomy, turnLetter, negated, turnEntry, turnedRows, RowsRoomy}
-use Rattle.turn.proofs.Said.{entryFor, line-text, isNone, Short, Said}
-use Rattle.turn.proofs.Padding.{first, counted}
+use Rattle.writing.specs.Inside.{entryText, Roomy, entryFor, Short}
+use Rattle.turn.specs.Inside.{turnLetter, negated, turnEntry, turnedRows, RowsRoomy}
+use Rattle.writing.proofs.Said.{line-text, isNone, Said}
+use Rattle.writing.proofs.Padding.{first, counted}
 use Rattle.turn.proofs.Tree.{code-leaf}
-use Rattle.turn.proofs.Kept.{line-roomy}
+use Rattle.writing.proofs.Again.{line-roomy}
 use Rattle.turn.proofs.Accepted.{turned-length}
 
 -- ---- one line

@@ -10,7 +10,7 @@ use Rattle.line.specs.Line.{climb, among}
 use Rattle.table.specs.Tree.{run, after, forest, weigh, nodesWhere, powers, uses}
 use Rattle.table.specs.Table.{Table, nodeLines, complete, readText}
 use Rattle.table.specs.Examples.{table-b, turned-b}
-use Rattle.turn.specs.Text.{linesText, tableText}
+use Rattle.writing.specs.Text.{linesText, tableText}
 use Rattle.turn.specs.Turn.{turnedText}
 
 abbrev node : ℕ → ℕ → ℕ → ℕ → ℤ → ℕ → Line

@@ -1,41 +1,15 @@
 -- The turned text, line by line in a lent buffer: what the contracts cite. No promise of a public call names these.
-use Prim.Native.Nat.{ℕ, zero, suc, _^_, _≤_, _<_}
+use Prim.Native.Nat.{ℕ, zero, suc}
 use mathlib.Core.Bool.{cond}
-use mathlib.Core.List.{List, [], _∷_, _++_}
-use lib.ListN.{length, take, drop}
+use mathlib.Core.List.{List, [], _++_}
+use lib.ListN.{take, drop}
 use lib.Dec.{eqb}
-use lib.IntN.{negℤ, natAbs}
-use Rattle.field.specs.Field.{textOf}
+use lib.IntN.{negℤ}
 use Rattle.field.specs.declared.Field.{Field}
 use Rattle.field.specs.declared.Field.the-variants.{Blank, Ill, Number}
 use Rattle.line.specs.declared.Entry.{Entry}
 use Rattle.line.specs.Line.{entryOf}
-use Rattle.turn.specs.Text.{columns, blank, newline}
-
--- ---- a field in its columns
-
-abbrev pub shown : ℕ → Field → List ℕ
-shown width Blank = blank width
-shown width Ill = []
-shown width (Number z) = columns width z
-
--- it has room there
-abbrev pub Fits : ℕ → Field → Type 0
-Fits width Blank = Unit {0}
-Fits width Ill = ⊥
-Fits width (Number z) = (length (textOf z) ≤ width) × (natAbs z < 10 ^ 15)
-
--- ---- a node line by its fields
-
-abbrev pub entryText : Entry → List ℕ
-entryText e = shown 4 (e .number) ++ (32 ∷ e .letter ∷ (shown 5 (e .parent) ++ (shown 5 (e .weight) ++ (shown 8 (e .utility) ++ newline))))
-
--- its numbers have room in their columns
-pub record Roomy (e : Entry) : Type 0 where
-  pub number : Fits 4 (e .number)
-  pub parent : Fits 5 (e .parent)
-  pub weight : Fits 5 (e .weight)
-  pub utility : Fits 8 (e .utility)
+use Rattle.writing.specs.Inside.{entryText, Roomy}
 
 -- "M and N exchanged": M is 77, N is 78
 abbrev pub turnLetter : ℕ → ℕ

@@ -8,7 +8,7 @@ use Rattle.line.specs.declared.Head.{Head}
 use Rattle.line.specs.declared.Line.{Line}
 use Rattle.table.specs.Tree.{Kind, MAX, MIN, CHANCE, Forest, end, leaf, inner}
 use Rattle.table.specs.Table.{Table}
-use Rattle.turn.specs.Text.{tableText}
+use Rattle.writing.specs.Text.{tableText}
 
 -- "M and N exchanged", in the numbers that stand for kinds
 abbrev pub turnCode : ℕ → ℕ

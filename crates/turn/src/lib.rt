@@ -3,63 +3,29 @@
 ghost use mathlib.Core.Path.{_≡_};
 ghost use mathlib.Core.List.{_++_};
 ghost use Prim.Native.Nat.{_+_, _*_, _≤_};
-ghost use lib.ListN.{length, drop, replicate};
+ghost use lib.ListN.{length, drop};
 ghost use lib.Seq.{sets};
 ghost use Rattle.line.specs.Line.{entryOf};
 ghost use Rattle.line.specs.Inside.{Ranged};
-ghost use Rattle.turn.specs.Text.{totalsText, headerText};
+ghost use Rattle.writing.specs.Text.{headerText};
+ghost use Rattle.writing.specs.Inside.{Fits, entryText, Roomy};
 ghost use Rattle.turn.specs.Turn.{turnHead};
-ghost use Rattle.turn.specs.Inside.{shown, Fits, entryText, Roomy, turnLetter, negated as negatedField, turnEntry, turnedRows, RowsRoomy};
+ghost use Rattle.turn.specs.Inside.{turnLetter, negated as negatedField, turnEntry, turnedRows, RowsRoomy};
 use field::Field;
+use line::Entry;
 use line::Head;
 
-// Blanks in the `width` columns from the byte `at` on.
-fn clear(buffer: &mut [u8], at: usize, width: usize)
-    requires { ⌜ at + width ≤ length (now buffer) ⌝ }
-    ensures { λ _. ⌜ now (buffer .exit) ≡ sets (now (buffer .entry)) at (replicate width 32) ⌝ }
+// The turned header.
+fn turned_head(h: Head) -> Head
+    requires { ⌜ Ranged h ⌝ }
+    ensures { λ r. ⌜ r ≡ turnHead h ⌝ }
 {
-    let mut i = 0;
-    while i < width {
-        buffer[at + i] = b' ';
-        i += 1;
+    Head {
+        total: h.total,
+        second: h.second,
+        lowest: -h.highest,
+        highest: -h.lowest,
     }
-}
-
-// The field f in the `width` columns from the byte `at` on.
-fn put(buffer: &mut [u8], at: usize, width: usize, f: Field)
-    requires { ⌜ (at + width ≤ length (now buffer)) × Fits width f ⌝ }
-    ensures { λ _. ⌜ now (buffer .exit) ≡ sets (now (buffer .entry)) at (shown width f) ⌝ }
-{
-    match f {
-        Field::Blank => clear(buffer, at, width),
-        Field::Ill => {}
-        Field::Number(z) => field::write(buffer, at, width, z),
-    }
-}
-
-// T in columns 5-8, or after a second total in 7-8.
-fn put_totals(buffer: &mut [u8], h: Head)
-    requires { ⌜ (25 ≤ length (now buffer)) × Ranged h ⌝ }
-    ensures { λ _. ⌜ now (buffer .exit) ≡ sets (now (buffer .entry)) 4 (totalsText h) ⌝ }
-{
-    if h.second == 0 {
-        put(buffer, 4, 4, Field::Number(h.total as i64));
-        return;
-    }
-    put(buffer, 4, 2, Field::Number(h.second as i64));
-    put(buffer, 6, 2, Field::Number(h.total as i64));
-}
-
-// The turned header of n nodes.
-fn turn_header(h: Head, n: usize, buffer: &mut [u8])
-    requires { ⌜ (25 ≤ length (now buffer)) × (n ≤ 1024) × Ranged h ⌝ }
-    ensures { λ _. ⌜ now (buffer .exit) ≡ sets (now (buffer .entry)) 0 (headerText (turnHead h) n) ⌝ }
-{
-    put(buffer, 0, 4, Field::Number(n as i64));
-    put_totals(buffer, h);
-    put(buffer, 8, 8, Field::Number(-h.highest));
-    put(buffer, 16, 8, Field::Number(-h.lowest));
-    buffer[24] = b'\n';
 }
 
 fn turned_letter(b: u8) -> u8
@@ -90,14 +56,14 @@ fn turn_line(line: &[u8], buffer: &mut [u8], at: usize)
     requires { ⌜ (length (now line) ≡ 25) × (at + 25 ≤ length (now buffer)) × Roomy (turnEntry (entryOf (now line))) ⌝ }
     ensures { λ _. ⌜ now (buffer .exit) ≡ sets (now (buffer .entry)) at (entryText (turnEntry (entryOf (now (line .entry))))) ⌝ }
 {
-    let last = at + 24;
-    put(buffer, at, 4, field::read(line, 0, 4));
-    buffer[at + 4] = b' ';
-    buffer[at + 5] = turned_letter(line[5]);
-    put(buffer, at + 6, 5, field::read(line, 6, 5));
-    put(buffer, at + 11, 5, field::read(line, 11, 5));
-    put(buffer, at + 16, 8, negated(field::read(line, 16, 8)));
-    buffer[last] = b'\n';
+    let e = Entry {
+        number: field::read(line, 0, 4),
+        letter: turned_letter(line[5]),
+        parent: field::read(line, 6, 5),
+        weight: field::read(line, 11, 5),
+        utility: negated(field::read(line, 16, 8)),
+    };
+    writing::put_entry(buffer, at, e);
 }
 
 // The n node lines, each where it stands in the text.
@@ -118,6 +84,6 @@ pub fn turn(text: &[u8], h: Head, n: usize, buffer: &mut [u8])
     requires { ⌜ (25 * n + 25 ≤ length (now text)) × (25 * n + 25 ≤ length (now buffer)) × (n ≤ 1024) × Ranged h × RowsRoomy n (drop 25 (now text)) ⌝ }
     ensures { λ _. ⌜ now (buffer .exit) ≡ sets (now (buffer .entry)) 0 (headerText (turnHead h) n ++ turnedRows n (drop 25 (now (text .entry)))) ⌝ }
 {
-    turn_header(h, n, buffer);
+    writing::put_header(buffer, turned_head(h), n);
     turn_lines(text, n, buffer);
 }

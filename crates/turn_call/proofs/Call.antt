@@ -20,7 +20,7 @@ use Rattle.table.proofs.Places.{refused-line}
 use Rattle.table.proofs.Accepted.{accepted-ranged, accepted-size}
 use Rattle.scale.proofs.Taken.{Taken, of-table}
 use Rattle.turn.specs.Turn.{turnHead, turnedText}
-use Rattle.turn.specs.Text.{headerText}
+use Rattle.writing.specs.Text.{headerText}
 use Rattle.turn.specs.Inside.{turnedRows, RowsRoomy}
 use Rattle.turn.proofs.Accepted.{turned-length}
 use Rattle.turn.proofs.Turned.{text-size, rows-roomy, turned-laid}

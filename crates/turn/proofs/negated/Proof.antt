@@ -7,7 +7,8 @@ use lib.IntN.{ℤ, natAbs}
 use Rattle.field.specs.declared.Field.{Field}
 use Rattle.field.specs.declared.Field.the-variants.{Number}
 use Rattle.field.proofs.Bits.{abs-neg, neg-fits, neg-back}
-use Rattle.turn.specs.Inside.{Fits, negated}
+use Rattle.writing.specs.Inside.{Fits}
+use Rattle.turn.specs.Inside.{negated}
 use Rattle.turn.proofs.negated.Statement.{statement}
 use Rattle.turn.proofs.negated.Tie as tie
 

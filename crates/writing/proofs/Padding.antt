@@ -28,7 +28,7 @@ use Rattle.table.specs.Padding.{columnsOf, SameField, SameTotals, one-total, tw
 use Rattle.table.proofs.Grown.{lines-first}
 use Rattle.table.proofs.Known.{read-length}
 use Rattle.table.proofs.Accepted.{checked, accepted-ranged, accepted-size}
-use Rattle.turn.proofs.Said.{headingFor, isNone, Said, line-said, HeadSaid, header-said}
+use Rattle.writing.proofs.Said.{headingFor, isNone, Said, line-said, HeadSaid, header-said}
 
 -- ---- node lines one after another
 

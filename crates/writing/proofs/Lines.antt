@@ -19,8 +19,8 @@ use Rattle.line.specs.declared.Heading.{Heading}
 use Rattle.line.specs.declared.Entry.{Entry}
 use Rattle.line.specs.Line.{isIll, hasNumber, secondOf, headingOf, entryOf}
 use Rattle.line.proofs.Columns.{total-columns}
-use Rattle.turn.specs.Text.{newline}
-use Rattle.turn.specs.Inside.{shown, Fits, entryText, Roomy}
+use Rattle.writing.specs.Text.{newline}
+use Rattle.writing.specs.Inside.{shown, Fits, entryText, Roomy}
 
 -- ---- a field in its columns
 

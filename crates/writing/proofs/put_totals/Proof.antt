@@ -1,4 +1,4 @@
--- `turn::put_totals` meets its contract. Assumes nothing.
+-- `writing::put_totals` meets its contract. Assumes nothing.
 use Prim.Native.Nat.{ℕ, _≤_}
 use mathlib.Core.Path.{ap, ap₂, _∙_}
 use mathlib.Core.List.{List}
@@ -9,10 +9,10 @@ use denote.Ref.{now}
 use lib.Dec.{lit<, lit≤}
 use lib.Seq.{sets}
 use lib.IntN.{ℤ}
-use Rattle.turn.specs.Text.{columns}
-use Rattle.turn.proofs.Stored.{handed, fits-handed, totals-stored}
-use Rattle.turn.proofs.put_totals.Statement.{statement}
-use Rattle.turn.proofs.put_totals.Tie as tie
+use Rattle.writing.specs.Text.{columns}
+use Rattle.writing.proofs.Stored.{handed, fits-handed, totals-stored}
+use Rattle.writing.proofs.put_totals.Statement.{statement}
+use Rattle.writing.proofs.put_totals.Tie as tie
 
 cast-t7 : tie.Need-cast-t7
 cast-t7 c = search needs

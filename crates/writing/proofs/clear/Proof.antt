@@ -1,13 +1,13 @@
--- `turn::clear` meets its contract. The loop's invariant: storing the blanks still to come gives what storing all of them gives. Assumes nothing.
+-- `writing::clear` meets its contract. The loop's invariant: storing the blanks still to come gives what storing all of them gives. Assumes nothing.
 use Prim.Native.Nat.{_+_, _-_, _≤_}
 use mathlib.Core.Path.{_≡_, refl, sym, _∙_}
 use native.Mathlib.Omega.{arith}
 use denote.Ref.{now}
 use lib.ListN.{length, replicate, length-set}
 use lib.Seq.{sets}
-use Rattle.turn.proofs.Lines.{blank-stored, blanks-first, blanks-done}
-use Rattle.turn.proofs.clear.Statement.{statement}
-use Rattle.turn.proofs.clear.Tie as tie
+use Rattle.writing.proofs.Lines.{blank-stored, blanks-first, blanks-done}
+use Rattle.writing.proofs.clear.Statement.{statement}
+use Rattle.writing.proofs.clear.Tie as tie
 
 abbrev Inv-loop : tie.InvT-loop
 Inv-loop buffer₀ at width i₀ buffer i =

@@ -1,4 +1,4 @@
--- `turn::put` meets its contract. Assumes nothing.
+-- `writing::put` meets its contract. Assumes nothing.
 use Prim.Native.Nat.{ℕ, _≤_, _<_, _^_}
 use mathlib.Core.Path.{_≡_, sym, ap, subst, _∙_}
 use borrow.Author.Needs.{needs}
@@ -12,9 +12,9 @@ use Rattle.field.specs.Field.{textOf, written}
 use Rattle.field.specs.declared.Field.{Field}
 use Rattle.field.specs.declared.Field.the-variants.{Number}
 use Rattle.field.proofs.Stores.{written-stored}
-use Rattle.turn.specs.Inside.{shown, Fits}
-use Rattle.turn.proofs.put.Statement.{statement}
-use Rattle.turn.proofs.put.Tie as tie
+use Rattle.writing.specs.Inside.{shown, Fits}
+use Rattle.writing.proofs.put.Statement.{statement}
+use Rattle.writing.proofs.put.Tie as tie
 
 -- a number that has room
 fitting : (width : ℕ) (f : Field) (z : ℤ) → f ≡ Number z → Fits width f → (length (textOf z) ≤ width) × (natAbs z < 10 ^ 15)

@@ -25,21 +25,11 @@ use Rattle.line.specs.Inside.{Ranged}
 use Rattle.line.proofs.Signs.{true-ne-false}
 use Rattle.line.proofs.Checks.{or-left, or-right}
 use Rattle.line.proofs.Fine.{unless-fine, nor9, nor10, Valued, line-read, valued-small}
-use Rattle.turn.specs.Text.{columns, blank, newline, headerText, letterOf, lineText}
-use Rattle.turn.specs.Inside.{shown, entryText}
-use Rattle.turn.proofs.Lines.{headingText, Written, HeadWritten}
+use Rattle.writing.specs.Text.{columns, blank, newline, headerText, letterOf, lineText}
+use Rattle.writing.specs.Inside.{shown, entryText, entryFor, Short}
+use Rattle.writing.proofs.Lines.{headingText, Written, HeadWritten}
 
--- ---- the fields that a line and a header are written in
-
-abbrev pub entryFor : Line → Entry
-entryFor l =
-    record {
-      number = Number (pos (l .node));
-      letter = letterOf (l .kind);
-      parent = cond (eqb (l .node) 0) Blank (Number (pos (l .parent)));
-      weight = cond (eqb (l .weight) 0) Blank (Number (pos (l .weight)));
-      utility = cond (eqb (l .kind) 0) (Number (l .utility)) Blank;
-    }
+-- ---- the fields that a header is written in
 
 abbrev pub headingFor : Head → ℕ → Heading
 headingFor h n =
@@ -141,13 +131,6 @@ letter-back b e = go (eqb b 76) (eqb b 77) (eqb b 78) (eqb b 67) refl refl refl 
     go false false false false x y z w e = absurd (true-ne-false e)
 
 -- ---- an accepted node line
-
--- its numbers are small
-pub record Short (l : Line) : Type 0 where
-  pub node : l .node < 10 ^ 4
-  pub parent : l .parent < 10 ^ 5
-  pub weight : l .weight < 10 ^ 5
-  pub utility : natAbs (l .utility) < 10 ^ 7
 
 pub record Said (s : List ℕ) (l : Line) : Type 0 where
   pub entry : entryOf s ≡ entryFor l
