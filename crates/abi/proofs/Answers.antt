@@ -18,6 +18,8 @@ use Rattle.turn_call.specs.declared.Turned
 use Rattle.turn_call.specs.declared.Turned.{Turned}
 use Rattle.turn_call.specs.Call.{turnCall}
 use Rattle.turn_call.proofs.Call.{turn-line}
+use Rattle.recipe_call.specs.Call.{recipeOf, madeOf, recipeCall}
+use Rattle.recipe_call.proofs.Call.{recipe-line, written-long}
 use Rattle.search_call.specs.declared.Bounded
 use Rattle.search_call.specs.declared.Bounded.{Bounded}
 use Rattle.search_call.specs.Call.{withinCall}
@@ -33,7 +35,7 @@ use Rattle.report_call.specs.declared.Reported.{Reported}
 use Rattle.report_call.specs.Call.{reportCall}
 use Rattle.report_call.proofs.Answered.{report-refused, report-totals}
 use Rattle.codes.specs.Numbers.{nodeNumber}
-use Rattle.codes.specs.Inside.{SmallReading, SmallExact, SmallOpinion, SmallBounded, SmallRolled, SmallTurned, SmallIndexed, SmallReported}
+use Rattle.codes.specs.Inside.{SmallReading, SmallExact, SmallOpinion, SmallBounded, SmallRolled, SmallTurned, SmallMade, SmallIndexed, SmallReported}
 
 node-small : (p : Play) → PlayBelow 1024 p → nodeNumber p < 1024
 node-small (Child n) h = h
@@ -103,6 +105,14 @@ module _ (s : List ℕ) where
       go : (t : Turned) → turnCall (readText s) room ≡ t → SmallTurned t
       go (Turned.the-variants.Refused r) e = turn-line s room r e
       go (Turned.the-variants.Written n) e = tt
+
+-- of any recipe
+pub made-small : (seed branching depth dice : ℤ) (room : ℕ) → SmallMade (recipeCall seed branching depth dice room)
+made-small seed branching depth dice room = go (recipeOf seed branching depth dice room) refl
+  where
+    go : (v : Verdict (List ℕ)) → recipeOf seed branching depth dice room ≡ v → SmallMade (madeOf v)
+    go (refused r) e = recipe-line seed branching depth dice room r e
+    go (fine s) e = let z = written-long seed branching depth dice room s e in omega (arith, z .0, z .1)
 
 -- of any file
 pub reported-small : (file : List ℕ) (scale : ℤ) (room : ℕ) → SmallReported (reportCall file scale room)

@@ -15,7 +15,8 @@ ghost use Rattle.rollout_call.specs.Records.{recorded};
 ghost use Rattle.report_call.specs.Call as files;
 ghost use Rattle.report_call.specs.Call.{reportCall, reportKinds, reportLosses, reportMarks};
 ghost use Rattle.turn_call.specs.Call.{turnCall, turnBytes};
-ghost use Rattle.codes.specs.Numbers.{readCode, numbersOf, worthCode, worthNumbers, judgeCode, judgeNumbers, searchCode, searchNumbers, indexCode, rollCode, rollNumbers, turnedCode, reportCode, reportNumbers, put};
+ghost use Rattle.recipe_call.specs.Call.{recipeCall, recipeBytes};
+ghost use Rattle.codes.specs.Numbers.{readCode, numbersOf, worthCode, worthNumbers, judgeCode, judgeNumbers, searchCode, searchNumbers, indexCode, rollCode, rollNumbers, turnedCode, recipeCode, recipeNumbers, reportCode, reportNumbers, put};
 use rollout_call::Record;
 
 // An accepted table: its numbers of nodes, T, the lowest and the highest end, K, G, its number of leaves and its second total (0 for none) go to
@@ -131,6 +132,26 @@ pub extern "C" fn margin_turn(text: &[u8], buffer: &mut [u8]) -> u64
     ensures writes { λ _. ⌜ now (buffer .exit) ≡ laid (turnBytes (readText (now (text .entry))) (length (now (buffer .entry)))) (now (buffer .entry)) ⌝ }
 {
     codes::turned_code(turn_call::turn_table(text, buffer))
+}
+
+// The table of a recipe: its text goes to the start of `buffer`, and the number of its bytes to `numbers`. Where the call is refused, nothing is written.
+#[no_mangle]
+pub extern "C" fn margin_recipe(
+    seed: i64,
+    branching: i64,
+    depth: i64,
+    dice: i64,
+    buffer: &mut [u8],
+    numbers: &mut [i64],
+) -> u64
+    ensures code { λ r. ⌜ r ≡ recipeCode (recipeCall seed branching depth dice (length (now (buffer .entry)))) ⌝ }
+    ensures writes { λ _. ⌜ now (buffer .exit) ≡ laid (recipeBytes seed branching depth dice (length (now (buffer .entry)))) (now (buffer .entry)) ⌝ }
+    ensures numbers { λ _. ⌜ now (numbers .exit) ≡ put 0 (recipeNumbers (recipeCall seed branching depth dice (length (now (buffer .entry))))) (now (numbers .entry)) ⌝ }
+{
+    codes::put_made(
+        recipe_call::write_recipe(seed, branching, depth, dice, buffer),
+        numbers,
+    )
 }
 
 // Rollouts under a policy list: the worth in grains and the number of leaves read go to `numbers`, the leaves read to `leaves`, in reading

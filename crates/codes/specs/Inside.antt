@@ -15,6 +15,8 @@ use Rattle.rolled.specs.declared.Rolled
 use Rattle.rolled.specs.declared.Rolled.{Rolled}
 use Rattle.turn_call.specs.declared.Turned
 use Rattle.turn_call.specs.declared.Turned.{Turned}
+use Rattle.recipe_call.specs.declared.Made
+use Rattle.recipe_call.specs.declared.Made.{Made}
 use Rattle.index_call.specs.declared.Indexed
 use Rattle.index_call.specs.declared.Indexed.{Indexed}
 use Rattle.report.specs.Inside.{SmallTotals}
@@ -61,6 +63,10 @@ SmallRolled (Rolled.the-variants.Refused r) = lineOf r ≤ 1024
 abbrev pub SmallTurned : Turned → Type 0
 SmallTurned (Turned.the-variants.Written n) = Unit {0}
 SmallTurned (Turned.the-variants.Refused r) = lineOf r ≤ 1024
+
+abbrev pub SmallMade : Made → Type 0
+SmallMade (Made.the-variants.Written n) = n < 2 ^ 63
+SmallMade (Made.the-variants.Refused r) = lineOf r ≤ 1024
 
 abbrev pub SmallIndexed : Indexed → Type 0
 SmallIndexed Indexed.the-variants.Built = Unit {0}

@@ -19,6 +19,9 @@ use Rattle.judge.specs.declared.Opinion.{Opinion}
 use Rattle.judge.specs.Call.{judgeNumber, judgeLine}
 use Rattle.turn_call.specs.Call.{turnedNumber, turnedLine}
 use Rattle.turn_call.specs.declared.Turned.{Turned}
+use Rattle.recipe_call.specs.declared.Made
+use Rattle.recipe_call.specs.declared.Made.{Made}
+use Rattle.recipe_call.specs.Call.{madeNumber, madeLine}
 use Rattle.search_call.specs.declared.Bounds.{Bounds}
 use Rattle.search_call.specs.declared.Bounded
 use Rattle.search_call.specs.declared.Bounded.{Bounded}
@@ -92,6 +95,14 @@ rollNumbers (Rolled.the-variants.Refused r) = []
 -- the same of turning
 abbrev pub turnedCode : Turned → ℕ
 turnedCode t = 100 * turnedLine t + turnedNumber t
+
+-- the same of a recipe: the number of bytes written
+abbrev pub recipeCode : Made → ℕ
+recipeCode m = 100 * madeLine m + madeNumber m
+
+abbrev pub recipeNumbers : Made → List ℤ
+recipeNumbers (Made.the-variants.Written n) = pos n ∷ []
+recipeNumbers (Made.the-variants.Refused r) = []
 
 -- the same of building an index
 abbrev pub indexCode : Indexed → ℕ

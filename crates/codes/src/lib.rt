@@ -5,13 +5,14 @@ ghost use Prim.Native.Nat.{_<_, _≤_, _^_};
 ghost use lib.ListN.{set};
 ghost use lib.IntN.{pos};
 ghost use Rattle.line.specs.Refusal.{lineOf};
-ghost use Rattle.codes.specs.Numbers.{readCode, numbersOf, worthCode, worthNumbers, judgeCode, judgedNumbers, judgeNumbers, nodeNumber, boundsNumbers, searchCode, searchNumbers, rollCode, rollNumbers, turnedCode, indexCode, totalsNumbers, reportCode, reportNumbers, put};
-ghost use Rattle.codes.specs.Inside.{SmallSummary, SmallBounds, SmallReading, SmallExact, SmallOpinion, SmallBounded, SmallRolled, SmallTurned, SmallIndexed, SmallReported};
+ghost use Rattle.codes.specs.Numbers.{readCode, numbersOf, worthCode, worthNumbers, judgeCode, judgedNumbers, judgeNumbers, nodeNumber, boundsNumbers, searchCode, searchNumbers, rollCode, rollNumbers, turnedCode, recipeCode, recipeNumbers, indexCode, totalsNumbers, reportCode, reportNumbers, put};
+ghost use Rattle.codes.specs.Inside.{SmallSummary, SmallBounds, SmallReading, SmallExact, SmallOpinion, SmallBounded, SmallRolled, SmallTurned, SmallMade, SmallIndexed, SmallReported};
 ghost use Rattle.report.specs.Inside.{SmallTotals};
 use index_call::Indexed;
 use judge::Judged;
 use judge::Opinion;
 use line::Refusal;
+use recipe_call::Made;
 use report::Totals;
 use report_call::Reported;
 use rolled::Rolled;
@@ -221,6 +222,21 @@ pub fn index_code(i: Indexed) -> u64
     match i {
         Indexed::Refused(r) => refusal_code(r),
         Indexed::Built => 0,
+    }
+}
+
+// A recipe has one number, that of the bytes written.
+pub fn put_made(m: Made, numbers: &mut [i64]) -> u64
+    requires { ⌜ SmallMade m ⌝ }
+    ensures code { λ n. ⌜ n ≡ recipeCode m ⌝ }
+    ensures numbers { λ _. ⌜ now (numbers .exit) ≡ put 0 (recipeNumbers m) (now (numbers .entry)) ⌝ }
+{
+    match m {
+        Made::Refused(r) => refusal_code(r),
+        Made::Written(n) => {
+            put_at(numbers, 0, signed(n as u64));
+            0
+        }
     }
 }
 

@@ -16,3 +16,4 @@ pub mod Index
 pub mod Indexed
 pub mod Narrow
 pub mod Padded
+pub mod Recipes

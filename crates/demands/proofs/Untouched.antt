@@ -18,6 +18,7 @@ use Rattle.judge.specs.declared.Opinion
 use Rattle.judge.specs.declared.Opinion.{Opinion}
 use Rattle.judge.specs.Call.{judgeCall}
 use Rattle.turn_call.specs.Call.{turnOf, turnAnswer, turnWritten}
+use Rattle.recipe_call.specs.Call.{recipeOf, madeOf, bytesOf}
 use Rattle.search_call.specs.Call.{Sought, sought, soughtWithin, searchAnswer, searchList}
 use Rattle.index.specs.Index.{lowsOf, highsOf, written}
 use Rattle.index_call.specs.Call.{indexed, indexAnswer, indexEntries, soughtIndexed, roomIn as roomForIndex}
@@ -29,8 +30,8 @@ use Rattle.mark.specs.declared.Choice
 use Rattle.mark.specs.declared.Choice.{Choice}
 use Rattle.mark.specs.Marks.{choiceOf}
 use Rattle.report_call.specs.Call.{roomIn, reported, reportAnswer, filled, marksBy}
-use Rattle.codes.specs.Numbers.{readCode, numbersOf, worthCode, worthNumbers, judgeCode, judgeNumbers, searchCode, searchNumbers, rollCode, rollNumbers, turnedCode, indexCode, reportCode, reportNumbers, put}
-use Rattle.demands.specs.Untouched.{Refuses, CodesRefuse, ReportCodesRefuse, SlicesKept, ReadUntouched, SearchUntouched, WithinUntouched, TurnUntouched, IndexUntouched, IndexedUntouched, RollUntouched, ReportUntouched, CReadUntouched, CWorthUntouched, CJudgeUntouched, CSearchUntouched, CWithinUntouched, CTurnUntouched, CIndexUntouched, CIndexedUntouched, CRollUntouched, CReportUntouched}
+use Rattle.codes.specs.Numbers.{readCode, numbersOf, worthCode, worthNumbers, judgeCode, judgeNumbers, searchCode, searchNumbers, rollCode, rollNumbers, turnedCode, recipeCode, recipeNumbers, indexCode, reportCode, reportNumbers, put}
+use Rattle.demands.specs.Untouched.{Refuses, CodesRefuse, ReportCodesRefuse, SlicesKept, ReadUntouched, SearchUntouched, WithinUntouched, TurnUntouched, RecipeUntouched, IndexUntouched, IndexedUntouched, RollUntouched, ReportUntouched, CReadUntouched, CWorthUntouched, CJudgeUntouched, CSearchUntouched, CWithinUntouched, CTurnUntouched, CRecipeUntouched, CIndexUntouched, CIndexedUntouched, CRollUntouched, CReportUntouched}
 
 slices-kept : (r : Refusal) (kind stop weight height : List ℕ) → SlicesKept (refused r) kind stop weight height
 slices-kept r kind stop weight height =
@@ -66,6 +67,11 @@ search-code (fine s) list numbers c = absurd (c refl)
 turn-code : (v : Verdict (List ℕ)) (buffer : List ℕ) → Refuses (turnedCode (turnAnswer v)) → laid (turnWritten v) buffer ≡ buffer
 turn-code (refused r) buffer c = refl
 turn-code (fine s) buffer c = absurd (c refl)
+
+recipe-code : (v : Verdict (List ℕ)) (buffer : List ℕ) (numbers : List ℤ) → Refuses (recipeCode (madeOf v))
+    → (put 0 (recipeNumbers (madeOf v)) numbers ≡ numbers) × (laid (bytesOf v) buffer ≡ buffer)
+recipe-code (refused r) buffer numbers c = (refl, refl)
+recipe-code (fine s) buffer numbers c = absurd (c refl)
 
 written-none : (l : List ℤ) → written [] l ≡ l
 unfolding written
@@ -107,6 +113,9 @@ c-within-untouched s m b list numbers c = search-code (soughtWithin (readText s)
 pub c-turn-untouched : CTurnUntouched
 c-turn-untouched s buffer c = turn-code (turnOf (readText s) (length buffer)) buffer c
 
+pub c-recipe-untouched : CRecipeUntouched
+c-recipe-untouched seed branching depth dice buffer numbers c = recipe-code (recipeOf seed branching depth dice (length buffer)) buffer numbers c
+
 pub c-index-untouched : CIndexUntouched
 c-index-untouched s lows highs c = index-code (indexed (readText s) (roomForIndex lows highs)) lows highs c
 
@@ -134,6 +143,10 @@ within-untouched s m b list r e = c-within-untouched s m b list [] (λ z. codes-
 
 pub turn-untouched : TurnUntouched
 turn-untouched s buffer r e = c-turn-untouched s buffer (λ z. codes-refuse r (sym (ap turnedCode e) ∙ z))
+
+pub recipe-untouched : RecipeUntouched
+recipe-untouched seed branching depth dice buffer r e =
+    c-recipe-untouched seed branching depth dice buffer [] (λ z. codes-refuse r (sym (ap recipeCode e) ∙ z)) .1
 
 pub index-untouched : IndexUntouched
 index-untouched s lows highs r e = c-index-untouched s lows highs (λ z. codes-refuse r (sym (ap indexCode e) ∙ z))

@@ -11,3 +11,4 @@ pub mod Sums
 pub mod Totals
 pub mod Indexed
 pub mod Padded
+pub mod Recipes

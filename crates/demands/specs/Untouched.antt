@@ -14,6 +14,8 @@ use Rattle.worth.specs.Call.{exactCall}
 use Rattle.judge.specs.Call.{judgeCall}
 use Rattle.turn_call.specs.declared.Turned
 use Rattle.turn_call.specs.Call.{turnCall, turnBytes}
+use Rattle.recipe_call.specs.declared.Made
+use Rattle.recipe_call.specs.Call.{recipeCall, recipeBytes}
 use Rattle.search_call.specs.declared.Bounded
 use Rattle.search_call.specs.Call.{searchCall, searchReads, withinCall, withinReads}
 use Rattle.index_call.specs.declared.Indexed
@@ -25,7 +27,7 @@ use Rattle.rolled.specs.Call.{rollCall, rollReads, rollStore}
 use Rattle.rollout_call.specs.Records.{recorded}
 use Rattle.report_call.specs.declared.Reported
 use Rattle.report_call.specs.Call.{roomIn, reportCall, reportKinds, reportLosses, reportMarks}
-use Rattle.codes.specs.Numbers.{readCode, numbersOf, worthCode, worthNumbers, judgeCode, judgeNumbers, searchCode, searchNumbers, rollCode, rollNumbers, turnedCode, indexCode, reportCode, reportNumbers, put}
+use Rattle.codes.specs.Numbers.{readCode, numbersOf, worthCode, worthNumbers, judgeCode, judgeNumbers, searchCode, searchNumbers, rollCode, rollNumbers, turnedCode, recipeCode, recipeNumbers, indexCode, reportCode, reportNumbers, put}
 
 -- ---- the calls of Rattle; the exact worth and the judgement are lent nothing but the text
 
@@ -57,6 +59,12 @@ abbrev pub TurnUntouched : Type 0
 TurnUntouched =
     (s : List ℕ) (buffer : List ℕ) (r : Refusal) → turnCall (readText s) (length buffer) ≡ Turned.the-variants.Refused r
     → laid (turnBytes (readText s) (length buffer)) buffer ≡ buffer
+
+-- a recipe takes numbers alone (document 02, Item 7)
+abbrev pub RecipeUntouched : Type 0
+RecipeUntouched =
+    (seed branching depth dice : ℤ) (buffer : List ℕ) (r : Refusal) → recipeCall seed branching depth dice (length buffer) ≡ Made.the-variants.Refused r
+    → laid (recipeBytes seed branching depth dice (length buffer)) buffer ≡ buffer
 
 abbrev pub RollUntouched : Type 0
 RollUntouched =
@@ -146,6 +154,12 @@ CIndexedUntouched =
 abbrev pub CTurnUntouched : Type 0
 CTurnUntouched =
     (s buffer : List ℕ) → Refuses (turnedCode (turnCall (readText s) (length buffer))) → laid (turnBytes (readText s) (length buffer)) buffer ≡ buffer
+
+abbrev pub CRecipeUntouched : Type 0
+CRecipeUntouched =
+    (seed branching depth dice : ℤ) (buffer : List ℕ) (numbers : List ℤ) → Refuses (recipeCode (recipeCall seed branching depth dice (length buffer)))
+    → (put 0 (recipeNumbers (recipeCall seed branching depth dice (length buffer))) numbers ≡ numbers)
+    × (laid (recipeBytes seed branching depth dice (length buffer)) buffer ≡ buffer)
 
 abbrev pub CRollUntouched : Type 0
 CRollUntouched =

@@ -2,7 +2,7 @@
 use Prim.Native.Nat.{_≤_}
 use native.Mathlib.Omega.{arith}
 use Rattle.line.specs.declared.Refusal.{Refusal}
-use Rattle.line.specs.declared.Refusal.the-variants.{Length, IllWritten, OutOfRange, Misnumbered, UnknownKind, WrongParent, Misfilled, Childless, WrongSum, TooDeep, NoRoom, BadMargin, HasChance, NoChild, TooMany, NoPosition, BadBudget, TooManyGrains, BadScale, BadIndex}
+use Rattle.line.specs.declared.Refusal.the-variants.{Length, IllWritten, OutOfRange, Misnumbered, UnknownKind, WrongParent, Misfilled, Childless, WrongSum, TooDeep, NoRoom, BadMargin, HasChance, NoChild, TooMany, NoPosition, BadBudget, TooManyGrains, BadRecipe, BadScale, BadIndex}
 use Rattle.line.specs.Refusal.{numberOf}
 
 range : (r : Refusal) → (1 ≤ numberOf r) × (numberOf r ≤ 22)
@@ -24,6 +24,7 @@ range TooMany = (omega arith, omega arith)
 range NoPosition = (omega arith, omega arith)
 range BadBudget = (omega arith, omega arith)
 range TooManyGrains = (omega arith, omega arith)
+range BadRecipe = (omega arith, omega arith)
 range BadScale = (omega arith, omega arith)
 range BadIndex = (omega arith, omega arith)
 

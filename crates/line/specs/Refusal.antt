@@ -1,10 +1,10 @@
--- Refusals of a table, 1 to 10 and 18, of a call on an accepted one, 11 to 14, 17 and 22, of a match file, 15 and 16, and of a report's scale, 20.
--- Document 01, 'Refused tables and calls'; document 02, Items 1, 3, 5, 11 and 14.
+-- Refusals of a table, 1 to 10 and 18, of a call on an accepted one, 11 to 14, 17 and 22, of a match file, 15 and 16, of a recipe, 19,
+-- and of a report's scale, 20. Document 01, 'Refused tables and calls'; document 02, Items 1, 3, 5, 7, 11 and 14.
 use Prim.Native.Nat.{ℕ}
 use mathlib.Core.Bool.{Bool, cond}
 use mathlib.Core.List.{List, [], _∷_}
 use Rattle.line.specs.declared.Refusal.{Refusal}
-use Rattle.line.specs.declared.Refusal.the-variants.{Length, IllWritten, OutOfRange, Misnumbered, UnknownKind, WrongParent, Misfilled, Childless, WrongSum, TooDeep, NoRoom, BadMargin, HasChance, NoChild, TooMany, NoPosition, BadBudget, TooManyGrains, BadScale, BadIndex}
+use Rattle.line.specs.declared.Refusal.the-variants.{Length, IllWritten, OutOfRange, Misnumbered, UnknownKind, WrongParent, Misfilled, Childless, WrongSum, TooDeep, NoRoom, BadMargin, HasChance, NoChild, TooMany, NoPosition, BadBudget, TooManyGrains, BadRecipe, BadScale, BadIndex}
 
 -- "Returned": the number and the line of every refusal; of Item 1, "15 and 16 have line 0"; of Item 3, "A refusal for which no line
 -- is named has line 0, here and later"; of Item 5, "18, a grain count above 16,777,216, after 9, line 0"; of Item 11, "20, another scale number, ..
@@ -28,6 +28,7 @@ numberOf TooMany = 15
 numberOf NoPosition = 16
 numberOf BadBudget = 17
 numberOf TooManyGrains = 18
+numberOf BadRecipe = 19
 numberOf BadScale = 20
 numberOf BadIndex = 22
 
@@ -50,6 +51,7 @@ lineOf TooMany = 0
 lineOf NoPosition = 0
 lineOf BadBudget = 0
 lineOf TooManyGrains = 0
+lineOf BadRecipe = 0
 lineOf BadScale = 0
 lineOf BadIndex = 0
 

@@ -7,7 +7,7 @@ ghost use Rattle.line.specs.Line.{valueOf, toNat, larger, letterCode};
 ghost use Rattle.line.specs.Inside.{other};
 use field::Field;
 
-// Why a table, a call on an accepted one, a match file or a report's scale is refused. A case that has a line names it: the header is line 0, and
+// Why a table, a call on an accepted one, a match file, a recipe or a report's scale is refused. A case that has a line names it: the header is line 0, and
 // node i is line i + 1.
 pub enum Refusal {
     Length,
@@ -28,6 +28,7 @@ pub enum Refusal {
     NoPosition,
     BadBudget,
     TooManyGrains,
+    BadRecipe,
     BadScale,
     BadIndex,
 }
@@ -90,6 +91,7 @@ pub fn refusal_number(r: Refusal) -> u64
         Refusal::NoPosition => 16,
         Refusal::BadBudget => 17,
         Refusal::TooManyGrains => 18,
+        Refusal::BadRecipe => 19,
         Refusal::BadScale => 20,
         Refusal::BadIndex => 22,
     }
@@ -118,6 +120,7 @@ pub fn refusal_line(r: Refusal) -> usize
         Refusal::NoPosition => 0,
         Refusal::BadBudget => 0,
         Refusal::TooManyGrains => 0,
+        Refusal::BadRecipe => 0,
         Refusal::BadScale => 0,
         Refusal::BadIndex => 0,
     }

@@ -65,6 +65,9 @@ enum-told-10 c = search needs
 enum-told-11 : tie.Need-enum-told-11
 enum-told-11 c = search needs
 
+enum-told-12 : tie.Need-enum-told-12
+enum-told-12 c = search needs
+
 returns : tie.Need-returns
 returns c = sym (ap lineOf (c .enum-told .given .1))
 
@@ -125,6 +128,9 @@ returns-19 c = sym (ap lineOf (c .enum-told10 .given .1))
 returns-20 : tie.Need-returns-20
 returns-20 c = sym (ap lineOf (c .enum-told11 .given .1))
 
+returns-21 : tie.Need-returns-21
+returns-21 c = sym (ap lineOf (c .enum-told12 .given .1))
+
 pub refusal-line-spec : {M : Type 1} → statement M
 refusal-line-spec =
     tie.close
@@ -149,6 +155,7 @@ refusal-line-spec =
     enum-told-9
     enum-told-10
     enum-told-11
+    enum-told-12
     returns
     returns-2
     returns-3
@@ -168,4 +175,5 @@ refusal-line-spec =
     returns-17
     returns-18
     returns-19
-    returns-20)
+    returns-20
+    returns-21)
