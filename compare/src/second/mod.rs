@@ -10,12 +10,14 @@ mod judge;
 mod marking;
 mod program;
 mod read;
+mod recipe;
 mod report;
 mod rollout;
 mod search;
 mod table;
 mod turn;
 mod worth;
+mod write;
 
 pub use faults::{grains_by, leaves_remainder, worth_divided_by, Divisor, GrainCount};
 pub use index::{ends_under, index, is_index, search_indexed};
@@ -23,6 +25,7 @@ pub use judge::{judge, Judgement};
 pub use marking::{mark, steps, Mark, MARKS};
 pub use program::output;
 pub use read::{read, read_up_to};
+pub use recipe::{recipe, Recipe};
 pub use report::{
     positions, report, Entry, Position, Report, Stop, Total, MOST_POSITIONS, PLAY_LINE,
 };
