@@ -33,12 +33,14 @@
 extern "C" {
 #endif
 
-/* The largest table, its text, the most positions of a match, the greatest margin and budget. Areas of these lengths have room for every answer. */
+/* The largest table, its text, the most positions of a match, the greatest margin, budget and seed. Areas of the first three lengths have room for
+ * every answer. */
 #define MARGIN_MOST_NODES 1024
 #define MARGIN_MOST_BYTES 25625
 #define MARGIN_MOST_POSITIONS 500
 #define MARGIN_GREATEST_MARGIN INT64_C(40000000000000)
 #define MARGIN_GREATEST_BUDGET 1024
+#define MARGIN_GREATEST_SEED INT64_C(2147483647)
 
 /* What a refused call returned, taken apart. */
 #define MARGIN_NUMBER(code) ((code) % 100)
@@ -178,6 +180,23 @@ uint64_t margin_rollout(const uint8_t *text, size_t text_len, const uint8_t *pol
  */
 uint64_t margin_report(const uint8_t *file, size_t file_len, int64_t scale, uint8_t *kinds, size_t kinds_len, int64_t *losses,
                        size_t losses_len, uint8_t *marks, size_t marks_len, int64_t *numbers, size_t numbers_len);
+
+/*
+ * Writes a table to test with, from four numbers: equal numbers give equal bytes, wherever and whenever. Refuses 19 where the seed is not 0 to
+ * MARGIN_GREATEST_SEED, `branching` not 2 to 5, `depth` not 0 to 9, `dice` neither 0 (without) nor 1 (with), or the table would have more than
+ * MARGIN_MOST_NODES nodes; then 11 where `buffer` is shorter than the text, which MARGIN_MOST_BYTES never are.
+ *
+ * buffer: the text, 25 bytes for the header and for each node, with blanks before its numbers. Every call that reads a table accepts it.
+ * numbers (1): how many bytes were written.
+ *
+ * M and N play by turns, M at the root, and `depth` plays lead to a leaf; with a depth of 0 there is one leaf alone. Each M and N has `branching`
+ * children. Without dice these are what comes after the play, and T is 1. With dice each of them is a C with as many children of its own, and T is
+ * 5 * (branching - 1), at depth 0 too: the C of play i, counted from 1, gives its child i the weight 4 * (branching - 1), four times in five, and
+ * each other child the weight 1. The ends are 0 and 100. For each leaf, in the order of the lines, a state that begins as the seed becomes
+ * s = (1103515245 * s + 12345) mod 2147483648, and the leaf is worth s / 65536, rounded down, mod 101.
+ */
+uint64_t margin_recipe(int64_t seed, int64_t branching, int64_t depth, int64_t dice, uint8_t *buffer, size_t buffer_len, int64_t *numbers,
+                       size_t numbers_len);
 
 #ifdef __cplusplus
 }

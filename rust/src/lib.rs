@@ -28,13 +28,15 @@
 //! `per_point` make one point; [`points`] writes them in points. [`report`] takes a
 //! match, many tables with the play made in each, and has losses in thousandths of a
 //! point, with the mark that a book prints beside each. With the [`index`] of a table
-//! [`search_indexed`] mostly reads far fewer leaves than [`search`]. The README says how to
-//! write a table and a match, and which ends and margin to choose.
+//! [`search_indexed`] mostly reads far fewer leaves than [`search`]. [`recipe`] writes
+//! tables to test with, from a few numbers. The README says how to write a table and a
+//! match, and which ends and margin to choose.
 
 mod index;
 mod judge;
 mod points;
 pub mod raw;
+mod recipe;
 mod refusal;
 mod report;
 mod rollout;
@@ -47,6 +49,7 @@ pub use index::{Index, index, search_indexed};
 pub use judge::{Judgement, judge};
 pub use points::points;
 pub use raw::Record;
+pub use recipe::{Made, Recipe, recipe};
 pub use refusal::Refusal;
 pub use report::{Loss, Mark, Position, Report, Tally, places, report};
 pub use rollout::{Rolled, rollout};
@@ -90,3 +93,12 @@ pub const GREATEST_MARGIN: i64 = 40_000_000_000_000;
 
 /// The greatest leaf budget: no table has more leaves, so that it is never spent.
 pub const GREATEST_BUDGET: i64 = 1_024;
+
+/// The greatest seed of a recipe.
+pub const GREATEST_SEED: i64 = 2_147_483_647;
+
+/// The least and the greatest branching number of a recipe.
+pub const BRANCHINGS: (i64, i64) = (2, 5);
+
+/// The greatest depth of a recipe, in plays.
+pub const GREATEST_DEPTH: i64 = 9;

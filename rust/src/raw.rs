@@ -6,7 +6,7 @@
 //! writes nothing. What is written, and where, stands in
 //! `include/margin_engine.h`. Entries past an answer keep what they held.
 //!
-//! The only `unsafe` of this package is here. All eleven blocks are sound for the
+//! The only `unsafe` of this package is here. All twelve blocks are sound for the
 //! same reasons: the declarations are those of the header, and that of the benchmark's
 //! call is of `crates/timed`; `Record` has the layout of its struct; each pointer
 //! stands with the length of what it points to; it comes from a slice and so is not
@@ -147,6 +147,17 @@ mod abi {
             losses_len: usize,
             marks: *mut u8,
             marks_len: usize,
+            numbers: *mut i64,
+            numbers_len: usize,
+        ) -> u64;
+
+        pub fn margin_recipe(
+            seed: i64,
+            branching: i64,
+            depth: i64,
+            dice: i64,
+            buffer: *mut u8,
+            buffer_len: usize,
             numbers: *mut i64,
             numbers_len: usize,
         ) -> u64;
@@ -376,6 +387,30 @@ pub fn report(
             losses.len(),
             marks.as_mut_ptr(),
             marks.len(),
+            numbers.as_mut_ptr(),
+            numbers.len(),
+        )
+    }
+}
+
+/// Writes the table of a recipe: its text goes to the start of `buffer`. `dice` is 1 for
+/// with and 0 for without. `numbers`: the bytes written.
+pub fn recipe(
+    seed: i64,
+    branching: i64,
+    depth: i64,
+    dice: i64,
+    buffer: &mut [u8],
+    numbers: &mut [i64],
+) -> u64 {
+    unsafe {
+        abi::margin_recipe(
+            seed,
+            branching,
+            depth,
+            dice,
+            buffer.as_mut_ptr(),
+            buffer.len(),
             numbers.as_mut_ptr(),
             numbers.len(),
         )

@@ -13,7 +13,7 @@ use std::fmt;
 #[derive(Clone, Copy, Debug, PartialEq, Eq)]
 #[non_exhaustive]
 pub struct Refusal {
-    /// Which refusal, from 1 to 18, 20 or 22. `docs/REFUSALS.md` says all of each.
+    /// Which refusal, from 1 to 20 or 22. `docs/REFUSALS.md` says all of each.
     pub number: u8,
     /// The line at fault: the header is line 0, and node i is line i + 1. It is 0
     /// for a refusal that no line is to blame for: 1 and those from 11 on.
@@ -129,6 +129,10 @@ impl Refusal {
                 "the grain count would be above 16,777,216",
                 "put fewer C of one of the totals on a path, or take a smaller total",
             ),
+            19 => (
+                "a number of the recipe is out of range, or its table would have more than 1,024 nodes",
+                "give a seed from 0 to 2,147,483,647, a branching number from 2 to 5 and a depth from 0 to 9, and no more plays than 1,024 nodes have room for",
+            ),
             20 => (
                 "there is no marking scale of that number",
                 "give 1, the scale of books in print, or 2, that of new books",
@@ -183,6 +187,7 @@ mod tests {
             (1_000_016, 16, 0, 1),
             (501_000_015, 15, 0, 501),
             (500_102_403, 3, 1_024, 500),
+            (19, 19, 0, 0),
             (20, 20, 0, 0),
             (22, 22, 0, 0),
         ] {
