@@ -6,7 +6,7 @@ use std::fmt;
 
 use crate::input::Source;
 use crate::margin::{Margin, Number};
-use crate::verbs::{Question, VERBS, Verb};
+use crate::verbs::{Question, VERBS, Verb, recipe};
 
 /// What the user wants.
 pub enum Asked {
@@ -31,6 +31,8 @@ pub enum Task {
         scale: Number,
         tsv: bool,
     },
+    /// A table by this recipe.
+    Recipe { asked: recipe::Asked, tsv: bool },
 }
 
 /// A command line that asks nothing, and the verb that it names, if it does.
@@ -151,6 +153,17 @@ impl Words {
         Ok(Task::Matches {
             sources,
             scale,
+            tsv: self.tsv,
+        })
+    }
+
+    /// The task to make a table by this recipe. No word is left for a file.
+    pub fn about_recipe(mut self, asked: recipe::Asked) -> Result<Task, String> {
+        if let Some(word) = self.plain.pop_front() {
+            return Err(too_many(&word));
+        }
+        Ok(Task::Recipe {
+            asked,
             tsv: self.tsv,
         })
     }

@@ -14,7 +14,10 @@ as 12g. A point is one unit of utility; G grains are a point.
 /// What the files of all verbs hold.
 const FILES: &str = "\
 FILE holds a table, for report a match; without one, or with -, it is read from
-standard input.";
+standard input. recipe reads none.";
+
+/// Columns of a verb and what stands after it, in the list of all.
+const CALL: usize = 18;
 
 /// What holds for every verb.
 const ALL: &str = "\
@@ -38,7 +41,11 @@ fn page(verb: &Verb) -> String {
 }
 
 fn list() -> String {
-    let line = |call: String, does: &str| format!("  {call:<18}{does}\n");
+    // A call that is too long for its column has a line of its own.
+    let line = |call: String, does: &str| match call.len() < CALL {
+        true => format!("  {call:<CALL$}{does}\n"),
+        false => format!("  {call}\n  {:<CALL$}{does}\n", ""),
+    };
     let verbs = VERBS.iter().map(|verb| line(verb.call(), verb.does));
     let mut verbs: String = verbs.collect();
     verbs += &line("help VERB".to_string(), "explains a verb");

@@ -40,6 +40,14 @@ pub const MATCH: Holding = Holding {
     help: "FILE holds a match; without one, or with -, it is read from standard input.",
 };
 
+/// Of a verb that reads no file.
+pub const NO_FILE: Holding = Holding {
+    noun: "nothing",
+    limit: 0,
+    usage: "",
+    help: "No file is read.",
+};
+
 /// A file, or standard input.
 pub enum Source {
     File(OsString),

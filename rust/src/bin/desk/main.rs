@@ -1,4 +1,5 @@
-//! The desk's command: questions about a table or a match, answered by the proved engine.
+//! The desk's command: questions about a table or a match, answered by the proved engine,
+//! and tables to test with.
 //! `docs/DESK.md` says what each verb prints.
 
 mod args;
@@ -20,7 +21,7 @@ use args::{Asked, Task};
 use input::{Source, TABLE};
 use output::{complain, print};
 use refused::Refused;
-use verbs::{Question, formed, report};
+use verbs::{Question, formed, recipe, report};
 
 const ANSWERED: u8 = 0;
 
@@ -52,6 +53,7 @@ fn main() -> ExitCode {
             scale,
             tsv,
         }) => report::run(&sources, &scale, tsv),
+        Asked::Task(Task::Recipe { asked, tsv }) => recipe::run(&asked, tsv),
     }
 }
 

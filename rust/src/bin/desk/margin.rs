@@ -9,7 +9,8 @@ pub struct Number {
 
 impl Number {
     /// Reads a whole number, with a minus or without. One past the range of an i64
-    /// counts as its end, which is no number of a child, no scale and no budget either.
+    /// counts as its end, which is no number of a child or of a recipe, no scale and no
+    /// budget either.
     pub fn parse(word: &str) -> Option<Number> {
         let value = whole_number(word)?;
         let word = word.to_string();

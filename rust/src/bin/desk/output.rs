@@ -32,6 +32,14 @@ impl Amount {
     }
 }
 
+/// A number that is not below zero, with a comma before every three digits.
+pub fn grouped(number: i64) -> String {
+    match number {
+        0..1_000 => number.to_string(),
+        _ => format!("{},{:03}", grouped(number / 1_000), number % 1_000),
+    }
+}
+
 /// An answer for people.
 pub struct Page {
     bytes: Vec<u8>,

@@ -1,6 +1,7 @@
 //! How the grain count of a table comes to be too great: 18.
 
 use super::{Line, Nodes, SECOND, Spot, TOTAL_AFTER};
+use crate::output::grouped;
 
 /// The fault of a table whose lines are all right and whose grain count is not. It has
 /// two totals, as one alone comes to no such count.
@@ -61,13 +62,5 @@ fn times(count: u32) -> String {
         1 => "once".to_string(),
         2 => "twice".to_string(),
         _ => format!("{count} times"),
-    }
-}
-
-/// A number that is not below zero, with a comma before every three digits.
-fn grouped(number: i64) -> String {
-    match number {
-        0..1_000 => number.to_string(),
-        _ => format!("{},{:03}", grouped(number / 1_000), number % 1_000),
     }
 }

@@ -2,6 +2,7 @@
 
 mod index;
 pub mod judge;
+pub mod recipe;
 pub mod report;
 mod rollout;
 mod search;
@@ -9,7 +10,7 @@ mod show;
 mod turn;
 mod worth;
 
-use margin_engine::{Kind, Play, Refusal, Table};
+use margin_engine::{Kind, Play, Refusal, Table, read};
 
 use crate::args::{Task, Words};
 use crate::input::Holding;
@@ -25,6 +26,7 @@ pub const VERBS: &[&Verb] = &[
     &turn::VERB,
     &rollout::VERB,
     &report::VERB,
+    &recipe::VERB,
 ];
 
 /// A verb: how it is called, what help says of it, and the question that it asks.
@@ -57,7 +59,8 @@ impl Verb {
             .map(|(name, value)| format!("[{}] ", format!("{name} {value}").trim_end()))
             .collect();
         let files = self.files.usage;
-        format!("desk {} {options}[--tsv] {files}", self.call())
+        let usage = format!("desk {} {options}[--tsv] {files}", self.call());
+        usage.trim_end().to_string()
     }
 }
 
@@ -89,6 +92,24 @@ pub fn formed(answer: &dyn Answer, tsv: bool) -> Vec<u8> {
     let mut page = Page::new(coloured());
     answer.people(&mut page);
     page.into_bytes()
+}
+
+/// A table that the engine wrote, as its text.
+struct Written(Vec<u8>);
+
+impl Answer for Written {
+    fn people(&self, page: &mut Page) {
+        page.raw(&self.0);
+    }
+
+    fn tsv(&self, sheet: &mut Sheet) {
+        let table = read(&self.0).expect("what the engine writes is a table");
+        sheet.row("nodes", &[&table.nodes.len()]);
+        sheet.totals_and_ends(&table);
+        for (number, node) in table.nodes.iter().enumerate() {
+            sheet.node(number, node, &[]);
+        }
+    }
 }
 
 /// The play that a verb speaks of, if there is one.

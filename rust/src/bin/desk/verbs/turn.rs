@@ -1,10 +1,9 @@
 //! `turn`: the table from the other side.
 
-use margin_engine::{Refusal, Turned, read, turn};
+use margin_engine::{Refusal, turn};
 
-use super::{Answer, Question, Verb};
+use super::{Answer, Question, Verb, Written};
 use crate::input::TABLE;
-use crate::output::{Page, Sheet};
 
 pub const VERB: Verb = Verb {
     name: "turn",
@@ -24,21 +23,6 @@ struct Asked;
 
 impl Question for Asked {
     fn answer(&self, text: &[u8]) -> Result<Box<dyn Answer>, Refusal> {
-        Ok(Box::new(turn(text)?))
-    }
-}
-
-impl Answer for Turned {
-    fn people(&self, page: &mut Page) {
-        page.raw(&self.text);
-    }
-
-    fn tsv(&self, sheet: &mut Sheet) {
-        let table = read(&self.text).expect("the turned table is a table");
-        sheet.row("nodes", &[&table.nodes.len()]);
-        sheet.totals_and_ends(&table);
-        for (number, node) in table.nodes.iter().enumerate() {
-            sheet.node(number, node, &[]);
-        }
+        Ok(Box::new(Written(turn(text)?.text)))
     }
 }
