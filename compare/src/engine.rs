@@ -6,7 +6,7 @@ pub use margin_engine::raw::{
     search_within, turn, Record,
 };
 
-use crate::second::MOST_NODES;
+use crate::second::{Recipe, MOST_NODES};
 
 /// The arrays lent to the reading of a table.
 ///
@@ -67,4 +67,15 @@ pub fn judge(text: &[u8], number: i64, numbers: &mut [i64]) -> u64 {
         *number = lent.cast_signed();
     }
     code
+}
+
+/// Writes the table of a recipe.
+pub fn recipe(recipe: Recipe, buffer: &mut [u8], numbers: &mut [i64]) -> u64 {
+    let Recipe {
+        seed,
+        branching,
+        depth,
+        dice,
+    } = recipe;
+    margin_engine::raw::recipe(seed, branching, depth, dice, buffer, numbers)
 }

@@ -10,6 +10,7 @@ pub mod leaves;
 pub mod numbers;
 pub mod padded;
 pub mod reading;
+pub mod recipe;
 pub mod reporting;
 pub mod rolling;
 pub mod searching;
