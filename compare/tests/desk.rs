@@ -23,7 +23,7 @@ use compare::texts::examples::*;
 use compare::texts::knobs::{Kinds, Knobs};
 use compare::texts::padding::{self, blanked, filled};
 
-const EXAMPLES: [&str; 11] = [
+const EXAMPLES: [&str; 14] = [
     "a",
     "b",
     "level",
@@ -35,6 +35,9 @@ const EXAMPLES: [&str; 11] = [
     "replies",
     "holding",
     "first-roll",
+    "recipe-7-2-3",
+    "recipe-7-2-2-dice",
+    "recipe-1-4-2-dice",
 ];
 
 // ---------------------------------------------------------------------------

@@ -131,7 +131,7 @@ impl Refusal {
             ),
             19 => (
                 "a number of the recipe is out of range, or its table would have more than 1,024 nodes",
-                "give a seed from 0 to 2,147,483,647, a branching number from 2 to 5 and a depth from 0 to 9, and no more plays than 1,024 nodes have room for",
+                "give a seed from 0 to 2,147,483,647, a branching number from 2 to 5 and a depth from 0 to 9; where there would be too many nodes, a lesser depth",
             ),
             20 => (
                 "there is no marking scale of that number",

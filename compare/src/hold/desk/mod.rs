@@ -18,8 +18,8 @@ pub use reports::*;
 pub use run::*;
 pub use tables::*;
 
-/// The verbs, with what they need before the file.
-pub const VERBS: [&[&str]; 8] = [
+/// The verbs, with what they need before the file, which the last one does not take.
+pub const VERBS: [&[&str]; 9] = [
     &["show"],
     &["worth"],
     &["judge", "1"],
@@ -28,7 +28,9 @@ pub const VERBS: [&[&str]; 8] = [
     &["turn"],
     &["rollout"],
     &["report"],
+    &["recipe", "7", "2", "3"],
 ];
 
-/// The verbs that ask about a table; the last asks about a match.
+/// The verbs that ask about a table; of the last two one asks about a match, one about
+/// nothing.
 pub const OF_A_TABLE: &[&[&str]] = VERBS.split_at(7).0;

@@ -18,10 +18,10 @@ pub struct Refused {
 }
 
 /// The refusals that have no line of their own.
-const WITHOUT_LINE: [u8; 9] = [1, 12, 13, 14, 15, 16, 17, 18, 20];
+const WITHOUT_LINE: [u8; 10] = [1, 12, 13, 14, 15, 16, 17, 18, 19, 20];
 
-/// The refusal of the command line, not of a file, so that none is named.
-const OF_NO_FILE: u8 = 20;
+/// The refusals of the command line, not of a file, so that none is named.
+const OF_NO_FILE: [u8; 2] = [19, 20];
 
 impl Refused {
     pub fn of(text: &[u8], refusal: Refusal) -> Refused {
@@ -45,6 +45,18 @@ impl Refused {
             shown: None,
             marks: Vec::new(),
             detail: None,
+        }
+    }
+
+    /// A refused recipe, for which there is no file; the reason says this after its colon.
+    pub fn of_recipe(refusal: Refusal, detail: String) -> Refused {
+        assert_eq!((refusal.number, refusal.line), (19, 0));
+        Refused {
+            refusal,
+            at: None,
+            shown: None,
+            marks: Vec::new(),
+            detail: Some(detail),
         }
     }
 
@@ -107,9 +119,9 @@ impl Refused {
         let at = self.at.map_or(String::new(), |(position, line)| {
             format!("position {position}, line {line} of the file: ")
         });
-        let start = match number {
-            OF_NO_FILE => format!("desk: refused {number}"),
-            _ => format!("desk: {name}: {at}refused {number}"),
+        let start = match OF_NO_FILE.contains(&number) {
+            true => format!("desk: refused {number}"),
+            false => format!("desk: {name}: {at}refused {number}"),
         };
         if WITHOUT_LINE.contains(&number) {
             assert_eq!(printed, start, "{place}");

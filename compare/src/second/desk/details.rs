@@ -62,7 +62,7 @@ fn times(count: u32) -> String {
 }
 
 /// The digits, a comma after each three from the right.
-fn in_threes(number: i64) -> String {
+pub(super) fn in_threes(number: i64) -> String {
     let digits = number.to_string();
     let written = digits.char_indices().map(|(at, digit)| {
         let comma = at > 0 && (digits.len() - at).is_multiple_of(3);

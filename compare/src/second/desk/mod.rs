@@ -4,13 +4,15 @@
 //!
 //! The verbs here and in `matches` gather what there is to say, and `people` and
 //! `tsv` say it in their form; `columns` sets amounts and columns, `tree` draws the
-//! tree. `refused` has the line and the columns of a refusal, `stopped` those of a
-//! refused match, and `details` what is said of a sum and of a grain count.
+//! tree. `recipes` has the verb that reads no table. `refused` has the line and the columns
+//! of a refusal, `stopped` those of a refused match, and `details` what is said of a sum and
+//! of a grain count.
 
 mod columns;
 mod details;
 mod matches;
 mod people;
+mod recipes;
 mod refused;
 mod stopped;
 mod tree;
@@ -18,6 +20,7 @@ mod tsv;
 
 pub use details::detail;
 pub use matches::{all, no_totals, printed_name, report, Reported, USUAL_SCALE};
+pub use recipes::{recipe, recipe_detail};
 pub use refused::{marks, shown, Stretch};
 pub use stopped::{stopped, Stopped};
 
@@ -163,9 +166,14 @@ fn index_of(table: &Table) -> (Vec<i64>, Vec<i64>) {
 pub fn turn(text: &[u8], form: Form) -> Result<String, Refusal> {
     let mut turned = vec![0; text.len()];
     second::turn(text, &mut turned)?;
+    written(turned, form)
+}
+
+/// A table that was written.
+fn written(text: Vec<u8>, form: Form) -> Result<String, Refusal> {
     Ok(match form {
-        Form::People => String::from_utf8(turned).expect("a table is in ASCII"),
-        Form::Tsv => tsv::turn(&second::read(&turned)?),
+        Form::People => String::from_utf8(text).expect("a table is in ASCII"),
+        Form::Tsv => tsv::table(&second::read(&text)?),
     })
 }
 

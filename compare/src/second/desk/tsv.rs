@@ -39,8 +39,8 @@ pub fn index(table: &Table, entries: &[Entry]) -> String {
     answer
 }
 
-/// The table is the turned one.
-pub fn turn(table: &Table) -> String {
+/// A table that was written: the turned one, or that of a recipe.
+pub fn table(table: &Table) -> String {
     let mut answer = nodes(table) + &totals_and_ends(table);
     for node in 0..table.nodes.len() {
         answer += &row("node", &[&line(table, node)]);
