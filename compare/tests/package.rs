@@ -405,6 +405,93 @@ fn the_example_of_two_totals() {
 }
 
 // ---------------------------------------------------------------------------
+// Recipes
+// ---------------------------------------------------------------------------
+
+/// A recipe of any numbers, most of them in range.
+fn some_recipe(random: &mut Random) -> package::Recipe {
+    let any = |random: &mut Random, most: i64| match random.below(8) {
+        0 => random.pick(&[-1, most + 1, 1 << 32, i64::MIN, i64::MAX]),
+        _ => random.between(0, most),
+    };
+    package::Recipe {
+        seed: any(random, package::GREATEST_SEED),
+        branching: any(random, package::BRANCHINGS.1),
+        depth: any(random, package::GREATEST_DEPTH),
+        dice: random.one_in(2),
+    }
+}
+
+#[test]
+fn typed_recipes() {
+    let mut tally = Tally::new("the package's typed recipes");
+    let mut seen = Seen::default();
+    for case in 0..6_000 {
+        let mut random = Random::of_case(tally.seed, case);
+        let asked = some_recipe(&mut random);
+        let dice = i64::from(asked.dice);
+        let recipe = second::Recipe::new([asked.seed, asked.branching, asked.depth, dice]);
+        let mut text = vec![0; package::MOST_BYTES];
+        let expected = second::recipe(recipe, &mut text).map(|length| {
+            text.truncate(length);
+            text
+        });
+        let returned = code(&expected);
+        let said = package::recipe(&asked).map(|made| made.text);
+        assert_eq!(
+            typed(said),
+            second(expected),
+            "{}, {asked:?}",
+            tally.place()
+        );
+        tally.add(&[returned]);
+        for (sort, dice) in [("with dice", true), ("without dice", false)] {
+            let here = asked.dice == dice && returned == 0;
+            seen.count(&format!("a table {sort}"), here);
+            let nodes = asked.dice == dice && returned != 0 && recipe.is_in_range();
+            seen.count(&format!("too many nodes {sort}"), nodes);
+        }
+        seen.count("a lone leaf", returned == 0 && asked.depth == 0);
+        seen.count("out of range", !recipe.is_in_range());
+    }
+    tally.report();
+    seen.demand(100);
+    tally.demand_refusals(&[19]);
+}
+
+/// The examples by recipe, and that what is made is a table for the other calls.
+#[test]
+fn the_examples_by_recipe() {
+    for (name, [seed, branching, depth], dice) in [
+        ("recipe-7-2-3", [7, 2, 3], false),
+        ("recipe-7-2-2-dice", [7, 2, 2], true),
+        ("recipe-1-4-2-dice", [1, 4, 2], true),
+    ] {
+        let asked = package::Recipe {
+            seed,
+            branching,
+            depth,
+            dice,
+        };
+        let made = package::recipe(&asked).expect("a recipe of a table");
+        let (_, text) = example(name);
+        assert_eq!(escaped(&made.text), escaped(&text), "{name}");
+        assert_eq!(package::recipe(&asked), Ok(made), "{name}, once more");
+        let table = second::read(&text).expect("accepted");
+        let questions = Questions {
+            index: index_of(&table),
+            number: 1,
+            margin: 8 * table.grains,
+            budget: 5,
+            policy: vec![1],
+        };
+        let codes = hold(&text, &questions, name);
+        let rolled = if dice { 13 } else { 0 };
+        assert_eq!(codes, [0, 0, 0, 0, 0, 0, 0, 0, rolled], "{name}");
+    }
+}
+
+// ---------------------------------------------------------------------------
 // The report
 // ---------------------------------------------------------------------------
 
@@ -627,6 +714,38 @@ fn words_of_refused_indexes() {
     assert_eq!((refusal.number, refusal.line), (9, 3));
     let refusal = package::search_indexed(&a, -1, &index).expect_err("no margin");
     assert_eq!((refusal.number, refusal.line), (12, 0));
+}
+
+/// A refused recipe is at no line.
+#[test]
+fn words_of_refused_recipes() {
+    let fair = package::Recipe {
+        seed: 7,
+        branching: 2,
+        depth: 2,
+        dice: true,
+    };
+    for asked in [
+        package::Recipe { seed: -1, ..fair },
+        package::Recipe {
+            branching: 6,
+            ..fair
+        },
+        package::Recipe { depth: 10, ..fair },
+        // In range, and 2,047 nodes.
+        package::Recipe { depth: 5, ..fair },
+    ] {
+        let refusal = package::recipe(&asked).expect_err("no recipe");
+        let (number, line, position) = (refusal.number, refusal.line, refusal.position);
+        assert_eq!((number, line, position), (19, 0, 0), "{asked:?}");
+        let shown = format!("refused 19: {}", refusal.reason());
+        assert_eq!(refusal.to_string(), shown);
+        for allowed in ["0 to 2,147,483,647", "2 to 5", "0 to 9", "nodes"] {
+            assert!(refusal.mend().contains(allowed), "{allowed}");
+        }
+        assert!(refusal.reason().contains("1,024 nodes"));
+        one_line_each(refusal);
+    }
 }
 
 /// Every refusal has words of its own, one line each, and says where it is.
