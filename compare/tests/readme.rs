@@ -7,7 +7,7 @@ use compare::hold::numbers::ROOM;
 use compare::hold::searching::Expected;
 use compare::hold::tally::Tally;
 use compare::second::desk::{self, Form, Reported, USUAL_SCALE};
-use compare::second::{self, Table};
+use compare::second::{self, Recipe, Table};
 
 /// Margins in points: at the ends that the examples have, at narrow ones, and with an
 /// index.
@@ -172,6 +172,30 @@ fn readme_rows() {
     // More than nine in ten at every margin; one in six, to the nearest, at margin 0.
     assert!(sums[0].iter().all(|read| 10 * read > 9 * all));
     assert_eq!((2 * all + sums[2][0]) / (2 * sums[2][0]), 6);
+}
+
+/// The table by recipe that the README makes and searches, and the files that it names.
+#[test]
+fn by_recipe() {
+    let command = "./desk recipe 7 4 2 --dice | ./desk search 8";
+    assert_eq!(
+        block("README.md", "### Tables to test with"),
+        format!("{command}\n")
+    );
+    let table = Recipe::new([7, 4, 2, 1]).table().expect("a table");
+    let made = run(&["recipe", "7", "4", "2", "--dice"], &[]);
+    assert_eq!(second::read(made.out.as_bytes()), Ok(table.clone()));
+    let searched = desk::search(&table, 8 * table.grains, None, Form::People);
+    run(&["search", "8"], made.out.as_bytes()).answers(&searched.expect("an answer"));
+    for (name, numbers) in [
+        ("7-2-3", [7, 2, 3, 0]),
+        ("7-2-2-dice", [7, 2, 2, 1]),
+        ("1-4-2-dice", [1, 4, 2, 1]),
+    ] {
+        let file = format!("examples/recipe-{name}.txt");
+        assert!(words().contains(&file), "{file}");
+        assert_eq!(second::read(&example(&file)), Recipe::new(numbers).table());
+    }
 }
 
 /// The search within a budget that the README speaks of, and the one with a leaf more.
