@@ -1,14 +1,15 @@
 /* Calls every function of the header on document 01's tables A and B, on a forced play, on level plays, on plays that tie in the search, on a
- * match, on a first roll, whose table has two totals, and on B with zeros before its numbers, and says where an answer is not as it should be:
- * calls B A FORCED LEVEL TIES MATCH ROLL, the files of the first seven. What it expects is printed in document 01, or read off the tables. */
+ * match, on a first roll, whose table has two totals, on B with zeros before its numbers, and on a table by recipe, and says where an answer is not
+ * as it should be: calls B A FORCED LEVEL TIES MATCH ROLL RECIPE, the files of the first seven and of the last. What it expects is printed in
+ * document 01, or read off the tables. */
 #include <stdio.h>
 #include <string.h>
 
 #include "margin_engine.h"
 
 static uint8_t b[MARGIN_MOST_BYTES], a[MARGIN_MOST_BYTES], forced[MARGIN_MOST_BYTES], level[MARGIN_MOST_BYTES];
-static uint8_t ties[MARGIN_MOST_BYTES], match[MARGIN_MOST_BYTES], roll[MARGIN_MOST_BYTES];
-static size_t b_len, a_len, forced_len, level_len, ties_len, match_len, roll_len;
+static uint8_t ties[MARGIN_MOST_BYTES], match[MARGIN_MOST_BYTES], roll[MARGIN_MOST_BYTES], recipe[MARGIN_MOST_BYTES];
+static size_t b_len, a_len, forced_len, level_len, ties_len, match_len, roll_len, recipe_len;
 static int bad;
 
 #define SAME(count, got, ...) same(__LINE__, count, sizeof (got)[0], (got), (const int64_t[]){__VA_ARGS__})
@@ -276,11 +277,54 @@ static void report(void) {
     SAME(7, marks, 1, 2, 3, 4, 3, 4, 0);
 }
 
+/* Seed 1, branching 2, depth 1, with dice: the states are 1103527590, 377401575, 662824084 and 1147902781. */
+static const char made_by_hand[] = "   7   5       0     100\n"
+                                   "   0 M                  \n"
+                                   "   1 C    0             \n"
+                                   "   2 L    1    4      72\n"
+                                   "   3 L    1    1       1\n"
+                                   "   4 C    0             \n"
+                                   "   5 L    4    1      13\n"
+                                   "   6 L    4    4      42\n";
+
+/* The recipe of the example, with 31 nodes, and the one above, whose first play is worth (4 x 72 + 1) / 5 points. */
+static void recipes(void) {
+    static uint8_t made[MARGIN_MOST_BYTES];
+    const size_t length = sizeof made_by_hand - 1;
+    int64_t numbers[3];
+    memset(made, 0xff, sizeof made);
+    memset(numbers, 0xff, sizeof numbers);
+    returned("margin_recipe of no seed", margin_recipe(MARGIN_GREATEST_SEED + 1, 2, 1, 1, made, sizeof made, numbers, 3), 19);
+    returned("margin_recipe of no branching", margin_recipe(1, 6, 1, 1, made, sizeof made, numbers, 3), 19);
+    returned("margin_recipe of no depth", margin_recipe(1, 2, -1, 1, made, 0, numbers, 3), 19);
+    returned("margin_recipe of no dice", margin_recipe(1, 2, 1, 2, made, sizeof made, numbers, 3), 19);
+    returned("margin_recipe of 2047 nodes", margin_recipe(1, 2, 5, 1, made, sizeof made, numbers, 3), 19);
+    returned("margin_recipe in a short buffer", margin_recipe(1, 2, 1, 1, made, length - 1, numbers, 3), 11);
+    SAME(0, made, 0);
+    SAME(0, numbers, 0);
+    returned("margin_recipe", margin_recipe(1, 2, 1, 1, made, length, numbers, 3), 0);
+    SAME(1, numbers, 200);
+    if (length != 200 || memcmp(made_by_hand, made, length) != 0 || made[length] != 0xff) {
+        printf("calls.c: the table of seed 1 is not as it is worked out by hand\n");
+        bad = 1;
+    }
+    returned("margin_worth of it", margin_worth(made, length, numbers, 3), 0);
+    SAME(2, numbers, 289, 5);
+    memset(made, 0xff, sizeof made);
+    memset(numbers, 0xff, sizeof numbers);
+    returned("margin_recipe of the example", margin_recipe(7, 2, 2, 1, made, sizeof made, numbers, 3), 0);
+    SAME(1, numbers, 800);
+    if (recipe_len != 800 || memcmp(recipe, made, recipe_len) != 0 || made[recipe_len] != 0xff) {
+        printf("calls.c: the table of seed 7 is not that of the example\n");
+        bad = 1;
+    }
+}
+
 int main(int argc, char **argv) {
-    if (argc != 8 || (b_len = load(argv[1], b)) == 0 || (a_len = load(argv[2], a)) == 0 || (forced_len = load(argv[3], forced)) == 0 ||
+    if (argc != 9 || (b_len = load(argv[1], b)) == 0 || (a_len = load(argv[2], a)) == 0 || (forced_len = load(argv[3], forced)) == 0 ||
         (level_len = load(argv[4], level)) == 0 || (ties_len = load(argv[5], ties)) == 0 || (match_len = load(argv[6], match)) == 0 ||
-        (roll_len = load(argv[7], roll)) == 0) {
-        fprintf(stderr, "usage: calls B A FORCED LEVEL TIES MATCH ROLL\n");
+        (roll_len = load(argv[7], roll)) == 0 || (recipe_len = load(argv[8], recipe)) == 0) {
+        fprintf(stderr, "usage: calls B A FORCED LEVEL TIES MATCH ROLL RECIPE\n");
         return 2;
     }
     reading();
@@ -295,5 +339,6 @@ int main(int argc, char **argv) {
     padding();
     rollouts();
     report();
+    recipes();
     return bad;
 }
