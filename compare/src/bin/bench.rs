@@ -1,6 +1,6 @@
 //! Benchmark of reading, the exact worth, judging, the search, the index of ends, turning,
-//! rollouts and the report, and of the search alone: both engines on the same texts in
-//! the same run. Before the times stand the leaves read of the examples.
+//! rollouts, the report and recipes, and of the search alone: both engines on the same texts
+//! or recipes in the same run. Before the times stand the leaves read of the examples.
 //!
 //! `./bench` makes both archives and runs it, in release mode and with the feature
 //! `timed`.
@@ -13,7 +13,9 @@ use compare::hold::desk::example;
 use compare::hold::leaves::{self, FROM_PLAY};
 use compare::hold::{kind_number, mark_number, reporting, searching};
 use compare::random::{seed, Random};
-use compare::second::{self, root_children, Bounds, Judgement, Table, Terms, LINE, MOST_NODES};
+use compare::second::{
+    self, root_children, Bounds, Judgement, Recipe, Table, Terms, LINE, MOST_NODES,
+};
 use compare::texts::bench::{bushy, bushy_plain, deep, flat, replies, rerolls, Shape};
 use compare::texts::knobs::Knobs;
 use compare::texts::matches::{self, Position};
@@ -99,6 +101,8 @@ fn main() {
     rollouts(&plain);
 
     reports(seed, [("flat", flat), ("deep", deep), ("bushy", bushy)]);
+
+    recipes(seed);
 }
 
 fn reading(sorts: &[Sort]) {
@@ -1064,6 +1068,146 @@ impl Match {
         time(|| {
             let file = black_box(&self.file[..]);
             let _ = black_box(second::report(file, SCALE, POSITIONS));
+        })
+    }
+}
+
+// ---------------------------------------------------------------------------
+// Recipes
+// ---------------------------------------------------------------------------
+
+/// Branching numbers, depths and numbers for dice.
+const RECIPES: [[i64; 3]; 8] = [
+    [2, 5, 0],
+    [2, 9, 0],
+    [4, 4, 0],
+    [5, 4, 0],
+    [2, 3, 1],
+    [2, 4, 1],
+    [4, 2, 1],
+    [5, 2, 1],
+];
+
+/// The times that recipes took which differ in their seeds.
+struct ByRecipe {
+    recipes: Vec<Recipe>,
+    lines: usize,
+    /// How often all recipes are gone through in a round.
+    turns: usize,
+    /// The best nanoseconds per call so far.
+    proved: f64,
+    second: f64,
+}
+
+fn recipes(seed: u64) {
+    println!();
+    println!("Tables by recipe, {TEXTS} seeds each. The second engine builds the tree of nodes in");
+    println!("each call, then writes it. The buffers are allocated once, outside of the timing.");
+    println!();
+    let mut random = Random::new(seed);
+    let mut cases: Vec<ByRecipe> = RECIPES
+        .iter()
+        .map(|shape| ByRecipe::new(*shape, &mut random))
+        .collect();
+    for _ in 0..ROUNDS {
+        for case in &mut cases {
+            case.round();
+        }
+    }
+    println!(
+        "{:<10}{:>6}{:>6}{:>8}  {:>10}{:>10}  {:>9}{:>9}  {:>8}",
+        "", "", "", "", "proved", "second", "proved", "second", "proved/"
+    );
+    println!(
+        "{:<10}{:>6}{:>6}{:>8}  {:>10}{:>10}  {:>9}{:>9}  {:>8}",
+        "branching", "plays", "dice", "nodes", "ns/call", "ns/call", "ns/line", "ns/line", "second"
+    );
+    for case in cases {
+        let Recipe {
+            branching,
+            depth,
+            dice,
+            ..
+        } = case.recipes[0];
+        let dice = if dice == 1 { "with" } else { "" };
+        let per_line = |time: f64| time / case.lines as f64;
+        println!(
+            "{branching:<10}{depth:>6}{dice:>6}{:>8}  {:>10.0}{:>10.0}  {:>9.2}{:>9.2}  {:>8.2}",
+            case.lines - 1,
+            case.proved,
+            case.second,
+            per_line(case.proved),
+            per_line(case.second),
+            case.proved / case.second,
+        );
+    }
+}
+
+impl ByRecipe {
+    fn new([branching, depth, dice]: [i64; 3], random: &mut Random) -> ByRecipe {
+        let seeds = (0..TEXTS).map(|_| random.between(0, 2_147_483_647));
+        let recipes: Vec<Recipe> = seeds
+            .map(|seed| Recipe::new([seed, branching, depth, dice]))
+            .collect();
+        let mut case = ByRecipe {
+            lines: 1 + recipes[0].nodes() as usize,
+            recipes,
+            turns: 1,
+            proved: f64::INFINITY,
+            second: f64::INFINITY,
+        };
+        case.check();
+        let spell = SPELL.as_nanos() as f64;
+        while case.time_proved().min(case.time_second()) < spell {
+            case.turns *= 2;
+        }
+        case
+    }
+
+    /// The engines agree on the recipes.
+    fn check(&self) {
+        for &recipe in &self.recipes {
+            let mut buffers = [vec![0; LONGEST], vec![0; LONGEST]];
+            let [buffer, second_buffer] = &mut buffers;
+            let mut numbers = [0];
+            assert_eq!(engine::recipe(recipe, buffer, &mut numbers), 0);
+            let written = second::recipe(recipe, second_buffer);
+            assert_eq!(written, Ok(LINE * self.lines));
+            assert_eq!(numbers[0], (LINE * self.lines) as i64);
+            assert_eq!(buffer, second_buffer);
+        }
+    }
+
+    fn round(&mut self) {
+        let calls = (self.turns * self.recipes.len()) as f64;
+        self.proved = self.proved.min(self.time_proved() / calls);
+        self.second = self.second.min(self.time_second() / calls);
+    }
+
+    /// The nanoseconds that all turns take, and those of the second engine.
+    fn time_proved(&self) -> f64 {
+        let (mut buffer, mut numbers) = (vec![0; LONGEST], [0]);
+        self.time(|recipe| {
+            let (buffer, numbers) = (black_box(&mut buffer[..]), black_box(&mut numbers));
+            black_box(engine::recipe(black_box(recipe), buffer, numbers));
+        })
+    }
+
+    fn time_second(&self) -> f64 {
+        let mut buffer = vec![0; LONGEST];
+        self.time(|recipe| {
+            let buffer = black_box(&mut buffer[..]);
+            let _ = black_box(second::recipe(black_box(recipe), buffer));
+        })
+    }
+
+    fn time(&self, mut call: impl FnMut(Recipe)) -> f64 {
+        time(|| {
+            for _ in 0..self.turns {
+                for &recipe in &self.recipes {
+                    call(recipe);
+                }
+            }
         })
     }
 }
