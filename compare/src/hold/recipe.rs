@@ -113,6 +113,8 @@ impl Comparison {
             if let (Ok(text), Ok(written)) = (&text, written) {
                 assert_eq!(text, written, "another text in another buffer");
             }
+            let length = answer.unwrap_or(0);
+            assert_eq!(seconds[length..], buffer[length..], "more than the text");
             let buffer = &buffer;
             hold_to(&self.tally, recipe, &Lent { buffer, numbers }, &written);
             codes.push(code(&answer));
