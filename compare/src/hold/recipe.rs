@@ -15,8 +15,11 @@ use crate::texts::examples::escaped;
 /// The length of the longest text.
 pub const LONGEST: usize = LINE * (1 + MOST_NODES);
 
-/// Bytes kept as a guard after a buffer lent.
-const GUARD: usize = 8;
+/// No text has this byte in it.
+const PATTERN: u8 = 0xa5;
+
+/// Kept as a guard after a buffer lent.
+const GUARD: [u8; 8] = [PATTERN; 8];
 
 /// What is lent to a call: a buffer that holds this, and so many numbers.
 pub struct Lent<'a> {
@@ -27,7 +30,8 @@ pub struct Lent<'a> {
 /// Holds the proved engine to this text or refusal.
 pub fn hold_to(tally: &Tally, recipe: Recipe, lent: &Lent, expected: &Result<&[u8], Refusal>) {
     let room = lent.buffer.len();
-    let mut buffer = [lent.buffer, &[GUARDED; GUARD]].concat();
+    let kept = [lent.buffer, &GUARD].concat();
+    let mut buffer = kept.clone();
     let text = expected.unwrap_or_default();
     let written = [text.len() as i64];
     let written = if expected.is_ok() { &written[..] } else { &[] };
@@ -36,7 +40,6 @@ pub fn hold_to(tally: &Tally, recipe: Recipe, lent: &Lent, expected: &Result<&[u
     agree(tally, text, asked, lent.numbers, returned, |numbers| {
         engine::recipe(recipe, &mut buffer[..room], numbers)
     });
-    let kept = [lent.buffer, &[GUARDED; GUARD]].concat();
     let (got, rest) = buffer.split_at(text.len());
     if got != text || rest != &kept[text.len()..] {
         panic!(
@@ -50,12 +53,9 @@ pub fn hold_to(tally: &Tally, recipe: Recipe, lent: &Lent, expected: &Result<&[u
     }
 }
 
-/// What the guard holds: a byte of no text.
-const GUARDED: u8 = 0xa5;
-
 /// What a buffer holds before a call. Some of it is much like a text.
 pub const FILLS: [fn(&mut Random) -> u8; 5] = [
-    |_| GUARDED,
+    |_| PATTERN,
     |_| b' ',
     |_| 0,
     |random| random.pick(b" 0123456789\nMNCL-"),
