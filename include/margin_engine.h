@@ -184,9 +184,10 @@ uint64_t margin_report(const uint8_t *file, size_t file_len, int64_t scale, uint
 /*
  * Writes a table to test with, from four numbers: equal numbers give equal bytes, wherever and whenever. Refuses 19 where the seed is not 0 to
  * MARGIN_GREATEST_SEED, `branching` not 2 to 5, `depth` not 0 to 9, `dice` neither 0 (without) nor 1 (with), or the table would have more than
- * MARGIN_MOST_NODES nodes; then 11 where `buffer` is shorter than the text, which MARGIN_MOST_BYTES never are.
+ * MARGIN_MOST_NODES nodes; then 11 where `buffer` is shorter than the text; one of MARGIN_MOST_BYTES never is.
  *
- * buffer: the text, 25 bytes for the header and for each node, with blanks before its numbers. Every call that reads a table accepts it.
+ * buffer: the text, 25 bytes for the header and for each node, with blanks before its numbers. margin_read accepts it; margin_rollout refuses 13
+ * where it has a C, as of any table.
  * numbers (1): how many bytes were written.
  *
  * M and N play by turns, M at the root, and `depth` plays lead to a leaf; with a depth of 0 there is one leaf alone. Each M and N has `branching`

@@ -194,8 +194,8 @@ fn averages(tally: &mut Tally, branching: i64, depth: i64, trees: u64) -> Averag
 }
 
 impl Averages {
-    /// What must hold, whatever the trees: the margin is kept, a wider one reads less and
-    /// leaves the bounds further apart.
+    /// What holds of averages over these trees: the margin is kept, which is a theorem of
+    /// each tree; a wider one reads less and leaves the bounds further apart.
     fn hold(&self) {
         assert_eq!((self.inner[0], self.leaves[0]), (1.0, 1.0));
         assert_eq!(self.apart[0], 0.0);
@@ -228,6 +228,8 @@ fn random_trees_with_dice() {
         let four = &all[2];
         for i in 1..3 {
             assert!((four.apart[i] - PRINTED_APART[i]).abs() < 5.0);
+            // The paper does not say what it counts as an expansion with dice; the
+            // leaves read come nearest to its ratio (docs/SPEED.md).
             assert!((four.leaves[i] - PRINTED_RATIOS[i]).abs() < 0.15);
         }
     }

@@ -120,8 +120,8 @@ const REFUSED: Refusal = Refusal {
 // Recipes
 // ---------------------------------------------------------------------------
 
-/// Every branching number, depth and number for dice, with many seeds; each in buffers of
-/// every length around the text's, with and without room for the number.
+/// Every branching number, depth and number for dice, with many seeds; each in buffers
+/// of lengths around the text's, with and without room for the number.
 #[test]
 fn the_whole_space() {
     let mut comparison = Comparison::new("every recipe but for the seed", "reading them");
@@ -348,7 +348,7 @@ fn equal_recipes_give_equal_bytes() {
 // Worked out by hand
 // ---------------------------------------------------------------------------
 
-/// What the C standard's sample generator, which has these two factors, gives after
+/// What the C standard's sample generator, which has these two constants, gives after
 /// `srand(1)`: each number is the upper 15 bits of a state of 31.
 const AFTER_ONE: [i64; 10] = [
     16_838, 5_758, 10_113, 17_515, 31_051, 5_627, 23_010, 7_419, 16_212, 4_086,

@@ -9,7 +9,7 @@ use crate::{MOST_BYTES, raw};
 pub struct Recipe {
     /// What the utilities are drawn from: 0 to 2,147,483,647.
     pub seed: i64,
-    /// How many children each line has: 2 to 5.
+    /// How many children each line but a leaf has: 2 to 5.
     pub branching: i64,
     /// How many plays lead to a leaf: 0 to 9.
     pub depth: i64,
@@ -26,11 +26,11 @@ pub struct Made {
 }
 
 /// Makes the table of a recipe. M and N play by turns, M at the root, and after `depth`
-/// plays comes a leaf; with a depth of 0 that is all. Each line has `branching` children.
-/// With dice each play is a C, under which the play's own child, that of the same number,
-/// comes four times in five and the others share the rest. Leaves are worth 0 to 100, the
-/// two ends. Refuses 19 where one of the numbers is out of its range, or the table would
-/// have more than 1,024 nodes.
+/// plays comes a leaf; with a depth of 0 that is all. Each line but a leaf has `branching`
+/// children. With dice each play is a C, under which the play's own child, that of the
+/// same number, comes four times in five and the others share the rest. Leaves are worth
+/// 0 to 100, the two ends. Refuses 19 where one of the numbers is out of its range, or the
+/// table would have more than 1,024 nodes.
 ///
 /// ```
 /// use margin_engine::{Recipe, recipe, search};

@@ -186,8 +186,8 @@ pub fn out_of_range(recipe: Recipe) -> Vec<&'static str> {
     out.map(|(name, _)| name).collect()
 }
 
-/// Fails the test unless the table is what Item 7's words make of the recipe, each node by
-/// itself and without a walk.
+/// Fails the test unless the table is what Item 7's words make of the recipe, line by line and
+/// without recursion.
 pub fn keeps_to_its_formulas(recipe: Recipe, table: &Table) {
     let b = recipe.branching;
     let dice = recipe.dice == 1;

@@ -21,10 +21,13 @@ use Rattle.recipe.proofs.Order.{leaves-in-order}
 use Rattle.recipe.proofs.Written.{recipe-count}
 use Rattle.recipe_call.specs.Call.{withDice, bytesOf}
 use Rattle.recipe_call.proofs.Call.{in-range, written, accepted, written-long}
-use Rattle.demands.specs.Recipes.{RecipeAccepted, EqualBytes, RecipeLength, RecipeNumbers, LeavesInOrder}
+use Rattle.demands.specs.Recipes.{RecipeAccepted, EqualBytes, NodesCounted, RecipeLength, RecipeNumbers, LeavesInOrder}
 
 pub recipe-accepted : RecipeAccepted
 recipe-accepted seed branching depth dice room s e = accepted seed branching depth dice room s e
+
+pub nodes-counted : NodesCounted
+nodes-counted seed branching depth dice = recipe-count (toNat seed) (toNat branching) (toNat depth) (withDice dice)
 
 pub recipe-length : RecipeLength
 recipe-length seed branching depth dice room s e = written-long seed branching depth dice room s e

@@ -1,5 +1,6 @@
--- Test positions by recipe. Document 02, Item 7, which is quoted: what holds of every table that the call writes. A seed, a branching number, a depth and
--- 1 or 0 for dice are given, and a buffer of so many bytes; `recipe_call/Call.recipeOf` says which are refused. proofs/Recipes.antt has the theorems.
+-- Test positions by recipe. Document 02, Item 7, which is quoted: what holds of every table that the call writes, and what of any four numbers. A seed, a
+-- branching number, a depth and 1 or 0 for dice are given, and a buffer of so many bytes; `recipe_call/Call.recipeOf` says which are refused.
+-- proofs/Recipes.antt has the theorems.
 use Prim.Native.Nat.{ℕ, _+_, _*_, _^_, _≤_}
 use mathlib.Core.Path.{_≡_}
 use mathlib.Core.Bool.{cond}
@@ -30,6 +31,12 @@ EqualBytes =
     × (take (length s) (laid (recipeBytes seed branching depth dice (length d)) d) ≡ s)
     × (take (length s) (laid (recipeBytes seed branching depth dice (length e)) e) ≡ s)
 
+-- "more than 1,024 nodes": what is counted there are the lines of the table, whether it is refused or not
+abbrev pub NodesCounted : Type 0
+NodesCounted =
+    (seed branching depth dice : ℤ)
+    → length (tableFor seed branching depth dice .lines) ≡ nodes (toNat branching) (levels (withDice dice) (toNat depth))
+
 -- its lines: a header and one for each node
 abbrev pub RecipeLength : Type 0
 RecipeLength =
@@ -38,7 +45,7 @@ RecipeLength =
     (length s ≡ 25 * n + 25) × (n ≤ 1024)
 
 -- What the reader answers of it: "T = 5 × (b - 1)" with dice, "without dice T is 1", "ends 0 and 100"; with dice as many C on a path as plays, so that G is
--- T to the power of the depth; b leaves below each line above them
+-- T to the power of the depth; on each level b times as many lines, so that the leaves are b to the power of the levels
 abbrev pub recipeSummary : (branching depth dice : ℤ) → Summary
 recipeSummary branching depth dice =
     let b = toNat branching in

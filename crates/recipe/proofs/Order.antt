@@ -1,4 +1,4 @@
--- "Leaves take the nextState state .., in line order". Assumes nothing.
+-- "Leaves take the next state .., in line order". Assumes nothing.
 use Prim.Native.Nat.{ℕ, zero, suc, _+_, _*_, _^_}
 use mathlib.Core.Path.{_≡_, refl, sym, ap, ap₂, _∙_}
 use mathlib.Core.Bool.{Bool, true, false, cond}

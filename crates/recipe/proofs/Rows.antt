@@ -152,7 +152,7 @@ first-short b dice y c at room L =
       utility = either (eqb (y .left) 0) (λ (x : ℕ). natAbs (pos x) < 10 ^ 7) (points (nextState (at .state))) 0 (omega arith) (omega arith);
     }
 
-module _ (b : ℕ) (dice : Bool) (y : Siblings) (m c : ℕ) (at : Place) (room : ℕ) (some : 0 < m) (R : RowReady b dice y m c at room) where
+module _ (b : ℕ) (dice : Bool) (y : Siblings) (m c : ℕ) (at : Place) (room : ℕ) (some : 0 < m) (R : RowReady b y m c at room) where
   abbrev N : ℕ
   N = nodes b (y .left)
 
@@ -181,7 +181,7 @@ module _ (b : ℕ) (dice : Bool) (y : Siblings) (m c : ℕ) (at : Place) (room :
       }
 
   -- those under it
-  pub under-ready : (q : Place) → q ≡ afterFirst y at → RowReady b dice U k 1 q room
+  pub under-ready : (q : Place) → q ≡ afterFirst y at → RowReady b U k 1 q room
   under-ready q e =
       let n = ap (λ (x : Place). x .node) e in
       let L = line-ready in
@@ -209,7 +209,7 @@ module _ (b : ℕ) (dice : Bool) (y : Siblings) (m c : ℕ) (at : Place) (room :
     after-state : after .state ≡ later (b ^ y .left) (at .state)
     after-state = W .state ∙ ap (later (k * b ^ (y .left - 1))) first-state ∙ state-step b dice (y .left) (at .state)
 
-    pub rest-ready : RowReady b dice y (m - 1) (c + 1) after room
+    pub rest-ready : RowReady b y (m - 1) (c + 1) after room
     rest-ready =
         record {
           least = R .least;

@@ -47,7 +47,7 @@ abbrev pub sizeOf : ℕ → Siblings → ℕ → ℕ
 sizeOf b y m = m * nodes b (y .left)
 
 -- what it takes to write m lines from the child number c on, and all under them, in a buffer of `room` bytes
-pub record RowReady (b : ℕ) (dice : Bool) (y : Siblings) (m c : ℕ) (at : Place) (room : ℕ) : Type 0 where
+pub record RowReady (b : ℕ) (y : Siblings) (m c : ℕ) (at : Place) (room : ℕ) : Type 0 where
   pub least : 2 ≤ b
   pub most : b ≤ 5
   pub shallow : 0 < m → y .level + y .left ≤ 18

@@ -9,7 +9,6 @@ use Rattle.line.specs.declared.Line.{Line}
 use Rattle.table.specs.Tree.{Kind, MAX, MIN, CHANCE, Forest, end, leaf, inner}
 use Rattle.table.specs.Table.{Table}
 use Rattle.table.specs.Accepted.{flat}
-use Rattle.writing.specs.Text.{tableText}
 
 -- ---- the leaves
 
@@ -81,10 +80,6 @@ module _ (b : ℕ) (dice : Bool) where
 
   abbrev pub recipeTable : ℕ → ℕ → Table
   recipeTable seed depth = record { head = recipeHead; lines = flat 0 0 (recipeTree seed depth) }
-
--- "writes a table"
-abbrev pub recipeText : ℕ → ℕ → ℕ → Bool → List ℕ
-recipeText seed b depth dice = tableText (recipeTable b dice seed depth)
 
 -- ---- "Leaves take the next state .., in line order"
 

@@ -7,8 +7,8 @@ ghost use lib.Dec.{eqb};
 ghost use lib.Seq.{sets};
 ghost use Rattle.table.specs.Tree.{codeOf};
 ghost use Rattle.table.specs.Slices.{laid};
-ghost use Rattle.writing.specs.Text.{lineText};
-ghost use Rattle.recipe.specs.Recipe.{nextState, points, levels, plays, chanceAt, kindAt, weightOf, nodes, recipeHead, recipeText};
+ghost use Rattle.writing.specs.Text.{lineText, tableText};
+ghost use Rattle.recipe.specs.Recipe.{nextState, points, levels, plays, chanceAt, kindAt, weightOf, nodes, recipeHead, recipeTable};
 ghost use Rattle.recipe.specs.Inside.{underOf, firstLine, afterFirst, LineReady, RowReady, Rowed, TableReady};
 use line::Head;
 use line::Line;
@@ -19,7 +19,7 @@ pub struct Place {
     pub state: u64,
 }
 
-// Lines with one parent: how many lines of a path are left from them down to the leaf, which does not count, and how many stand above
+// Lines with one parent: how many lines a path has from one of them down to its leaf, the leaf not counted, and how many stand above
 // them; the parent's number, whether it is a C, and which child it is itself.
 pub struct Siblings {
     pub left: u64,
@@ -54,7 +54,7 @@ fn plays(dice: bool, level: u64) -> u64
     if dice { level / 2 } else { level }
 }
 
-// The number that stands for the kind.
+// The number for the kind of a line that is no leaf.
 fn kind_at(dice: bool, level: u64) -> u8
     ensures { λ r. ⌜ r ≡ codeOf (kindAt dice level) ⌝ }
 {
@@ -115,7 +115,7 @@ fn children(b: u64, left: u64) -> u64
     b
 }
 
-// The kind of a line, as a number.
+// The same of any line: 0 for a leaf.
 fn kind_of(dice: bool, left: u64, level: u64) -> u8
     ensures { λ r. ⌜ r ≡ cond (eqb left 0) 0 (codeOf (kindAt dice level)) ⌝ }
 {
@@ -182,7 +182,7 @@ fn write_first(buffer: &mut [u8], b: u64, dice: bool, y: Siblings, c: u64, at: P
 
 // m lines with one parent, from the child number c on, and all under them: the first is the node at `at`.
 fn write_row(buffer: &mut [u8], b: u64, dice: bool, y: Siblings, m: u64, c: u64, at: Place) -> Place
-    requires { ⌜ RowReady b dice y m c at (length (now buffer)) ⌝ }
+    requires { ⌜ RowReady b y m c at (length (now buffer)) ⌝ }
     ensures { λ r. ⌜ Rowed b dice y m c at (now (buffer .entry)) (now (buffer .exit)) r ⌝ }
 {
     if m == 0 {
@@ -201,7 +201,7 @@ fn levels(dice: bool, depth: u64) -> u64
     if dice { 2 * depth } else { depth }
 }
 
-// How many nodes there are, r lines above the leaves.
+// How many nodes a line is, with all under it, r lines above the leaves.
 fn count_nodes(b: u64, r: u64) -> u64
     requires { ⌜ (b ≤ 5) × (r ≤ 18) ⌝ }
     ensures { λ n. ⌜ n ≡ nodes b r ⌝ }
@@ -239,7 +239,7 @@ fn head(b: u64, dice: bool) -> Head
 // Writes the table of n nodes to the front of the buffer.
 pub fn write_table(seed: u64, b: u64, depth: u64, dice: bool, n: usize, buffer: &mut [u8])
     requires { ⌜ TableReady seed b depth dice n (length (now buffer)) ⌝ }
-    ensures { λ _. ⌜ now (buffer .exit) ≡ laid (recipeText seed b depth dice) (now (buffer .entry)) ⌝ }
+    ensures { λ _. ⌜ now (buffer .exit) ≡ laid (tableText (recipeTable b dice seed depth)) (now (buffer .entry)) ⌝ }
 {
     writing::put_header(buffer, head(b, dice), n);
     let y = Siblings {

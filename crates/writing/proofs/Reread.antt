@@ -1,5 +1,5 @@
--- A table is accepted exactly where its forest keeps the rules of document 01, 'The table on paper': such a forest is read back from its blank-padded
--- text, and every accepted table has one. Assumes nothing.
+-- A table is accepted exactly where its header and its forest keep the rules of document 01, 'The table on paper': such a table is read back from its
+-- blank-padded text, and every accepted one is such a table. Assumes nothing.
 use Prim.Native.Nat.{ℕ, zero, suc, _+_, _-_, _*_, _/_, _%_, _≤_, _<_}
 use mathlib.Core.Path.{_≡_, refl, sym, ap, ap₂, subst, _∙_}
 use mathlib.Core.Bool.{Bool, true, false, not, _&&_, cond}
@@ -246,7 +246,7 @@ read-of : (s : List ℕ) (t : Table) → Checked s t → readText s ≡ fine t
 unfolding readText complete unless unlessAt
 read-of s t C = rw (C .long, C .head, C .lines, C .no-childless, C .no-unbalanced, C .few-grains)
 
--- the rules: a numbered, rooted, filled, balanced, proper forest of at most 1,024 nodes, and by Item 5 of at most 16,777,216 grains
+-- the rules: a header in range, and a numbered, rooted, filled, balanced, proper forest of at most 1,024 nodes, and by Item 5 of at most 16,777,216 grains
 pub record Sound (h : Head) (F : Forest ℤ) : Type 0 where
   pub ranged : Ranged h
   pub numbered : Numbered 0 F
@@ -342,15 +342,15 @@ module _ (s : List ℕ) (t : Table) (e : readText s ≡ fine t) where
         grains = accepted-grain s t e;
       }
 
-  own : tableOf (t .head) (tree t) ≡ t
-  own = ap (λ (ls : List Line). record { head = t .head; lines = ls }) (accepted-flat s t e)
+  pub accepted-own : tableOf (t .head) (tree t) ≡ t
+  accepted-own = ap (λ (ls : List Line). record { head = t .head; lines = ls }) (accepted-flat s t e)
 
   pub blank-length : length (tableText t) ≡ length s
   blank-length =
-      subst (λ (x : Table). length (tableText x) ≡ 25 * length (x .lines) + 25) own (text-length (t .head) (tree t) accepted-sound) ∙ sym (accepted-size s t e .2)
+      subst (λ (x : Table). length (tableText x) ≡ 25 * length (x .lines) + 25) accepted-own (text-length (t .head) (tree t) accepted-sound) ∙ sym (accepted-size s t e .2)
 
   pub blank-accepted : readText (tableText t) ≡ fine t
-  blank-accepted = subst (λ (x : Table). readText (tableText x) ≡ fine x) own (read-back (t .head) (tree t) accepted-sound)
+  blank-accepted = subst (λ (x : Table). readText (tableText x) ≡ fine x) accepted-own (read-back (t .head) (tree t) accepted-sound)
 
   -- "the blank-padded text of the same table"
   pub blank-same : SameText s (tableText t)

@@ -11,7 +11,8 @@ use mir.Syntax.{w64}
 use mir.ValLaws.{toZ-ofZ}
 use Rattle.line.specs.Line.{toNat}
 use Rattle.table.specs.Slices.{laid}
-use Rattle.recipe.specs.Recipe.{levels, nodes, recipeText}
+use Rattle.writing.specs.Text.{tableText}
+use Rattle.recipe.specs.Recipe.{levels, nodes, recipeTable}
 use Rattle.recipe_call.specs.declared.Made.the-variants.{Written}
 use Rattle.recipe_call.specs.Call.{outOfRange, withDice}
 use Rattle.recipe_call.proofs.Call.{in-range, out, many, short, done, ready, ready-same}
@@ -91,7 +92,7 @@ returns-4 c =
     let D = done (a .seed) (a .branching) (a .depth) (a .dice) (fair N) (omega (arith, n, c .before .before .before .before .before .before .if2 .left)) (now (a .buffer)) (omega (arith, n, c .before .before .before .before .before .if3 .left)) in (
       ap (λ (m : ℕ). Written (25 * m + 25)) n ∙ D .0,
       c .before .before .write-table .ensures
-          ∙ (λ j. laid (recipeText (s j) (branching-is N j) (depth-is N j) (eqb (dice-is N j) 1)) (now (a .buffer)))
+          ∙ (λ j. laid (tableText (recipeTable (branching-is N j) (eqb (dice-is N j) 1) (s j) (depth-is N j))) (now (a .buffer)))
           ∙ D .1,
     )
 

@@ -100,8 +100,8 @@ impl Asked {
         }
     }
 
-    /// How many nodes the table would have, where the numbers are in range: one, and on
-    /// each level below so many times those above. A play with dice has two levels.
+    /// How many nodes the table would have, where the numbers are in range: one, and under
+    /// it BRANCHING times as many as with a level less. A play with dice has two levels.
     fn nodes(&self) -> i64 {
         let plays = self.depth.value;
         let levels = if self.dice { 2 * plays } else { plays };
