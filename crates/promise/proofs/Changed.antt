@@ -29,7 +29,7 @@ alike-grains G alike-end = alike-end
 alike-grains G (alike-leaf q a) = alike-leaf (λ p. ap (λ (v : ℤ). v *ℤ pos G) (q p)) (alike-grains G a)
 alike-grains G (alike-inner u a) = alike-inner (alike-grains G u) (alike-grains G a)
 
-pub alike-weigh : {A : Type 0} {P : ℕ → Type 0} {f g : Forest A} → Alike P f g → weigh f ≡ weigh g
+alike-weigh : {A : Type 0} {P : ℕ → Type 0} {f g : Forest A} → Alike P f g → weigh f ≡ weigh g
 unfolding weigh
 alike-weigh alike-end = refl
 alike-weigh (alike-leaf {w = w} q a) = ap (λ (x : ℕ). w + x) (alike-weigh a)

@@ -1,5 +1,5 @@
 -- "Every table written is accepted by the reader". Assumes nothing.
-use Prim.Native.Nat.{ℕ, zero, suc, _+_, _-_, _*_, _%_, _^_, _≤_, _<_}
+use Prim.Native.Nat.{ℕ, zero, suc, _-_, _*_, _^_, _≤_, _<_}
 use mathlib.Core.Path.{_≡_, refl, sym, subst}
 use mathlib.Core.Bool.{Bool, true, false, cond}
 use native.Mathlib.Omega.{arith}
@@ -14,7 +14,7 @@ use Rattle.table.specs.Accepted.{Proper, Rooted}
 use Rattle.writing.specs.Text.{tableText}
 use Rattle.writing.proofs.Reread.{Sound, read-back}
 use Rattle.recipe.specs.Recipe.{nodes, levels, row, recipeHead, recipeTree, recipeTable}
-use Rattle.recipe.proofs.Rules.{row-size, row-numbered, row-filled, row-balanced, row-proper, nodes-few}
+use Rattle.recipe.proofs.Rules.{row-size, row-numbered, row-filled, row-balanced, row-proper, chances-all, nodes-few}
 use Rattle.recipe.proofs.Numbers.{recipe-grain}
 
 module _ (b : ℕ) (dice : Bool) (least : 2 ≤ b) (most : b ≤ 5) where
@@ -37,7 +37,7 @@ module _ (b : ℕ) (dice : Bool) (least : 2 ≤ b) (most : b ≤ 5) where
     pub shallow : r ≤ 9
     shallow = nodes-few b least r few
 
-    rare : (d : Bool) → cond d (2 * depth) depth ≤ 9 → 2 * 0 + cond d (cond d (2 * depth) depth + 0 % 2) 0 ≤ 8
+    rare : (d : Bool) → cond d (2 * depth) depth ≤ 9 → cond d depth 0 ≤ 4
     rare true h = omega arith
     rare false h = omega arith
 
@@ -62,7 +62,7 @@ module _ (b : ℕ) (dice : Bool) (least : 2 ≤ b) (most : b ≤ 5) where
           rooted = rooted r seed;
           filled = row-filled b dice (omega arith) r 0 false 0 1 1 0 seed;
           balanced = row-balanced b dice r 0 false 0 1 1 0 seed (omega arith) (omega arith);
-          proper = subst (λ (T : ℕ). Proper T 4 (Within (recipeHead b dice)) 0 0 false (recipeTree b dice seed depth)) larger-is (row-proper b dice least r 0 false 0 1 1 0 seed 0 0 (λ e. absurd (true-ne-false (sym e))) (omega (arith, shallow)) (rare dice shallow));
+          proper = subst (λ (T : ℕ). Proper T 4 (Within (recipeHead b dice)) 0 0 false (recipeTree b dice seed depth)) larger-is (row-proper b dice least r 0 false 0 1 1 0 seed 0 0 (λ e. absurd (true-ne-false (sym e))) (omega (arith, shallow)) (omega (arith, chances-all dice depth, rare dice shallow)));
           few = omega (arith, row-size b dice r 0 false 0 1 1 0 seed);
           grains = rw (recipe-grain b dice (omega arith) seed depth) (few-grains dice shallow);
         }

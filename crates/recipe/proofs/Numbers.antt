@@ -1,10 +1,10 @@
 -- The numbers of a recipe's table: how many C a path has, its grain count, its leaves. Assumes nothing.
-use Prim.Native.Nat.{ℕ, zero, suc, _+_, _*_, _%_, _^_, _<_, max}
+use Prim.Native.Nat.{ℕ, zero, suc, _+_, _*_, _^_, _<_, max}
 use mathlib.Core.Path.{_≡_, refl, sym, ap, _∙_}
 use mathlib.Core.Bool.{Bool, true, false, cond}
 use native.Mathlib.Omega.{arith}
 use native.Mathlib.Nat.{zero-mul, suc-mul, one-mul, pow-zero, pow-succ'}
-use borrow.Author.Tests.{eq-eqb, ne-eqb}
+use borrow.Author.Tests.{ne-eqb}
 use lib.Dec.{eqb, eqb·suc-zero}
 use Rattle.line.specs.Line.{totals}
 use Rattle.table.specs.Tree.{grainOf, leaves}
@@ -13,33 +13,11 @@ use Rattle.table.specs.Inside.{deepest}
 use Rattle.table.proofs.Runs.{flat-leaves}
 use Rattle.table.proofs.Totals.{root-deepest, grain-one}
 use Rattle.recipe.specs.Recipe.{nextState, later, levels, chanceAt, nodes, row, recipeHead, recipeTree, recipeTable}
-use Rattle.recipe.proofs.Rules.{kind-chance, row-balanced}
-
--- ---- C on a path
-
--- how many stand on a path from a line of the level l down, r lines above the leaves
-unfoldable chancesIn : Bool → ℕ → ℕ → ℕ
-chancesIn dice zero l = 0
-chancesIn dice (suc r) l = cond (chanceAt dice l) 1 0 + chancesIn dice r (suc l)
-
-chances-none : (r l : ℕ) → chancesIn false r l ≡ 0
-unfolding chancesIn
-chances-none zero l = refl
-chances-none (suc r) l = rw (chances-none r (suc l))
-
--- from a line of an even level every second one
-chances-dice : (d l : ℕ) → l % 2 ≡ 0 → chancesIn true (2 * d) l ≡ d
-unfolding chancesIn
-chances-dice zero l e = refl
-chances-dice (suc d) l e =
-    let two : 2 * suc d ≡ suc (suc (2 * d)) = omega arith in
-    rw (two, ne-eqb (l % 2) 1 (λ f. omega arith), eq-eqb (suc l % 2) 1 (omega arith), chances-dice d (suc (suc l)) (omega arith)) (omega arith)
-
-chances-all : (dice : Bool) (depth : ℕ) → chancesIn dice (levels dice depth) 0 ≡ cond dice depth 0
-chances-all true depth = chances-dice depth 0 refl
-chances-all false depth = chances-none depth 0
+use Rattle.recipe.proofs.Rules.{chancesIn, chances-all, kind-chance, row-balanced}
 
 module _ (b : ℕ) (dice : Bool) where
+  -- ---- C on a path
+
   leaves-deepest : (l : ℕ) (u : Bool) (p m c i s : ℕ) → deepest (row b dice 0 l u p m c i s) ≡ 0
   unfolding row deepest
   leaves-deepest l u p zero c i s = refl

@@ -10,6 +10,7 @@ use lib.Dec.{eqb, eqb·suc-zero}
 use lib.ListN.{length, length-append}
 use lib.Seq.{sets}
 use lib.IntN.{pos, natAbs}
+use Rattle.field.proofs.Small.{choose}
 use Rattle.field.proofs.Stores.{part-stored}
 use Rattle.line.specs.declared.Line.{Line}
 use Rattle.table.specs.Tree.{codeOf}
@@ -137,11 +138,6 @@ pub falls-under : (r m b : ℕ) → 0 < m → b ≤ 5 → (r - 1) * 8 + cond (eq
 falls-under zero m b h g = omega arith
 falls-under (suc r) m b h g = rw (eqb·suc-zero r) (omega arith)
 
--- what stands on a leaf, and what on another line
-pub either : (t : Bool) (P : ℕ → Type 0) (x y : ℕ) → P x → P y → P (cond t x y)
-either true P x y p q = p
-either false P x y p q = q
-
 -- the numbers of a line have room
 pub first-short : (b : ℕ) (dice : Bool) (y : Siblings) (c : ℕ) (at : Place) (room : ℕ) → LineReady b y at room → Short (firstLine b dice y c at)
 first-short b dice y c at room L =
@@ -149,7 +145,7 @@ first-short b dice y c at room L =
       node = omega (arith, L .few);
       parent = omega (arith, L .parent);
       weight = omega (arith, weight-few b (y .under) (y .play) c (L .most));
-      utility = either (eqb (y .left) 0) (λ (x : ℕ). natAbs (pos x) < 10 ^ 7) (points (nextState (at .state))) 0 (omega arith) (omega arith);
+      utility = choose (λ (x : ℕ). natAbs (pos x) < 10 ^ 7) (eqb (y .left) 0) (λ z. omega arith) (λ z. omega arith);
     }
 
 module _ (b : ℕ) (dice : Bool) (y : Siblings) (m c : ℕ) (at : Place) (room : ℕ) (some : 0 < m) (R : RowReady b y m c at room) where
@@ -189,9 +185,9 @@ module _ (b : ℕ) (dice : Bool) (y : Siblings) (m c : ℕ) (at : Place) (room :
         least = R .least;
         most = R .most;
         shallow = shallow-under (y .left) (y .level) b (R .shallow some);
-        numbers = either (eqb (y .left) 0) (λ (x : ℕ). x + 1 ≤ 6) 0 b (omega arith) (omega (arith, R .most));
+        numbers = choose (λ (x : ℕ). x + 1 ≤ 6) (eqb (y .left) 0) (λ z. omega arith) (λ z. omega (arith, R .most));
         parent = L .few;
-        state = rw (ap (λ (x : Place). x .state) e) (either (eqb (y .left) 0) (λ (x : ℕ). x < 2147483648) (nextState (at .state)) (at .state) (omega arith) (R .state));
+        state = rw (ap (λ (x : Place). x .state) e) (choose (λ (x : ℕ). x < 2147483648) (eqb (y .left) 0) (λ z. omega arith) (λ z. R .state));
         few = omega (arith, R .few, size-more, N-is, n);
         fits = omega (arith, R .fits, size-more, N-is, n);
       }

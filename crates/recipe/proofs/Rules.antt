@@ -13,10 +13,34 @@ use Rattle.line.specs.Inside.{Weighs}
 use Rattle.table.specs.Tree.{Kind, MAX, MIN, CHANCE, Forest, isChance, isEnd, weigh}
 use Rattle.table.specs.Accepted.{one, Filled, Balanced, Proper}
 use Rattle.table.proofs.Runs.{size, Numbered}
-use Rattle.recipe.specs.Recipe.{nextState, later, points, chanceAt, kindAt, plays, weightOf, nodes, row, recipeHead}
+use Rattle.recipe.specs.Recipe.{nextState, later, points, levels, chanceAt, kindAt, plays, weightOf, nodes, row, recipeHead}
 
 below : (c p : ℕ) → c ≤ p → (c ≡ p → ⊥) → c < p
 below c p h n = omega arith
+
+-- ---- C on a path
+
+-- how many stand on a path from a line of the level l down, r lines above the leaves
+unfoldable pub chancesIn : Bool → ℕ → ℕ → ℕ
+chancesIn dice zero l = 0
+chancesIn dice (suc r) l = cond (chanceAt dice l) 1 0 + chancesIn dice r (suc l)
+
+chances-none : (r l : ℕ) → chancesIn false r l ≡ 0
+unfolding chancesIn
+chances-none zero l = refl
+chances-none (suc r) l = rw (chances-none r (suc l))
+
+-- from a line of an even level every second one
+chances-dice : (d l : ℕ) → l % 2 ≡ 0 → chancesIn true (2 * d) l ≡ d
+unfolding chancesIn
+chances-dice zero l e = refl
+chances-dice (suc d) l e =
+    let two : 2 * suc d ≡ suc (suc (2 * d)) = omega arith in
+    rw (two, ne-eqb (l % 2) 1 (λ f. omega arith), eq-eqb (suc l % 2) 1 (omega arith), chances-dice d (suc (suc l)) (omega arith)) (omega arith)
+
+pub chances-all : (dice : Bool) (depth : ℕ) → chancesIn dice (levels dice depth) 0 ≡ cond dice depth 0
+chances-all true depth = chances-dice depth 0 refl
+chances-all false depth = chances-none depth 0
 
 module _ (b : ℕ) (dice : Bool) where
   -- ---- how many
@@ -48,7 +72,7 @@ module _ (b : ℕ) (dice : Bool) where
         subst (λ (n : ℕ). Numbered n (row b dice (suc r) l u p m (suc c) j t)) e (row-numbered (suc r) l u p m (suc c) j t),
       )
 
-  -- ---- "each line has b children"
+  -- ---- every line but a leaf has a child
 
   row-some : (r l : ℕ) (u : Bool) (p m c i s : ℕ) → 0 < m → isEnd (row b dice r l u p m c i s) ≡ false
   unfolding row
@@ -154,22 +178,12 @@ module _ (b : ℕ) (dice : Bool) where
   within : (s : ℕ) → Within (recipeHead b dice) (pos (points s))
   within s = (le-ltb (points s) 0 (omega arith), le-ltb 100 (points s) (omega arith))
 
-  -- how many C a path has in all, twice
-  abbrev twice : ℕ → ℕ → ℕ → ℕ
-  twice C r l = 2 * C + cond dice (r + l % 2) 0
+  one-chance : (l : ℕ) → one (kindAt dice l) ≡ cond (chanceAt dice l) 1 0
+  one-chance l = ap (λ (t : Bool). cond t 1 0) (kind-chance l)
 
-  twice-under : (C r l : ℕ) → twice C (suc r) l ≤ 8 → (C + one (kindAt dice l) ≤ 4) × (twice (C + one (kindAt dice l)) r (suc l) ≤ 8)
-  twice-under C r l h = rw (kind-chance l) (go dice (eqb (l % 2) 1) refl h)
-    where
-      go : (d t : Bool) → eqb (l % 2) 1 ≡ t → 2 * C + cond d (suc r + l % 2) 0 ≤ 8
-          → (C + cond (d && t) 1 0 ≤ 4) × (2 * (C + cond (d && t) 1 0) + cond d (r + suc l % 2) 0 ≤ 8)
-      go false t e h = (omega arith, omega arith)
-      go true true e h = let o : l % 2 ≡ 1 = eqb-true (l % 2) 1 e in (omega arith, omega arith)
-      go true false e h = (omega arith, omega arith)
-
-  pub row-proper : 2 ≤ b → (r l : ℕ) (u : Bool) (p m c i s D C : ℕ) → (u ≡ true → dice ≡ true) → D + r < 64 → twice C r l ≤ 8
+  pub row-proper : 2 ≤ b → (r l : ℕ) (u : Bool) (p m c i s D C : ℕ) → (u ≡ true → dice ≡ true) → D + r < 64 → C + chancesIn dice r l ≤ 4
       → Proper total 4 (Within (recipeHead b dice)) D C u (row b dice r l u p m c i s)
-  unfolding row
+  unfolding row chancesIn
   row-proper q zero l u p zero c i s D C d h g = tt
   row-proper q zero l u p (suc m) c i s D C d h g = (
     weighs u p c q d,
@@ -181,12 +195,12 @@ module _ (b : ℕ) (dice : Bool) where
   row-proper q (suc r) l u p zero c i s D C d h g = tt
   row-proper q (suc r) l u p (suc m) c i s D C d h g =
       let k : Kind = kindAt dice l in
-      let t = twice-under C r l g in (
+      let o = one-chance l in (
         weighs u p c q d,
         omega arith,
-        t .0,
+        omega arith,
         subst (λ (v : Bool). Proper total 4 (Within (recipeHead b dice)) (suc D) (C + one k) v (row b dice r (suc l) (chanceAt dice l) c b 1 (suc i) s)) (sym (kind-chance l))
-            (row-proper q r (suc l) (chanceAt dice l) c b 1 (suc i) s (suc D) (C + one k) (dice-chance l) (omega arith) (t .1)),
+            (row-proper q r (suc l) (chanceAt dice l) c b 1 (suc i) s (suc D) (C + one k) (dice-chance l) (omega arith) (omega arith)),
         row-proper q (suc r) l u p m (suc c) (i + nodes b (suc r)) (later (b ^ suc r) s) D C d h g,
       )
 

@@ -60,7 +60,7 @@ module _ (b : ℕ) (dice : Bool) where
   -- m lines with one parent, from the child number c on, each r lines above the leaves and b-fold below: "each line has b children", with dice an M or
   -- N line has "b plays, counted from 1", and each C "b children". `under` says whether their parent is a C, and `play` is the parent's own child number.
   -- The first is node i, and s is the state before its leaves; past a line with all under it the node number and the state have gone on by as many
-  -- nodes and leaves as those are. That so the leaves are "in line order" is a theorem (proofs/Order.antt).
+  -- nodes and leaves as those are. That the leaves are then "in line order" is a theorem (proofs/Order.antt).
   unfoldable pub row : (r level : ℕ) (under : Bool) (play m c i s : ℕ) → Forest ℤ
   row zero level under play zero c i s = end
   row zero level under play (suc m) c i s =

@@ -1,7 +1,7 @@
 // Test positions by recipe: the same table from the same numbers, written into a lent buffer.
 ghost use mathlib.Core.Path.{_≡_};
 ghost use mathlib.Core.Bool.{cond};
-ghost use Prim.Native.Nat.{_+_, _-_, _*_, _≤_, _<_};
+ghost use Prim.Native.Nat.{_+_, _*_, _≤_, _<_};
 ghost use lib.ListN.{length};
 ghost use lib.Dec.{eqb};
 ghost use lib.Seq.{sets};
@@ -80,16 +80,6 @@ fn weight_of(b: u64, under: bool, play: u64, child: u64) -> u64
     1
 }
 
-// One less, or 0 where there is none.
-fn less(n: u64) -> u64
-    ensures { λ r. ⌜ r ≡ n - 1 ⌝ }
-{
-    if n == 0 {
-        return 0;
-    }
-    n - 1
-}
-
 // The children of the node `node`, which is child c of its parent.
 fn under_of(dice: bool, y: Siblings, c: u64, node: usize) -> Siblings
     requires { ⌜ y .level ≤ 18 ⌝ }
@@ -97,7 +87,7 @@ fn under_of(dice: bool, y: Siblings, c: u64, node: usize) -> Siblings
 {
     let under = chance_at(dice, y.level);
     Siblings {
-        left: less(y.left),
+        left: numbers::monus(y.left, 1),
         level: y.level + 1,
         parent: node,
         under: under,
@@ -115,7 +105,7 @@ fn children(b: u64, left: u64) -> u64
     b
 }
 
-// The same of any line: 0 for a leaf.
+// The number for the kind of any line: 0 for a leaf.
 fn kind_of(dice: bool, left: u64, level: u64) -> u8
     ensures { λ r. ⌜ r ≡ cond (eqb left 0) 0 (codeOf (kindAt dice level)) ⌝ }
 {

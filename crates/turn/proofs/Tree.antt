@@ -9,7 +9,7 @@ use lib.ListN.{length, length-map}
 use lib.IntN.{ℤ, negℤ, negℤ-negℤ}
 use Rattle.line.specs.declared.Line.{Line}
 use Rattle.line.specs.Line.{totals}
-use Rattle.table.specs.Tree.{Kind, MAX, MIN, CHANCE, Forest, end, leaf, inner, kindOf, isChance, run, after, grow, forest, isEnd, weigh, powers, uses, grainOf, leaves}
+use Rattle.table.specs.Tree.{Kind, MAX, MIN, CHANCE, Forest, end, leaf, inner, kindOf, isChance, run, after, grow, forest, weigh, powers, uses, grainOf, leaves}
 use Rattle.table.specs.Table.{Table, tree, grain}
 use Rattle.turn.specs.Turn.{turnCode, turnLine, turnTable, turnKind, turnTree}
 
@@ -132,7 +132,7 @@ tree-leaves-turned t = ap leaves (tree-turned t) ∙ tree-leaves (tree t)
 
 -- ---- sums and grains
 
-pub weigh-turned : (f : Forest ℤ) → weigh (turnTree f) ≡ weigh f
+weigh-turned : (f : Forest ℤ) → weigh (turnTree f) ≡ weigh f
 unfolding weigh turnTree
 weigh-turned end = refl
 weigh-turned (leaf n w u rest) = ap (λ (x : ℕ). w + x) (weigh-turned rest)
@@ -149,9 +149,3 @@ tree-grain-turned ts f i = powers ts (λ (t : ℕ). uses-turned t f i)
 
 pub grain-turned : (t : Table) → grain (turnTable t) ≡ grain t
 grain-turned t = ap (grainOf (totals (t .head))) (tree-turned t) ∙ tree-grain-turned (totals (t .head)) (tree t)
-
-pub end-turned : (f : Forest ℤ) → isEnd (turnTree f) ≡ isEnd f
-unfolding turnTree
-end-turned end = refl
-end-turned (leaf n w u rest) = refl
-end-turned (inner n w k under rest) = refl

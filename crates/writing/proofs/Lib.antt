@@ -4,4 +4,5 @@ pub mod Padding
 pub mod Again
 pub mod Checks
 pub mod Reread
+pub mod Shaped
 pub mod Stored

@@ -6,16 +6,15 @@ use borrow.Author.Needs.{needs}
 use lib.Dec.{eqb}
 use lib.IntN.{pos}
 use Rattle.field.proofs.Bits.{fits}
+use Rattle.field.proofs.Small.{choose}
 use Rattle.writing.proofs.Stored.{handed}
-use Rattle.recipe.specs.Recipe.{nextState, points}
-use Rattle.recipe.proofs.Rows.{either}
 use Rattle.recipe.proofs.first_line.Statement.{statement}
 use Rattle.recipe.proofs.first_line.Tie as tie
 
 few : (c : tie.After-worth-of) → c .worth-of .result ≤ 100
 few c =
     let a = c .before .before .before .args in
-    rw (c .worth-of .ensures) (either (eqb (a .y .left) 0) (λ (x : ℕ). x ≤ 100) (points (nextState (a .at .state))) 0 (omega arith) (omega arith))
+    rw (c .worth-of .ensures) (choose (λ (x : ℕ). x ≤ 100) (eqb (a .y .left) 0) (λ z. omega arith) (λ z. omega arith))
 
 cast-t10 : tie.Need-cast-t10
 cast-t10 c = fits (pos (c .worth-of .result)) (omega (arith, few c))
