@@ -1,5 +1,7 @@
 // A number in columns of a text: read from a part of it, and written right-justified into it.
 // What a well-written number is stands in specs/Field.antt alone.
+#![tactic(auto)]
+
 ghost use Rattle.std.specs.Prelude.{◌≡◌, cond, true, false, ◌∷◌, ◌+◌, ◌-◌, ◌*◌, ◌≤◌, ◌<◌, ◌^◌, eqb, length, drop, nat_abs};
 ghost use Rattle.field.specs.Field.{strip, digits, signed, field_of, digit, text_of, written};
 ghost use Rattle.field.specs.declared.Whole.TheVariants.{Digits};
@@ -7,14 +9,14 @@ ghost use Rattle.field.specs.declared.Field.TheVariants.{Ill};
 ghost use Rattle.field.specs.Inside.{Blanks, Starts, AllDigits, strange, before_of, off, with_sign};
 
 // The number that a run of digits means, or none; for the definitions alone.
-#[derive(Drop)]
+#[derive(Clone, Copy)]
 pub enum Whole {
     Digits(u64),
     Wrong,
 }
 
 // What a field holds.
-#[derive(Drop)]
+#[derive(Clone, Copy)]
 pub enum Field {
     Blank,
     Ill,

@@ -1,4 +1,6 @@
 // All node lines of a text, from the top, gathered into number slices.
+#![tactic(auto)]
+
 ghost use Rattle.std.specs.Prelude.{◌≡◌, [], ◌+◌, ◌*◌, ◌-◌, ◌<◌, ◌≤◌, length, set, drop};
 ghost use Rattle.std.specs.Int.Signed.{mag};
 ghost use Rattle.line.specs.Inside.{Ranged, Sized};
@@ -11,7 +13,7 @@ use numbers::max_of;
 use parsing::Placing;
 
 // All node lines: the greatest number of C on a path, and the number of leaves.
-#[derive(Drop)]
+#[derive(Clone, Copy)]
 pub enum Lines {
     Fine(u64, usize),
     Refused(Refusal),

@@ -12,7 +12,7 @@ use search_call::Bounded;
 use table::{Reading, Summary};
 
 // The index was built, or a refusal.
-#[derive(Drop)]
+#[derive(Clone, Copy)]
 pub enum Indexed {
     Built,
     Refused(Refusal),

@@ -185,7 +185,7 @@ module _ (t : Slices) (f : ℕ → ℤ) (g : Ends → ℤ) (lowest : ℤ) (S : �
         y,
         entries-tell (c + 1) x under s.3 a.1,
         entries-tell x e rest s.4 a.2,
-        map-append,
+        map-append (of_entry g) (height_entries lowest S under) (height_entries lowest S rest),
       )
 
   entries-all : (n : ℕ) (F : Forest ℕ) → Spans t 0 n F → Tells F → entries_from t.kinds f 0 n ≡ map (of_entry g) (height_entries lowest S F)

@@ -1,5 +1,7 @@
 // The ends of each inner node over the decoded slices: how far the least height under it lies above the table's lowest end, and how far the greatest
 // lies below its highest end; and these as an index's entries, written to a list or compared with one.
+#![tactic(auto)]
+
 ghost use Rattle.std.specs.Prelude.{◌≡◌, true, cond, ◌-◌, ◌<◌, ◌≤◌, min, eqb, length, get_or, set};
 ghost use Rattle.std.specs.Int.Signed.{mag};
 ghost use Rattle.numbers.specs.Integers.{eq_z};

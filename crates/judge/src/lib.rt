@@ -1,4 +1,6 @@
 // Judging the play made: the loss of a root child, and how many root children are level with the best.
+#![tactic(auto)]
+
 ghost use Rattle.std.specs.Prelude.{◌≡◌, ◌-◌, ◌<◌, ◌≤◌, length, get_or, take};
 ghost use Rattle.line.specs.Line.{to_nat};
 ghost use Rattle.table.specs.Table.{read_text};
@@ -12,14 +14,14 @@ use scale::Scale;
 use table::{Play, Reading};
 
 // A root without a decision; or the loss in grains and the number of level children.
-#[derive(Drop)]
+#[derive(Clone, Copy)]
 pub enum Judged {
     NoDecision,
     Loss(u64, u64),
 }
 
 // A judgement, or a refusal: of the table, or of the number where there is no such child.
-#[derive(Drop)]
+#[derive(Clone, Copy)]
 pub enum Opinion {
     Given(Judged),
     Refused(Refusal),

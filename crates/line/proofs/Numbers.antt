@@ -2,7 +2,7 @@
 use Prim.Native.Nat.{◌≤◌}
 use native.Mathlib.Omega.{arith}
 use Rattle.line.specs.declared.Refusal.{Refusal}
-use Rattle.line.specs.declared.Refusal.TheVariants.{Length, IllWritten, OutOfRange, Misnumbered, UnknownKind, WrongParent, Misfilled, Childless, WrongSum, TooDeep, NoRoom, BadMargin, BadMarginAt, HasChance, NoChild, TooMany, NoPosition, BadBudget, TooManyGrains, BadRecipe, BadScale, BadMargins, BadIndex}
+use Rattle.line.specs.declared.Refusal.TheVariants.{Length, IllWritten, OutOfRange, Misnumbered, UnknownKind, WrongParent, Misfilled, Childless, WrongSum, TooDeep, NoRoom, BadMargin, HasChance, NoChild, TooMany, NoPosition, BadBudget, TooManyGrains, BadRecipe, BadScale, BadIndex}
 use Rattle.line.specs.Refusal.{number_of}
 
 range : (r : Refusal) → (1 ≤ number_of r) × (number_of r ≤ 22)
@@ -18,7 +18,6 @@ range (WrongSum n) = (omega arith, omega arith)
 range (TooDeep n) = (omega arith, omega arith)
 range NoRoom = (omega arith, omega arith)
 range BadMargin = (omega arith, omega arith)
-range (BadMarginAt n) = (omega arith, omega arith)
 range HasChance = (omega arith, omega arith)
 range NoChild = (omega arith, omega arith)
 range TooMany = (omega arith, omega arith)
@@ -27,7 +26,6 @@ range BadBudget = (omega arith, omega arith)
 range TooManyGrains = (omega arith, omega arith)
 range BadRecipe = (omega arith, omega arith)
 range BadScale = (omega arith, omega arith)
-range BadMargins = (omega arith, omega arith)
 range BadIndex = (omega arith, omega arith)
 
 pub number-some : (r : Refusal) → 1 ≤ number_of r

@@ -1,12 +1,12 @@
--- Refusals of a table, 1 to 10 and 18, of a call on an accepted one, 11 to 14, 17, 21 and 22, of a match file, 15 and 16, of a recipe, 19,
--- and of a report's scale, 20. Document 01, 'Refused tables and calls'; document 02, Items 1, 3, 5, 7, 11, 12 and 14.
+-- Refusals of a table, 1 to 10 and 18, of a call on an accepted one, 11 to 14, 17 and 22, of a match file, 15 and 16, of a recipe, 19,
+-- and of a report's scale, 20. Document 01, 'Refused tables and calls'; document 02, Items 1, 3, 5, 7, 11 and 14.
 use Rattle.std.specs.Prelude.{ℕ, Bool, cond, List, [], ◌∷◌}
 use Rattle.line.specs.declared.Refusal.{Refusal}
-use Rattle.line.specs.declared.Refusal.TheVariants.{Length, IllWritten, OutOfRange, Misnumbered, UnknownKind, WrongParent, Misfilled, Childless, WrongSum, TooDeep, NoRoom, BadMargin, BadMarginAt, HasChance, NoChild, TooMany, NoPosition, BadBudget, TooManyGrains, BadRecipe, BadScale, BadMargins, BadIndex}
+use Rattle.line.specs.declared.Refusal.TheVariants.{Length, IllWritten, OutOfRange, Misnumbered, UnknownKind, WrongParent, Misfilled, Childless, WrongSum, TooDeep, NoRoom, BadMargin, HasChance, NoChild, TooMany, NoPosition, BadBudget, TooManyGrains, BadRecipe, BadScale, BadIndex}
 
 -- "Returned": the number and the line of every refusal; of Item 1, "15 and 16 have line 0"; of Item 3, "A refusal for which no line
 -- is named has line 0, here and later"; of Item 5, "18, a grain count above 16,777,216, after 9, line 0"; of Item 11, "20, another scale number, ..
--- line 0"; of Item 12, "12, whose line here is the first bad margin's number, from 1"
+-- line 0"
 abbrev pub number_of : Refusal → ℕ
 number_of Length = 1
 number_of (IllWritten line) = 2
@@ -20,7 +20,6 @@ number_of (WrongSum line) = 9
 number_of (TooDeep line) = 10
 number_of NoRoom = 11
 number_of BadMargin = 12
-number_of (BadMarginAt number) = 12
 number_of HasChance = 13
 number_of NoChild = 14
 number_of TooMany = 15
@@ -29,7 +28,6 @@ number_of BadBudget = 17
 number_of TooManyGrains = 18
 number_of BadRecipe = 19
 number_of BadScale = 20
-number_of BadMargins = 21
 number_of BadIndex = 22
 
 abbrev pub line_of : Refusal → ℕ
@@ -45,7 +43,6 @@ line_of (WrongSum line) = line
 line_of (TooDeep line) = line
 line_of NoRoom = 0
 line_of BadMargin = 0
-line_of (BadMarginAt number) = number
 line_of HasChance = 0
 line_of NoChild = 0
 line_of TooMany = 0
@@ -54,7 +51,6 @@ line_of BadBudget = 0
 line_of TooManyGrains = 0
 line_of BadRecipe = 0
 line_of BadScale = 0
-line_of BadMargins = 0
 line_of BadIndex = 0
 
 -- what a step of the reading gives: a refusal, or what it read

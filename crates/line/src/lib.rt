@@ -1,4 +1,5 @@
 // One line of a table: what it says, and the documents' refusals.
+#![tactic(auto)]
 ghost use Rattle.std.specs.Prelude.{◌≡◌, cond, ◌<◌};
 ghost use Rattle.line.specs.Refusal.{number_of, line_of};
 ghost use Rattle.line.specs.Line.{value_of, to_nat, larger, letter_code};
@@ -7,8 +8,8 @@ ghost use Rattle.line.specs.Inside.{other};
 use field::Field;
 
 // Why a table, a call on an accepted one, a match file, a recipe or a report's scale is refused. A case that has a line names it: the header is line 0, and
-// node i is line i + 1; of one margin among many it is the margin's number, from 1.
-#[derive(Drop)]
+// node i is line i + 1.
+#[derive(Clone, Copy)]
 pub enum Refusal {
     Length,
     IllWritten(usize),
@@ -22,7 +23,6 @@ pub enum Refusal {
     TooDeep(usize),
     NoRoom,
     BadMargin,
-    BadMarginAt(usize),
     HasChance,
     NoChild,
     TooMany,
@@ -31,12 +31,11 @@ pub enum Refusal {
     TooManyGrains,
     BadRecipe,
     BadScale,
-    BadMargins,
     BadIndex,
 }
 
 // The header's fields, and what they say. A second total of 0 stands for none.
-#[derive(Drop)]
+#[derive(Clone, Copy)]
 pub struct Heading {
     pub count: Field,
     pub second: Field,
@@ -45,7 +44,7 @@ pub struct Heading {
     pub highest: Field,
 }
 
-#[derive(Drop)]
+#[derive(Clone, Copy)]
 pub struct Head {
     pub total: u64,
     pub second: u64,
@@ -54,7 +53,7 @@ pub struct Head {
 }
 
 // A node line's fields, and what they say.
-#[derive(Drop)]
+#[derive(Clone, Copy)]
 pub struct Entry {
     pub number: Field,
     pub letter: u8,
@@ -64,7 +63,7 @@ pub struct Entry {
 }
 
 // `chances` counts the C on the path down to the node.
-#[derive(Drop)]
+#[derive(Clone, Copy)]
 pub struct Line {
     pub node: usize,
     pub kind: u8,
@@ -91,7 +90,6 @@ pub fn refusal_number(r: Refusal) -> u64
         Refusal::TooDeep(_) => 10,
         Refusal::NoRoom => 11,
         Refusal::BadMargin => 12,
-        Refusal::BadMarginAt(_) => 12,
         Refusal::HasChance => 13,
         Refusal::NoChild => 14,
         Refusal::TooMany => 15,
@@ -100,7 +98,6 @@ pub fn refusal_number(r: Refusal) -> u64
         Refusal::TooManyGrains => 18,
         Refusal::BadRecipe => 19,
         Refusal::BadScale => 20,
-        Refusal::BadMargins => 21,
         Refusal::BadIndex => 22,
     }
 }
@@ -122,7 +119,6 @@ pub fn refusal_line(r: Refusal) -> usize
         Refusal::TooDeep(n) => n,
         Refusal::NoRoom => 0,
         Refusal::BadMargin => 0,
-        Refusal::BadMarginAt(n) => n,
         Refusal::HasChance => 0,
         Refusal::NoChild => 0,
         Refusal::TooMany => 0,
@@ -131,7 +127,6 @@ pub fn refusal_line(r: Refusal) -> usize
         Refusal::TooManyGrains => 0,
         Refusal::BadRecipe => 0,
         Refusal::BadScale => 0,
-        Refusal::BadMargins => 0,
         Refusal::BadIndex => 0,
     }
 }

@@ -105,6 +105,7 @@ new-keep l (n ∷ r) x i = new-keep (add_leaf l n) r x (leaf-keep l n x i)
 
 pub new-all : (l r : List ℕ) (x : ℕ) → Memᴰ x r → Memᴰ x (add_new l r)
 unfolding add_new
+new-all l [] x i = elim i [ ]
 new-all l (n ∷ r) x (Memᴰ.head e) = new-keep (add_leaf l n) r x (subst (λ (y : ℕ). Memᴰ y (add_leaf l n)) (sym e) (leaf-self l n))
 new-all l (n ∷ r) x (Memᴰ.tail i) = new-all (add_leaf l n) r x i
 

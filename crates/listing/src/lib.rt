@@ -1,4 +1,6 @@
 // Leaves listed once: those of a reading sequence that are not listed yet are added to a list, in sequence.
+#![tactic(auto)]
+
 ghost use Rattle.listing.specs.Inside.{ReadyLeaf, AddedLeaf, ReadyLeaves, AddedLeaves};
 
 // One leaf, behind the `count` that are listed. A mark stands for each node that is.

@@ -12,7 +12,7 @@ use search_call::Bounds;
 use table::{Reading, Summary};
 
 // How many leaves are listed, and G; or a refusal.
-#[derive(Drop)]
+#[derive(Clone, Copy)]
 pub enum Listed {
     Done(usize, u64),
     Refused(Refusal),

@@ -1,4 +1,6 @@
 // The marks that a report lists with its losses: document 02, Item 11. A loss is in thousandths of a point.
+#![tactic(auto)]
+
 ghost use Rattle.std.specs.Prelude.{◌≡◌};
 ghost use Rattle.mark.specs.Marks.{printed_mark, new_mark, mark_by, mark_number, mark_code, choice_of};
 
@@ -6,7 +8,7 @@ use line::Refusal;
 use report::Loss;
 
 // From the mildest on.
-#[derive(Drop)]
+#[derive(Clone, Copy)]
 pub enum Mark {
     NoMark,
     Doubtful,
@@ -15,14 +17,14 @@ pub enum Mark {
 }
 
 // The scale of books in print, whose number is 1, and that of new books, 2.
-#[derive(Drop)]
+#[derive(Clone, Copy)]
 pub enum Marking {
     Printed,
     New,
 }
 
 // What a scale's number gives.
-#[derive(Drop)]
+#[derive(Clone, Copy)]
 pub enum Choice {
     Known(Marking),
     Refused(Refusal),

@@ -1,4 +1,6 @@
 // Small functions on numbers and slices that several crates use.
+#![tactic(auto)]
+
 ghost use Rattle.std.specs.Prelude.{◌≡◌, ◌-◌, ◌^◌, ◌<◌, min, max, pos, length, get_or};
 
 pub fn max_of(a: u64, b: u64) -> u64

@@ -1,4 +1,6 @@
 // One line of a table, read: the header and a node line, with the documents' refusals of them.
+#![tactic(auto)]
+
 ghost use Rattle.std.specs.Prelude.{◌≡◌, not, cond, List, ℕ, ◌+◌, ◌<◌, ◌≤◌, length};
 ghost use Rattle.line.specs.Line.{is_ill, is_blank, has_number, outside, second_of, total_of, heading_of, ill_heading, bad_second, wide_heading, larger, entry_of, letter_code, climb, ancestors, chances_of, at_chance, line_said, place_of, ill_entry, misfilled, wide_entry, node_line, header as header_of};
 ghost use Rattle.parsing.specs.Inside.{head_shown, path_of, above_shown, placing_shown, placing_of, Upto, Roomy, Bounded};
@@ -6,21 +8,21 @@ ghost use Rattle.parsing.specs.Inside.{head_shown, path_of, above_shown, placing
 use field::Field;
 use line::{Entry, Head, Heading, Line, Refusal};
 
-#[derive(Drop)]
+#[derive(Clone, Copy)]
 pub enum HeadRead {
     Fine(Head),
     Refused(Refusal),
 }
 
 // How many steps of the path stand above a node, if its parent is among them.
-#[derive(Drop)]
+#[derive(Clone, Copy)]
 pub enum Found {
     At(usize),
     Nowhere,
 }
 
 // A node line, and how many steps stand above it.
-#[derive(Drop)]
+#[derive(Clone, Copy)]
 pub enum Placing {
     At(Line, usize),
     Refused(Refusal),

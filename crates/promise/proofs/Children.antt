@@ -53,12 +53,13 @@ pub rising-under : (s : Slices) (c e n w : ℕ) (k : Kind) (under rest : Forest 
 unfolding Spans
 rising-under s c e n w k under rest x = rising s (c + 1) (get_or s.stops c 0) under x.3
 
-child-from : (frame : ℕ → Forest ℕ → Frame ℕ) (G m v c : ℕ) (f : Forest ℕ) → Rising c f → Child frame m v (grained G f) → c ≤ m
+child-from : (frame : ℕ → Forest ℕ → Frame ℕ) (G m c : ℕ) (f : Forest ℕ) → Rising c f → (v : ℕ) → Child frame m v (grained G f) → c ≤ m
 unfolding grained
-child-from frame G m v c (leaf n w h rest) r here-leaf = r.0
-child-from frame G m v c (leaf n w h rest) r (next-leaf x) = omega (arith, r.0, child-from frame G m v (suc n) rest r.1 x)
-child-from frame G m v c (inner n w k under rest) r (here-inner x) = r.0
-child-from frame G m v c (inner n w k under rest) r (next-inner x) = omega (arith, r.0, child-from frame G m v (suc n) rest r.1 x)
+child-from frame G m c end r v x = elim x [ ]
+child-from frame G m c (leaf n w h rest) r v here-leaf = r.0
+child-from frame G m c (leaf n w h rest) r v (next-leaf x) = omega (arith, r.0, child-from frame G m (suc n) rest r.1 v x)
+child-from frame G m c (inner n w k under rest) r v (here-inner x) = r.0
+child-from frame G m c (inner n w k under rest) r v (next-inner x) = omega (arith, r.0, child-from frame G m (suc n) rest r.1 v x)
 
 pub root-same : (G : ℕ) (g : ℤ → ℕ) (f : Forest ℤ) → root_of (grained G (map_forest g f)) ≡ root_of f
 unfolding grained
@@ -81,10 +82,11 @@ module _ (T G K S : ℕ) (h : Head) where
   child-worth : (d c : ℕ) (u : Bool) (f : Forest ℤ) → Proper T K (Within h) d c u f → Filled f → Divides f → SmallWorths G S (lowered f)
       → (b : ℕ) → Rising b (lowered f) → (m v : ℕ) → Child (plain S) m v (grained G (lowered f)) → worth_at G m f ≡ some (base +ℤ pos v)
   unfolding worth_at grained
+  child-worth d c u end p fl bl s b r m v i = elim i [ ]
   child-worth d c u (leaf n w x rest) p fl bl s b r m v here-leaf =
       cond-here (eqb n n) _ _ (eq-eqb n n refl) ∙ ap some (utility-shift G h x p.1)
   child-worth d c u (leaf n w x rest) p fl bl s b r m v (next-leaf i) =
-      let past : n < m = child-from (plain S) G m v (suc n) (lowered rest) r.1 i in
+      let past : n < m = child-from (plain S) G m (suc n) (lowered rest) r.1 v i in
       cond-past (eqb n m) _ _ (ne_eqb n m (λ e. omega arith)) ∙ child-worth d c u rest p.4 fl bl s.1 (suc n) r.1 m v i
   child-worth d c u (inner n w k under rest) p fl bl s b r m v (here-inner e) =
       cond-here (eqb n n) _ _ (eq-eqb n n refl)
@@ -93,7 +95,7 @@ module _ (T G K S : ℕ) (h : Head) where
       ∙ ap (λ (y : ℕ). base +ℤ pos y)
       (sym (e ∙ worth-value S G k (lowered under) (map-end (above h.lowest) under ∙ fl.0) (map-filled (above h.lowest) under fl.1) s.1)))
   child-worth d c u (inner n w k under rest) p fl bl s b r m v (next-inner i) =
-      let past : n < m = child-from (plain S) G m v (suc n) (lowered rest) r.1 i in
+      let past : n < m = child-from (plain S) G m (suc n) (lowered rest) r.1 v i in
       cond-past (eqb n m) _ _ (ne_eqb n m (λ e. omega arith)) ∙ child-worth d c u rest p.4 fl.2 bl.2 s.2 (suc n) r.1 m v i
 
   -- a root child of these nodes, which stand in slices
@@ -101,5 +103,7 @@ module _ (T G K S : ℕ) (h : Head) where
       → (s : Slices) (e : ℕ) → Spans s 0 e (lowered f) → (m v : ℕ) → Child (plain S) m v (children (grained G (lowered f)))
       → worth_at G m (children f) ≡ some (base +ℤ pos v)
   unfolding grained
+  play-worth end p fl bl sm s e x m v i = elim i [ ]
+  play-worth (leaf n w h rest) p fl bl sm s e x m v i = elim i [ ]
   play-worth (inner n w k under rest) p fl bl sm s e x m v i =
       child-worth 1 (0 + one k) (is_chance k) under p.3 fl.1 bl.1 sm.1 1 (rising-under s 0 e n w k (lowered under) (lowered rest) x) m v i

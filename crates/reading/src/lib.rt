@@ -1,4 +1,6 @@
 // A table's text: refused with the documents' number and line, or decoded into number slices.
+#![tactic(auto)]
+
 ghost use Rattle.std.specs.Prelude.{◌≡◌, ◌+◌, ◌*◌, ◌-◌, ◌<◌, ◌≤◌, ◌^◌, length, drop, take};
 ghost use Rattle.line.specs.Inside.{Ranged};
 ghost use Rattle.table.specs.Table.{lines_of, bad_length, read_text, answer};

@@ -1,4 +1,6 @@
 // Test positions by recipe: the same table from the same numbers, written into a lent buffer.
+#![tactic(auto)]
+
 ghost use Rattle.std.specs.Prelude.{◌≡◌, cond, ◌+◌, ◌*◌, ◌≤◌, ◌<◌, length, eqb};
 ghost use Rattle.std.proofs.lemmas.List.Edits.{sets};
 ghost use Rattle.table.specs.Tree.{code_of};
@@ -10,7 +12,7 @@ ghost use Rattle.recipe.specs.Inside.{under_of, first_line, after_first, LineRea
 use line::{Head, Line};
 
 // The next node's number, and the state before its leaves.
-#[derive(Drop)]
+#[derive(Clone, Copy)]
 pub struct Place {
     pub node: usize,
     pub state: u64,
@@ -18,7 +20,7 @@ pub struct Place {
 
 // Lines with one parent: how many lines a path has from one of them down to its leaf, the leaf not counted, and how many stand above
 // them; the parent's number, whether it is a C, and which child it is itself.
-#[derive(Drop)]
+#[derive(Clone, Copy)]
 pub struct Siblings {
     pub left: u64,
     pub level: u64,

@@ -1,4 +1,6 @@
 // The public call of test positions by recipe. It takes any numbers, and ends with a table or a refusal.
+#![tactic(auto)]
+
 ghost use Rattle.std.specs.Prelude.{◌≡◌, length};
 ghost use Rattle.table.specs.Slices.{laid};
 ghost use Rattle.recipe_call.specs.Call.{beyond, out_of_range, recipe_call, recipe_bytes};
@@ -6,7 +8,7 @@ ghost use Rattle.recipe_call.specs.Call.{beyond, out_of_range, recipe_call, reci
 use line::Refusal;
 
 // How many bytes of the table's text were written, or a refusal.
-#[derive(Drop)]
+#[derive(Clone, Copy)]
 pub enum Made {
     Written(usize),
     Refused(Refusal),

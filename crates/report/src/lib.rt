@@ -2,28 +2,30 @@
 // one position, `report_call` the call.
 
 // What is listed of a play: no decision, or the loss in thousandths of a point.
-#[derive(Drop)]
+#![tactic(auto)]
+
+#[derive(Clone, Copy)]
 pub enum Loss {
     NoDecision,
     Thousandths(u64),
 }
 
 // An entry: the root's kind as a number, and the loss.
-#[derive(Drop)]
+#[derive(Clone, Copy)]
 pub struct Row {
     pub kind: u8,
     pub loss: Loss,
 }
 
 // The number of a side's decisions, and the sum of their listed losses.
-#[derive(Drop)]
+#[derive(Clone, Copy)]
 pub struct Tally {
     pub decisions: u64,
     pub sum: u64,
 }
 
 // The number of positions, and the tallies of MAX, at M, and of MIN, at N.
-#[derive(Drop)]
+#[derive(Clone, Copy)]
 pub struct Totals {
     pub positions: usize,
     pub max: Tally,

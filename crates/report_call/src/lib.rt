@@ -1,4 +1,6 @@
 // The public call of the match report. It takes any file, any scale and any lists, and ends with totals or a refusal.
+#![tactic(auto)]
+
 ghost use Rattle.std.specs.Prelude.{◌≡◌, [], ◌≤◌, length, take};
 ghost use Rattle.table.specs.Slices.{laid, fitted};
 ghost use Rattle.report.specs.Report.{loss_code, totals_of, match_of, kinds_in, losses_in};
@@ -14,7 +16,7 @@ use report::{Loss, Row, Tally, Totals};
 use scoring::Position;
 
 // The totals; or a refusal with the position's number, from 1, and 0 for a refusal of no one position.
-#[derive(Drop)]
+#[derive(Clone, Copy)]
 pub enum Reported {
     Done(Totals),
     Refused(Refusal, usize),

@@ -7,14 +7,14 @@ use line::Refusal;
 use table::Reading;
 
 // The worth in grains and how many leaves were read, or a refusal.
-#[derive(Drop)]
+#[derive(Clone, Copy)]
 pub enum Rolled {
     Done(i64, usize),
     Refused(Refusal),
 }
 
 // What rollouts answer, how many nodes have bounds, none where the call is refused, and the grains that these are above.
-#[derive(Drop)]
+#[derive(Clone, Copy)]
 pub struct Outcome {
     pub answer: Rolled,
     pub nodes: usize,

@@ -6,8 +6,8 @@ use mathlib.Core.List.{List}
 use native.Mathlib.Decide.{dec_le}
 use native.Mathlib.Nat.{mul-le-mul_right}
 use native.Mathlib.Omega.{arith}
-use Rattle.table.specs.Tree.{Kind, MAX, MIN, CHANCE, Forest, end, leaf, inner}
-use Rattle.table.specs.Accepted.{Proper}
+use Rattle.table.specs.Tree.{Kind, MAX, MIN, CHANCE, Forest, end, leaf, inner, is_chance}
+use Rattle.table.specs.Accepted.{one, Proper}
 use Rattle.table.proofs.Runs.{size, Numbered}
 use Rattle.search.specs.Inside.{grained}
 use Rattle.rollout.specs.Rollout.{Kept, none, tip, knot, fresh, lows, highs, joined}
@@ -78,4 +78,4 @@ unfolding fresh grained
 fresh-capped T K S G d c u end p = tt
 fresh-capped T K S G d c u (leaf n w v rest) p = (mul-le-mul_right G p.1, omega arith, omega arith, fresh-capped T K S G d c u rest p.4)
 fresh-capped T K S G d c u (inner n w k under rest) p =
-    (omega arith, omega arith, fresh-capped T K S G _ _ _ under p.3, fresh-capped T K S G d c u rest p.4)
+    (omega arith, omega arith, fresh-capped T K S G (suc d) (c + one k) (is_chance k) under p.3, fresh-capped T K S G d c u rest p.4)

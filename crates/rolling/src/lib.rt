@@ -1,4 +1,6 @@
 // Rollouts over the decoded table: Algorithm 4 of document 003, whose lines are named here, in grains above the lowest end.
+#![tactic(auto)]
+
 ghost use Rattle.std.specs.Prelude.{◌≡◌, cond, ◌+◌, ◌*◌, ◌<◌, ◌≤◌, length, get_or, set, drop};
 ghost use Rattle.table.specs.Tree.{kind_of};
 ghost use Rattle.rollout.specs.Rollout.{spend, joined, candidate};
@@ -8,7 +10,7 @@ ghost use Rattle.rolling.specs.Inside.Contracts.{stored, Children, Counted, Choi
 use numbers::{at8, max_of, min_of, node_at, wide32};
 
 // Where a walk ends: the leaf, how many inner nodes lead to it, and how many policy bytes are used.
-#[derive(Drop)]
+#[derive(Clone, Copy)]
 struct Step {
     pub leaf: usize,
     pub depth: usize,
@@ -16,7 +18,7 @@ struct Step {
 }
 
 // The extremes of the bounds of a node's children.
-#[derive(Drop)]
+#[derive(Clone, Copy)]
 struct Bounds {
     pub low: u64,
     pub high: u64,

@@ -1,5 +1,5 @@
 -- Before the first walk, over heights: what holds of the bounds, the worths and the unread leaves of a table's tree. Assumes nothing.
-use Prim.Native.Nat.{ℕ, ◌+◌, ◌*◌, min, max, ◌≤◌, ◌<◌}
+use Prim.Native.Nat.{ℕ, suc, ◌+◌, ◌*◌, min, max, ◌≤◌, ◌<◌}
 use mathlib.Core.Path.{◌≡◌, refl, sym, ap, ap₂, ◌∙◌}
 use mathlib.Core.Bool.{Bool, false}
 use mathlib.Core.List.{List, [], ◌∷◌, map}
@@ -7,7 +7,7 @@ use native.Mathlib.Nat.{mul-le-mul_right}
 use native.Mathlib.Omega.{arith}
 use borrow.Author.Tests.{lt-ltb}
 use Rattle.line.proofs.Signs.{true-ne-false}
-use Rattle.table.specs.Tree.{Kind, MAX, MIN, CHANCE, Forest, end, leaf, inner, is_end}
+use Rattle.table.specs.Tree.{Kind, MAX, MIN, CHANCE, Forest, end, leaf, inner, is_end, is_chance}
 use Rattle.table.specs.Leaves.{leaf_nodes}
 use Rattle.table.specs.Accepted.{one, Proper, Filled}
 use Rattle.worth.specs.Worth.{Share}
@@ -63,7 +63,7 @@ module _ (T K S G : ℕ) where
         s,
         sym (over-low 0 (S * G) k (grained G under) s),
         sym (over-high 0 (S * G) k (grained G under) s),
-        fresh-sound _ _ _ under p.3 f.1,
+        fresh-sound (suc d) (c + one k) (is_chance k) under p.3 f.1,
         fresh-sound d c u rest p.4 f.2,
       )
 
@@ -95,7 +95,7 @@ fresh-exacts T ok G b e d c u end p = refl
 fresh-exacts T ok G b e d c u (leaf n w v rest) p = ap (λ (l : List ℕ). v * G ∷ l) (fresh-exacts T ok G b e d c u rest p.4)
 fresh-exacts T ok G b e d c u (inner n w k under rest) p =
     ap₂ (λ (x : ℕ) (l : List ℕ). x ∷ l)
-    (ap (over natural k 0) (fresh-exacts T ok G b e _ _ _ under p.3) ∙ value-over c k (height_shares G under) p.2)
+    (ap (over natural k 0) (fresh-exacts T ok G b e (suc d) (c + one k) (is_chance k) under p.3) ∙ value-over c k (height_shares G under) p.2)
     (fresh-exacts T ok G b e d c u rest p.4)
 
 -- ---- the leaves

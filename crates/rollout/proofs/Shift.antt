@@ -1,5 +1,5 @@
 -- Rollouts of a table over the integers are those over heights, every bound above the lowest end. Assumes nothing.
-use Prim.Native.Nat.{ℕ, ◌+◌, ◌*◌, ◌<◌, ◌≤◌}
+use Prim.Native.Nat.{ℕ, suc, ◌+◌, ◌*◌, ◌<◌, ◌≤◌}
 use mathlib.Core.Path.{◌≡◌, refl, sym, ap, ap₂, ◌∙◌}
 use mathlib.Core.Bool.{Bool, false, not}
 use mathlib.Core.List.{List}
@@ -14,10 +14,10 @@ use Rattle.numbers.proofs.Above.{lift, leaf-shift, max-shift, min-shift}
 use Rattle.line.specs.declared.Head.{Head}
 use Rattle.line.specs.Line.{larger, Within}
 use Rattle.line.specs.Refusal.{fine}
-use Rattle.table.specs.Tree.{Forest, end, leaf, inner}
+use Rattle.table.specs.Tree.{Forest, end, leaf, inner, is_chance}
 use Rattle.table.specs.Table.{Table, tree, read_text, greatest, grain}
 use Rattle.table.specs.Inside.{height_tree}
-use Rattle.table.specs.Accepted.{span, Proper}
+use Rattle.table.specs.Accepted.{one, span, Proper}
 use Rattle.table.proofs.Heights.{above as height, height-back, map_forest, heights-map}
 use Rattle.table.proofs.Accepted.{accepted-ranged, accepted-proper}
 use Rattle.search.specs.Whole.{in_grains}
@@ -61,7 +61,7 @@ module _ (T G K : ℕ) (h : Head) where
       (ap (λ (z : ℤ). z *ℤ pos G) (sym (height-back h.lowest v p.1.0)) ∙ leaf-shift h.lowest (height h.lowest v) G)
       (tree-above d c u rest p.4)
   tree-above d c u (inner n w k under rest) p =
-      ap₂ (λ (x r : Forest ℤ). inner n w k x r) (tree-above _ _ _ under p.3) (tree-above d c u rest p.4)
+      ap₂ (λ (x r : Forest ℤ). inner n w k x r) (tree-above (suc d) (c + one k) (is_chance k) under p.3) (tree-above d c u rest p.4)
 
 module _ (s : List ℕ) (t : Table) (h : read_text s ≡ fine t) where
   pub grains-above : in_grains (grain t) (tree t) ≡ map_forest (above t) (grained (grain t) (height_tree t))

@@ -11,7 +11,7 @@ use rolled::{Outcome, Rolled};
 
 // One node's bounds, in grains, laid out as in C: a caller in C lends a store of them.
 #[repr(C)]
-#[derive(Drop)]
+#[derive(Clone, Copy)]
 pub struct Record {
     pub low: i64,
     pub high: i64,

@@ -1,4 +1,6 @@
 // Runs of nodes in the decoded slices: where each stops, the nodes without a child or with weights that sum to no total, and how often a total is used.
+#![tactic(auto)]
+
 ghost use Rattle.std.specs.Prelude.{◌≡◌, ◌+◌, ◌<◌, ◌≤◌, length, get_or, take};
 ghost use Rattle.table.specs.Slices.{laid};
 ghost use Rattle.runs.specs.Inside.{stop_in, stops_from, HasStops, first_or, scan_from, bare_at, Has, weigh_at, odd_at, use_at, UsedMost};

@@ -1,4 +1,6 @@
 // Heights in grains: the scale of an accepted table, and its lowest end added.
+#![tactic(auto)]
+
 ghost use Rattle.std.specs.Prelude.{◌≡◌, ◌≤◌, pos, ◌+ℤ◌, ◌-ℤ◌, ◌*ℤ◌};
 ghost use Rattle.std.specs.Int.Signed.{mag};
 ghost use Rattle.line.specs.Line.{to_nat};
@@ -7,7 +9,7 @@ ghost use Rattle.scale.specs.Inside.{Spread, scale_for};
 use table::Summary;
 
 // A table's grain count, and the highest end's grains above the lowest.
-#[derive(Drop)]
+#[derive(Clone, Copy)]
 pub struct Scale {
     pub grain: u64,
     pub top: u64,

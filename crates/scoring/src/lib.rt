@@ -1,4 +1,6 @@
 // One position of a match file: its play-number line and its table read, and the play judged. `Match` is the reader: the file and a place in it.
+#![tactic(auto)]
+
 ghost use Rattle.std.specs.Prelude.{◌≡◌, length};
 ghost use Rattle.line.specs.Refusal.{unless};
 ghost use Rattle.line.specs.Line.{count_of, heading_of};
@@ -15,21 +17,21 @@ use report::{Loss, Row};
 use table::Reading;
 
 // What stands at a place of the file: a position's entry and how many bytes it takes, or why it is refused.
-#[derive(Drop)]
+#[derive(Clone, Copy)]
 pub enum Position {
     Entry(Row, usize),
     Refused(Refusal),
 }
 
 // A match file and a place in it.
-#[derive(Drop)]
+#[derive(Clone, Copy)]
 pub struct Match<'a> {
     pub file: &'a [u8],
     pub at: usize,
 }
 
 // What a header gives: the number of nodes, or 2, 3, 4.
-#[derive(Drop)]
+#[derive(Clone, Copy)]
 enum Count {
     Nodes(usize),
     Refused(Refusal),

@@ -70,7 +70,7 @@ module _ (T S G : ℕ) where
       omega arith,
       le_refl (S * G),
       sound k under b.0,
-      within _ (suc d) (c + one k) (is_chance k) under p.3 b.1,
+      within (weigh (grained G under)) (suc d) (c + one k) (is_chance k) under p.3 b.1,
       within N d c u rest p.4 b.2,
     )
 

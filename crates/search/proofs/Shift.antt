@@ -7,7 +7,7 @@ use mathlib.Core.List.{List, [], ◌∷◌, ◌++◌}
 use native.Mathlib.Nat.{lt-mul-div-succ, mul-div-le, mul-le-mul_left, mul-sub, le_trans, div-eq_of_lt}
 use native.Mathlib.Omega.{arith}
 use native.Mathlib.Decide.{dec_le}
-use lib.Dec.{T as Holds, leb, ltb, leb→le, le→leb, nleb→lt, lt→ltb, ltb→lt, not__t}
+use lib.Dec.{T as Holds, leb, ltb, leb→le, le→leb, nleb→lt, lt→ltb, ltb→lt, not_T}
 use lib.IntN.{ℤ, pos, negsuc, neg_ℤ, ◌+ℤ◌, ◌-ℤ◌, ◌*ℤ◌}
 use lib.Signed.{lt_z, le_z}
 use Rattle.numbers.specs.Integers.{max_z, min_z, floor_z, ceil_z}
@@ -37,7 +37,7 @@ ceil-lt x w p = omega (arith, mul-div-le (x + (w - 1)) w)
 
 pub less-natural : (a b : ℕ) → ltb a b ≡ not (leb b a)
 less-natural a b =
-    same_test (ltb a b) (not (leb b a)) (λ h. not__t (leb b a) (λ x. omega (arith, leb→le b a x, ltb→lt a b h))) (λ h. lt→ltb a b (nleb→lt b a h))
+    same_test (ltb a b) (not (leb b a)) (λ h. not_T (leb b a) (λ x. omega (arith, leb→le b a x, ltb→lt a b h))) (λ h. lt→ltb a b (nleb→lt b a h))
 
 pub less-whole : (y z : ℤ) → lt_z y z ≡ not (le_z z y)
 less-whole (pos m) (pos n) = less-natural m n

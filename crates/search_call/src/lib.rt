@@ -1,4 +1,6 @@
 // The public calls of the bounded search, with a leaf budget and without. They take any input, and end with an answer or a refusal.
+#![tactic(auto)]
+
 ghost use Rattle.std.specs.Prelude.{◌≡◌, ◌-◌, min, ◌≤◌, length, pos};
 ghost use Rattle.line.specs.Line.{to_nat};
 ghost use Rattle.table.specs.Table.{read_text};
@@ -16,7 +18,7 @@ use table::{Play, Reading, Summary};
 
 // What a search answers: two bounds and how far apart they are, the best root child entered, how many leaves were read, whether the budget was
 // spent, and G.
-#[derive(Drop)]
+#[derive(Clone, Copy)]
 pub struct Bounds {
     pub low: i64,
     pub high: i64,
@@ -28,7 +30,7 @@ pub struct Bounds {
 }
 
 // The bounds, or a refusal.
-#[derive(Drop)]
+#[derive(Clone, Copy)]
 pub enum Bounded {
     Found(Bounds),
     Refused(Refusal),

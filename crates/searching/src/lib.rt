@@ -1,6 +1,8 @@
 // The bounded search over the decoded table: Algorithm 1 of document 000, whose lines are named here, in grains above the lowest end. One code for the plain
 // search and for that with an index (document 02, Item 14): with one an M, N or C has its own ends, which stand so many points above the table's lowest end as
 // `height` and `tops` have for it; without one `tops` is empty.
+#![tactic(auto)]
+
 ghost use Rattle.std.specs.Prelude.{◌+◌, length};
 ghost use Rattle.table.specs.Tree.{MAX, MIN, CHANCE};
 ghost use Rattle.table.specs.Inside.{slices};

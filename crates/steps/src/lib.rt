@@ -1,5 +1,7 @@
 // One step of the bounded search: the window of a child, the state after it, a leaf read, and a node met when no read is left. Lines are those of
 // Algorithm 1 of document 000, numbers are in grains above the lowest end, and in a C's state its total times that.
+#![tactic(auto)]
+
 ghost use Rattle.std.specs.Prelude.{◌≡◌, ◌||◌, cond, ◌+◌, ◌*◌, ◌/◌, ◌<◌, ◌≤◌, eqb, ltb, length, get_or};
 ghost use Rattle.table.specs.Tree.{MAX, MIN, CHANCE};
 ghost use Rattle.search.specs.Search.{below};
@@ -8,14 +10,14 @@ ghost use Rattle.steps.specs.Inside.{frame_at, sums_at, window_for, after, stops
 use numbers::{max_of, min_of, monus, wide32};
 
 // The margin, and the grains in a point.
-#[derive(Drop)]
+#[derive(Clone, Copy)]
 pub struct Rule {
     pub margin: u64,
     pub grain: u64,
 }
 
 // A node's least and greatest value in grains.
-#[derive(Drop)]
+#[derive(Clone, Copy)]
 pub struct Ends {
     pub bottom: u64,
     pub top: u64,
@@ -24,7 +26,7 @@ pub struct Ends {
 // Where the search of a node stands between two children; `play` is the best child's node, 0 for none (node 0 is no child). That child's low is the low
 // of an M so far, and its high the high of an N; `other` is its other bound, by which a tie is broken. A C keeps running sums: its first four numbers are
 // its total times those of Algorithm 1.
-#[derive(Drop)]
+#[derive(Clone, Copy)]
 pub struct State {
     pub alpha: u64,
     pub beta: u64,
@@ -35,21 +37,21 @@ pub struct State {
 }
 
 // The best child's node and its other bound, as in a state.
-#[derive(Drop)]
+#[derive(Clone, Copy)]
 struct Best {
     node: usize,
     other: u64,
 }
 
 // The window of a node.
-#[derive(Drop)]
+#[derive(Clone, Copy)]
 pub struct Window {
     pub alpha: u64,
     pub beta: u64,
 }
 
 // A node's bounds, its best child's node (0 for none), how many reads are left, and whether a node was met when none was.
-#[derive(Drop)]
+#[derive(Clone, Copy)]
 pub struct Found {
     pub low: u64,
     pub high: u64,

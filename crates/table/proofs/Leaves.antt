@@ -55,6 +55,7 @@ drop-other n m d (Memᴰ.head e) (later r) = Memᴰ.head e
 drop-other n m d (Memᴰ.tail i) (later r) = Memᴰ.tail (drop-other n m d i r)
 
 drop-one : (n : ℕ) (l : List ℕ) → Memᴰ n l → (r : List ℕ) × Drops n l r
+drop-one n [] x' = elim x' [ ]
 drop-one n (a ∷ l) (Memᴰ.head e) = (l, subst (λ (x : ℕ). Drops n (x ∷ l) l) e now)
 drop-one n (a ∷ l) (Memᴰ.tail i) = let r = drop-one n l i in (a ∷ r.0, later r.1)
 
@@ -174,9 +175,9 @@ spans-numbered s c e (inner n w k under rest) x =
 
 -- ---- an accepted table
 
-below_in : (b : ℕ) {l : List ℕ} → Below b l → (n : ℕ) → Memᴰ n l → n < b
-below_in b h n (Memᴰ.head e) = omega (arith, h.0)
-below_in b h n (Memᴰ.tail i) = below_in b h.1 n i
+below_in : (b n : ℕ) {l : List ℕ} → Below b l → Memᴰ n l → n < b
+below_in b n h (Memᴰ.head e) = omega (arith, h.0)
+below_in b n h (Memᴰ.tail i) = below_in b n h.1 i
 
 module _ (s : List ℕ) (t : Table) (h : read_text s ≡ fine t) where
   pub height-numbered : (size (height_tree t) ≡ length t.lines) × Numbered 0 (height_tree t)
@@ -191,5 +192,5 @@ module _ (s : List ℕ) (t : Table) (h : read_text s ≡ fine t) where
   -- each is a node of the table
   pub leaves-below : (n : ℕ) → Memᴰ n (leaf_nodes (tree t)) → n < length t.lines
   leaves-below n i =
-      below_in (length t.lines) (nodes-below (height_tree t) 0 (length t.lines) height-numbered.1 (omega (arith, height-numbered.0))) n
+      below_in (length t.lines) n (nodes-below (height_tree t) 0 (length t.lines) height-numbered.1 (omega (arith, height-numbered.0)))
       (subst (Memᴰ n) (sym height-nodes) i)

@@ -1,8 +1,10 @@
 // The types of what is answered of a table; crate `reading` has the code.
+#![tactic(auto)]
+
 use line::Refusal;
 
 // An accepted table's numbers. A second total of 0 stands for none.
-#[derive(Drop)]
+#[derive(Clone, Copy)]
 pub struct Summary {
     pub nodes: usize,
     pub total: u64,
@@ -14,14 +16,14 @@ pub struct Summary {
     pub second: u64,
 }
 
-#[derive(Drop)]
+#[derive(Clone, Copy)]
 pub enum Reading {
     Accepted(Summary),
     Refused(Refusal),
 }
 
 // A play: a root child, by its node number, or none.
-#[derive(Drop)]
+#[derive(Clone, Copy)]
 pub enum Play {
     Child(usize),
     NoPlay,

@@ -31,7 +31,7 @@ unfolding flat turn_tree
 flat-turned p c end = refl
 flat-turned p c (leaf n w v rest) = rw (flat-turned p c rest)
 flat-turned p c (inner n w k under rest) =
-    rw (kind-chance k, kind-code k, flat-turned n (c + one k) under, flat-turned p c rest, map-append)
+    rw (kind-chance k, kind-code k, flat-turned n (c + one k) under, flat-turned p c rest, map-append turn_line (flat n (c + one k) under) (flat p c rest))
 
 -- ---- the rules
 

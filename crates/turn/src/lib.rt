@@ -1,5 +1,7 @@
 // The turned text: the same position from the other side, written into a lent buffer. Every field is written afresh, blanks before its number, whatever
 // its padding was.
+#![tactic(auto)]
+
 ghost use Rattle.std.specs.Prelude.{◌≡◌, ◌++◌, ◌+◌, ◌*◌, ◌≤◌, length, drop};
 ghost use Rattle.std.proofs.lemmas.List.Edits.{sets};
 ghost use Rattle.line.specs.Line.{entry_of};

@@ -1,4 +1,6 @@
 // The public call of turning. It takes any input, and ends with an answer or a refusal.
+#![tactic(auto)]
+
 ghost use Rattle.std.specs.Prelude.{◌≡◌, length};
 ghost use Rattle.table.specs.Table.{read_text};
 ghost use Rattle.table.specs.Slices.{laid};
@@ -8,7 +10,7 @@ use line::{Head, Refusal};
 use table::Reading;
 
 // How many bytes of the turned text were written, or a refusal.
-#[derive(Drop)]
+#[derive(Clone, Copy)]
 pub enum Turned {
     Written(usize),
     Refused(Refusal),

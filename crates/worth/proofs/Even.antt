@@ -5,7 +5,7 @@ use mathlib.Core.Bool.{true}
 use mathlib.Core.List.{List, [], ◌∷◌}
 use native.Mathlib.Nat.{dvd_trans, dvd-zero, dvd-add, dvd-mul_right, dvd-mul_left_of_dvd, dvd_of_mul-dvd-mul_left, mul-div_cancel'}
 use Rattle.line.proofs.Signs.{true-ne-false}
-use Rattle.table.specs.Tree.{Kind, MAX, MIN, CHANCE, Forest, end, leaf, inner, is_chance}
+use Rattle.table.specs.Tree.{Kind, MAX, MIN, CHANCE, Forest, end, leaf, inner, is_chance, weigh}
 use Rattle.table.specs.Accepted.{Totals}
 use Rattle.table.proofs.Totals.{grade, Divided}
 use Rattle.worth.specs.Worth.{Share, total}
@@ -47,7 +47,7 @@ module _ (G : ℕ) where
   even g (leaf n w h rest) d b = (dvd-mul_left_of_dvd g d.0 h, even g rest d.1 b)
   even g (inner n w k under rest) d b =
       let e = weights-shares G under in (
-        value-dvd g k (height_shares G under) (λ i. rw e (b.0 i)) (rw e (even _ under d.1 b.1)),
+        value-dvd g k (height_shares G under) (λ i. rw e (b.0 i)) (rw e (even (grade k (weigh under) g) under d.1 b.1)),
         even g rest d.2 b.2,
       )
 
@@ -55,7 +55,7 @@ module _ (G : ℕ) where
   exact-heights g end d b = tt
   exact-heights g (leaf n w h rest) d b = exact-heights g rest d.1 b
   exact-heights g (inner n w k under rest) d b = (
-    value-whole g k (height_shares G under) (rw (weights-shares G under) (even _ under d.1 b.1)),
-    exact-heights _ under d.1 b.1,
+    value-whole g k (height_shares G under) (rw (weights-shares G under) (even (grade k (weigh under) g) under d.1 b.1)),
+    exact-heights (grade k (weigh under) g) under d.1 b.1,
     exact-heights g rest d.2 b.2,
   )

@@ -1,5 +1,7 @@
 // The exact worth: of a run of lines, in grains above the lowest end, with the kinds that the lines say and the numbers that were decoded;
 // and the public call.
+#![tactic(auto)]
+
 ghost use Rattle.std.specs.Prelude.{◌≡◌, ◌+◌, ◌*◌, ◌<◌, ◌≤◌, length, get_or, take, drop};
 ghost use Rattle.table.specs.Tree.{MAX, CHANCE, kind_of};
 ghost use Rattle.worth.specs.Inside.{kind_in, beside, weighing, ReadyRun, Worthy};
@@ -12,7 +14,7 @@ use scale::Scale;
 use table::Reading;
 
 // The worth in grains and G, or a refusal.
-#[derive(Drop)]
+#[derive(Clone, Copy)]
 pub enum Exact {
     Grains(i64, u64),
     Refused(Refusal),

@@ -8,7 +8,7 @@ use native.Mathlib.Omega.{arith}
 use native.Mathlib.Nat.{le_trans, add-zero}
 use borrow.Author.Tests.{eq-eqb, ne_eqb, le-ltb}
 use lib.Dec.{eqb, ltb, eqb-suc-zero}
-use lib.ListN.{length, get_or, length-append}
+use lib.ListN.{length, get_or, drop, length-append}
 use lib.Seq.{take_at, drop_at}
 use lib.IntN.{ℤ, pos}
 use Rattle.field.specs.declared.Field.{Field}
@@ -16,12 +16,12 @@ use Rattle.field.specs.declared.Field.TheVariants.{Blank, Number}
 use Rattle.line.specs.declared.Head.{Head}
 use Rattle.line.specs.declared.Line.{Line}
 use Rattle.line.specs.declared.Entry.{Entry}
-use Rattle.line.specs.Refusal.{fine, unless, unless_at}
-use Rattle.line.specs.Line.{is_blank, outside, value_of, count_of, header, header_for, heading_of, totals, among, larger, Step, Above, path, climb, ancestors, chances_of, at_chance, deep, stepped, placed, early_checks, late_checks, place_of, node_line, Within}
+use Rattle.line.specs.Refusal.{Verdict, fine, next, unless, unless_at}
+use Rattle.line.specs.Line.{Placed, is_blank, outside, value_of, count_of, header, header_for, heading_of, totals, among, larger, Step, Above, path, climb, ancestors, chances_of, at_chance, deep, stepped, placed, early_checks, late_checks, place_of, node_line, Within}
 use Rattle.line.specs.Inside.{Ranged, Weighs}
 use Rattle.line.proofs.Fine.{larger-small, weighs-small, Valued}
 use Rattle.table.specs.Tree.{Kind, MAX, MIN, CHANCE, Forest, end, leaf, inner, code_of, is_chance, weigh, nodes_where, childless, unbalanced, grain_of}
-use Rattle.table.specs.Table.{Table, bad_length, node_lines, tree, complete, count, read_text}
+use Rattle.table.specs.Table.{Table, bad_length, prefix, node_lines, tree, complete, count, read_text}
 use Rattle.table.specs.Accepted.{flat, one, Filled, Balanced, Proper, Rooted}
 use Rattle.table.specs.Padding.{SameText}
 use Rattle.table.proofs.Runs.{size, Numbered, flat-length, code-inner, code-chance, regrow-root}
@@ -147,12 +147,22 @@ module _ (h : Head) (ranged : Ranged h) where
   unfolding node_lines lines_text
   good_none i R = record { lines = refl; long = refl }
 
+  -- a line, and then the lines behind it
+  lines-step : (i n : ℕ) (R S : List Step) (l : Line) (ls : List Line) (x y : List ℕ) → length x ≡ 25 → node_line h i R x ≡ fine (record { line = l; steps = S })
+      → node_lines h n (suc i) S y ≡ fine ls → node_lines h (suc n) i R (x ++ y) ≡ fine (l ∷ ls)
+  unfolding node_lines
+  lines-step i n R S l ls x y w e g =
+      ap (λ (s : List ℕ). next (node_line h i R s) (λ (p : Placed). prefix (p.line ∷ []) (node_lines h n (suc i) p.steps (drop 25 (x ++ y))))) (take_at x y 25 w)
+      ∙ ap (λ (s : List ℕ). next (node_line h i R x) (λ (p : Placed). prefix (p.line ∷ []) (node_lines h n (suc i) p.steps s))) (drop_at x y 25 w)
+      ∙ ap (λ (v : Verdict Placed). next v (λ (p : Placed). prefix (p.line ∷ []) (node_lines h n (suc i) p.steps y))) e
+      ∙ ap (prefix (l ∷ [])) g
+
   good_more : (i : ℕ) (R S : List Step) (l : Line) (ls : List Line) → length (line_text l) ≡ 25 → node_line h i R (line_text l) ≡ fine (record { line = l; steps = S })
       → Good (suc i) S ls → Good i R (l ∷ ls)
-  unfolding node_lines lines_text
+  unfolding lines_text
   good_more i R S l ls w e g =
       record {
-        lines = rw (take_at (line_text l) (lines_text ls) 25 w, e, drop_at (line_text l) (lines_text ls) 25 w, g.lines);
+        lines = lines-step i (length ls) R S l ls (line_text l) (lines_text ls) w e g.lines;
         long = length-append (line_text l) (lines_text ls) ∙ omega (arith, w, g.long);
       }
 

@@ -1,0 +1,16 @@
+-- `field::is_clear` meets its contract.
+use mathlib.Core.Path.{◌≡◌}
+use native.Mathlib.Omega.{arith}
+use Prim.Native.Nat.{◌-◌}
+use Rattle.field.proofs.Reader.{clear-by}
+use Rattle.field.proofs.is_clear.Goals as goal
+
+pub returns-then-k-le1 : goal.returns-then-k-le1
+returns-then-k-le1 c =
+    let none : c.args.k - 1 ≡ 0 = omega arith in
+    rw none
+
+pub returns : goal.returns
+returns c =
+    let a = c in
+    clear-by a.args.t.now a.args.k c.blanks.result (omega arith) a.requires.0 a.requires.1 c.blanks.ensures

@@ -1,0 +1,6 @@
+-- `recipe::write_row` meets its contract.
+use Prim.Native.Nat.{◌+◌, ◌*◌}
+use Rattle.recipe.proofs.+write_row.Given as goal
+
+abbrev pub decreases-write_row : goal.decreases-write_row
+decreases-write_row l = l.y.left * 8 + l.m
