@@ -2,7 +2,6 @@
 use Rattle.std.specs.Prelude.{ℕ, ◌<◌, List, map, ◌≡◌, length, ℤ}
 use Rattle.line.specs.declared.Line.{Line}
 use Rattle.line.specs.Refusal.{Verdict, refused, fine}
-use Rattle.table.specs.declared.Reading.TheVariants.{Refused}
 use Rattle.table.specs.Slices.{height_of, laid}
 use Rattle.table.specs.Table.{greatest, leaf_lines}
 use Rattle.gathering.specs.declared.Lines

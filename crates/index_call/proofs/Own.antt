@@ -1,5 +1,5 @@
 -- An accepted table with its index: what its slices have for the code, the index that they make, and the search with it. Assumes nothing.
-use Prim.Native.Nat.{ℕ, zero, suc, ◌+◌, ◌-◌, ◌*◌, ◌≤◌, ◌<◌}
+use Prim.Native.Nat.{ℕ, zero, suc, ◌+◌, ◌*◌, ◌≤◌, ◌<◌}
 use mathlib.Core.Path.{◌≡◌, refl, sym, ap, ap₂, ◌∙◌}
 use mathlib.Core.Bool.{Bool, true, false}
 use mathlib.Core.List.{List, [], ◌∷◌, map}
@@ -14,7 +14,7 @@ use Rattle.line.specs.Refusal.{fine}
 use Rattle.line.specs.Line.{to_nat, larger}
 use Rattle.table.specs.declared.Summary.{Summary}
 use Rattle.table.specs.Tree.{Forest, end, leaf, inner, is_chance}
-use Rattle.table.specs.Table.{Table, read_text, greatest, grain, summary}
+use Rattle.table.specs.Table.{Table, read_text, greatest, summary}
 use Rattle.table.specs.Slices.{height_of, kinds_of, heights_of}
 use Rattle.table.specs.Inside.{Slices, Spans, lent, height_tree}
 use Rattle.table.specs.Accepted.{span, Proper}

@@ -1,4 +1,6 @@
 // The public calls of the index of ends: one builds it, the other searches with it. They take any input, and end with an answer or a refusal.
+#![tactic(auto)]
+
 ghost use Rattle.std.specs.Prelude.{true, false, ◌&&◌, ◌≡◌, ◌≤◌, length};
 ghost use Rattle.table.specs.Table.{read_text};
 ghost use Rattle.table.specs.Slices.{laid};

@@ -1,5 +1,6 @@
 // One line of a table: what it says, and the documents' refusals.
 #![tactic(auto)]
+
 ghost use Rattle.std.specs.Prelude.{◌≡◌, cond, ◌<◌};
 ghost use Rattle.line.specs.Refusal.{number_of, line_of};
 ghost use Rattle.line.specs.Line.{value_of, to_nat, larger, letter_code};

@@ -13,7 +13,7 @@ use Rattle.search.specs.Search.{Frame, Play, no_play, child, Seen, State, Rules,
 use Rattle.search.specs.Inside.{natural}
 use Rattle.search.proofs.Steps.{cond_map, seen_under, seen_after}
 use Rattle.search.proofs.Below.{below-same}
-use Rattle.search.proofs.Heights.{Sound, Within, total}
+use Rattle.search.proofs.Heights.{Sound, Within}
 use Rattle.search.proofs.Contain.{contained, Holding, hold-point, hold-under, hold-met}
 use Rattle.search.proofs.Safe.{drop-top, share-fits, Low, Safe, safe-window, safe-begin, safe-lower, safe-upper, safe-update}
 

@@ -12,7 +12,7 @@ use Rattle.table.specs.Tree.{Kind, MAX, MIN, CHANCE, Forest, end, leaf, inner, w
 use Rattle.search.specs.Search.{Frame, Seen, State, Rules, begin, lower, upper, update, finish, cut, stop, point, scan, search}
 use Rattle.search.specs.Inside.{natural, ceil}
 use Rattle.search.proofs.Steps.{seen_under, seen_after}
-use Rattle.search.proofs.Heights.{Paid, Sound, Within, total}
+use Rattle.search.proofs.Heights.{Paid, Sound, Within}
 use Rattle.search.proofs.Contain.{contained}
 use Rattle.search.proofs.Safe.{drop, drop-top}
 use Rattle.search.proofs.Shift.{ceil-le}

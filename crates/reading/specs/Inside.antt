@@ -14,7 +14,6 @@ use Rattle.table.specs.Accepted.{Balanced}
 use Rattle.table.specs.Slices.{laid, kinds_of, stops_of, weights_of, heights_of}
 use Rattle.table.specs.Table.{Table, summary}
 use Rattle.runs.specs.Inside.{first_or, scan_from, bare_at, odd_at}
-use Rattle.gathering.specs.declared.Lines
 
 -- the nodes that the first n entries hold; `most` is the greatest number of C on a path down through them
 pub record Counted (kinds stops weights : List ℕ) (n most : ℕ) : Type 0 where

@@ -19,7 +19,7 @@ use Rattle.table.specs.Table.{Table, read_text}
 use Rattle.judge.specs.Judge.{judge}
 use Rattle.judge.specs.Call.{judge_answer}
 use Rattle.report.specs.declared.Row.{Row}
-use Rattle.report.specs.Report.{play_in, head_in, nodes_in, size_of, table_in, bad_start, head_checks, scored, position_of, Outcome, stopped, rows, after, begins, reached, match_from, match_of}
+use Rattle.report.specs.Report.{play_in, head_in, nodes_in, size_of, table_in, bad_start, head_checks, scored, position_of, Outcome, stopped, rows, after, reached, match_from, match_of}
 use Rattle.report.specs.Files.{Alone, EachAlone, head_is, Whole}
 use Rattle.report.proofs.Cases.{start-stops, head-stops, lines-there}
 use Rattle.report.proofs.Rows.{position-fine}

@@ -1,4 +1,6 @@
 // A text read and rolled out: the answer, and the bounds of its nodes on two lists of numbers.
+#![tactic(auto)]
+
 ghost use Rattle.std.specs.Prelude.{◌≡◌, ◌≤◌, length, replicate};
 ghost use Rattle.table.specs.Table.{read_text};
 ghost use Rattle.rolled.specs.Inside.Contracts.{Started, RollsTo};

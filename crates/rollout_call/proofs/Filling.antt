@@ -78,8 +78,24 @@ module _ (b : ℤ) (v : ℕ) (h : (mag b ≤ 35184372088832) × (v ≤ 351843720
   pub sum_fits : SFits w64 (to_z w64 (of_z w64 b) +ℤ to_z w64 v)
   sum_fits = subst (SFits w64) (sym sum_is) (sfits_of sum-small)
 
+  pub sum_back : to_z w64 (of_z w64 (to_z w64 (of_z w64 b) +ℤ to_z w64 v)) ≡ b +ℤ pos v
+  sum_back = to_z-of_z w64 (to_z w64 (of_z w64 b) +ℤ to_z w64 v) sum_fits ∙ sum_is
+
 pub cast-small : {v : ℕ} → v ≤ 35184372088832 → SFits w64 (pos v)
 cast-small h = sfits_of (omega arith)
+
+-- one record more, whose bounds are added as bits
+pub fill_more : (b : ℤ) → SFits w64 b → (n : ℕ) (ls hs : List ℕ) (st xs : List Record) → n < length ls → n < length hs → n < length st
+    → (mag b ≤ 35184372088832) × (get_or ls n 0 ≤ 35184372088832) → (mag b ≤ 35184372088832) × (get_or hs n 0 ≤ 35184372088832)
+    → xs ≡ filled n (risen (to_z w64 (of_z w64 b)) ls) (risen (to_z w64 (of_z w64 b)) hs) st
+    → set xs n (record { low = to_z w64 (of_z w64 (to_z w64 (of_z w64 b) +ℤ to_z w64 (get_or ls n 0))); high = to_z w64 (of_z w64 (to_z w64 (of_z w64 b) +ℤ to_z w64 (get_or hs n 0))) })
+    ≡ filled (n + 1) (risen (to_z w64 (of_z w64 b)) ls) (risen (to_z w64 (of_z w64 b)) hs) st
+fill_more b f n ls hs st xs a c d l h e =
+    let k : to_z w64 (of_z w64 b) ≡ b = to_z-of_z w64 b f in
+    ap₂ (λ (x y : ℤ). set xs n (record { low = x; high = y })) (sum_back b (get_or ls n 0) l) (sum_back b (get_or hs n 0) h)
+    ∙ ap (λ (s : List Record). set s n (record { low = b +ℤ pos (get_or ls n 0); high = b +ℤ pos (get_or hs n 0) })) (e ∙ ap (λ (z : ℤ). filled n (risen z ls) (risen z hs) st) k)
+    ∙ risen-more b n ls hs st a c d
+    ∙ ap (λ (z : ℤ). filled (n + 1) (risen z ls) (risen z hs) st) (sym k)
 
 -- ---- the records of the call
 

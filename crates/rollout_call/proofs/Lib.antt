@@ -1,3 +1,1 @@
 pub mod Filling
-pub mod Leave
-pub mod Lent

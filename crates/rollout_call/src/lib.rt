@@ -1,4 +1,6 @@
 // The lent store, and the public call of rollouts, which takes any input and ends with an answer or a refusal.
+#![tactic(auto)]
+
 ghost use Rattle.std.specs.Prelude.{◌≡◌, ◌≤◌, length};
 ghost use Rattle.table.specs.Table.{read_text};
 ghost use Rattle.table.specs.Slices.{laid};
@@ -17,8 +19,7 @@ pub struct Record {
     pub high: i64,
 }
 
-// The first n records of the lent store get the bounds, in grains above `base`; the others stay. A function over a slice of structs is proved
-// by hand.
+// The first n records of the lent store get the bounds, in grains above `base`; the others stay.
 fn fill(store: &mut [Record], low: &[u64], high: &[u64], n: usize, base: i64)
     requires { (n ≤ length store.old) × (n ≤ length low.now) × (n ≤ length high.now) × SmallHeights base n low.now × SmallHeights base n high.now }
     ensures { store.new ≡ filled n (risen base low.now) (risen base high.now) store.old }

@@ -16,7 +16,7 @@ use Rattle.line.specs.Refusal.{Verdict, refused, fine}
 use Rattle.table.specs.declared.Summary.{Summary}
 use Rattle.table.specs.declared.Reading.{Reading}
 use Rattle.table.specs.declared.Reading.TheVariants.{Accepted, Refused}
-use Rattle.table.specs.Table.{Table, read_text, summary, answer, grain}
+use Rattle.table.specs.Table.{Table, read_text, summary, answer}
 use Rattle.table.specs.Slices.{kinds_of, stops_of, weights_of, heights_of, height_of, laid, fitted, decoded}
 use Rattle.table.proofs.Laid.{fitted-all}
 use Rattle.table.proofs.Complete.{stops-long}

@@ -10,7 +10,7 @@ use Rattle.table.specs.Tree.{Kind, MAX, MIN, CHANCE, Forest, end, leaf, inner}
 use Rattle.search.specs.Search.{Frame, Seen, State, Rules, begin, lower, upper, update, finish, cut, stop, point, met_spent, met, scan}
 use Rattle.search.specs.Inside.{natural}
 use Rattle.search.proofs.Steps.{seen_under, seen_after}
-use Rattle.search.proofs.Heights.{Paid, Within, total}
+use Rattle.search.proofs.Heights.{Paid, Within}
 use Rattle.search.proofs.Fit.{grade, Even, Fit}
 
 pub dvd-max : (g : ℕ) {a b : ℕ} → g ∣ a → g ∣ b → g ∣ max a b

@@ -8,7 +8,7 @@ use native.Mathlib.Omega.{arith}
 use Rattle.table.specs.Tree.{Kind, MAX, MIN, CHANCE, Forest, weigh}
 use Rattle.search.specs.Search.{Frame, Play, no_play, child, Seen, State, begin, lower, upper, better, update}
 use Rattle.search.specs.Inside.{natural}
-use Rattle.search.proofs.Heights.{Sound, total}
+use Rattle.search.proofs.Heights.{Sound}
 
 -- the same distances from the bottom
 pub drop : (B : ℕ) {x y : ℕ} → x ≤ y → x - B ≤ y - B

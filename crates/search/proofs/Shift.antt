@@ -17,7 +17,7 @@ use Rattle.search.specs.Search.{Frame, Play, no_play, child, Seen, State, Arith,
 use Rattle.search.specs.Whole.{whole_with, down_z, up_z, down_own, up_own, gain_z, loss_z}
 use Rattle.search.specs.Inside.{natural, ceil}
 use Rattle.search.proofs.Steps.{seen_under, seen_after}
-use Rattle.search.proofs.Heights.{Sound, Within, Pays, Positive, shift, total}
+use Rattle.search.proofs.Heights.{Sound, Within, Pays, Positive, shift}
 use Rattle.search.proofs.Contain.{contained, Holding, hold-point, hold-under, hold-met}
 use Rattle.search.proofs.Below.{below-same}
 use Rattle.search.proofs.Safe.{drop-top, share-fits, Safe, safe-begin, safe-lower, safe-upper, safe-update}

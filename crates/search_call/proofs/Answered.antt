@@ -13,7 +13,7 @@ use Rattle.line.specs.declared.Refusal.TheVariants.{NoRoom, BadMargin, BadBudget
 use Rattle.line.specs.Refusal.{Verdict, refused, fine, line_of}
 use Rattle.line.specs.Line.{to_nat}
 use Rattle.table.specs.Tree.{leaves}
-use Rattle.table.specs.Table.{Table, read_text, tree, grain}
+use Rattle.table.specs.Table.{Table, read_text, tree}
 use Rattle.table.specs.Root.{play_of}
 use Rattle.table.specs.declared.Play.{Play}
 use Rattle.table.specs.declared.Play.TheVariants.{Child, NoPlay}

@@ -20,7 +20,7 @@ use Rattle.line.specs.declared.Line.{Line}
 use Rattle.line.specs.declared.Refusal.TheVariants.{Length}
 use Rattle.line.specs.Refusal.{refused, next}
 use Rattle.line.specs.Line.{is_blank, second_of, total_of, heading_of, header, header_for, Step, Placed, place_of, node_line}
-use Rattle.table.specs.Table.{prefix, node_lines, lines_of, complete, bad_length, count, read_text}
+use Rattle.table.specs.Table.{prefix, node_lines, lines_of, complete, bad_length, read_text}
 use Rattle.table.specs.Padding.{columns_of, SameField, SameTotals, one-total, two-totals, kept-totals, SameHeader, SameLine, SameLines, SameText}
 use Rattle.table.proofs.Top.{good_length}
 

@@ -1,4 +1,3 @@
-use Prim.Native.Nat.{◌-◌}
 use Rattle.listing.proofs.Added.{adding-none, adding-ready, adding-more, adding-done}
 use Rattle.listing.proofs.add_new.Goals as goal
 

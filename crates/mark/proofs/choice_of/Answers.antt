@@ -4,12 +4,8 @@ use mathlib.Core.Path.{◌≡◌, sym, ap, ◌∙◌}
 use mir.Syntax.{w64}
 use mir.Val.{to_z, of_z}
 use mir.ValLaws.{to_z-of_z}
-use Rattle.mark.specs.Marks.{choice_of}
-use Rattle.mark.proofs.Marks.{choice-none}
-use Rattle.mark.proofs.choice_of.Goals as goal
 use Rattle.mark.proofs.choice_of.Goals.{Start}
 
 -- the number whose bits are these
 number_is : (s : Start) (n : ℕ) → of_z w64 s.args.number ≡ n → s.args.number ≡ to_z w64 n
 number_is s n e = sym (to_z-of_z w64 s.args.number s.ranges.number) ∙ ap (to_z w64) e
-

@@ -1,4 +1,3 @@
-use Prim.Native.Nat.{◌-◌}
 use native.Mathlib.Omega.{arith}
 use Rattle.reading.proofs.Copied.{copying-none, copying-more, copying-full, copying-done}
 use Rattle.reading.proofs.keep16.Goals as goal

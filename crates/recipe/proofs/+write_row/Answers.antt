@@ -2,7 +2,6 @@ use Prim.Native.Nat.{ℕ, ◌<◌}
 use mathlib.Core.Bool.{cond}
 use mathlib.Core.Path.{◌≡◌, ap, ◌∙◌}
 use native.Mathlib.Omega.{arith}
-use borrow.Fn.PlainCycle.{and}
 use lib.Dec.{eqb}
 use lib.ListN.{length}
 use Rattle.recipe.specs.declared.Siblings.{Siblings}

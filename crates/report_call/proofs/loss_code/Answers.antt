@@ -1,9 +1,6 @@
 -- `report_call::loss_code` meets its contract.
-use mathlib.Core.Path.{sym, ap, subst, ◌∙◌}
+use mathlib.Core.Path.{sym, ap, subst}
 use native.Mathlib.Omega.{arith}
-use lib.IntN.{pos}
-use mir.Syntax.{w64}
-use mir.ValLaws.{to_z-of_z}
 use Prim.Native.Nat.{◌≤◌}
 use Rattle.report.specs.Report.{loss_code}
 use Rattle.report.specs.Inside.{SmallLoss}
@@ -19,4 +16,3 @@ overflow_cast-result c = sfits_of (omega (arith, small c))
 
 pub returns-in-NoDecision : goal.returns-in-NoDecision
 returns-in-NoDecision c = sym (ap loss_code c.in-NoDecision.is)
-

@@ -1,4 +1,4 @@
-use Prim.Native.Nat.{ℕ, ◌+◌, ◌-◌, ◌≤◌, ◌<◌}
+use Prim.Native.Nat.{ℕ, ◌+◌, ◌≤◌, ◌<◌}
 use mathlib.Core.Path.{◌≡◌, sym, ap, ◌∙◌}
 use mathlib.Core.List.{List}
 use native.Mathlib.Omega.{arith}
@@ -20,17 +20,14 @@ use Rattle.report_call.proofs.read_all.Goals as goal
 use Rattle.report_call.proofs.read_all.Goals.{After-loss_code, After-mark_code, After-read_at, At-loop-at, Else-n-eq500, In-Entry, Start}
 
 -- ---- the places
-abbrev At-loop : Type 0
-At-loop = tie.At-loop invariant-loop decreases-loop
+abbrev start : At-loop-at → Start
+start L = (goal.at.At-loop-at L).Start
 
-abbrev start : At-loop → Start
-start L = L.before.before.before.before.before
-
-abbrev file-of : At-loop → List ℕ
+abbrev file-of : At-loop-at → List ℕ
 file-of L = (start L).args.file.now
 
 -- a position that begins with room for its row
-abbrev loop-of : After-read_at → At-loop
+abbrev loop-of : After-read_at → At-loop-at
 loop-of P = (goal.at.After-read_at P).At-loop-at
 
 position-is : (P : After-read_at) (p : Position) → P.read_at.result ≡ p → said_at (file-of (loop-of P)) (loop-of P).loop-at.at ≡ p
@@ -58,11 +55,11 @@ small c = row_small (left-of (read_of c)) (row_of c) (entry-is c).0
 ends : (c : In-Entry) → (loop-of (read_of c)).loop-at.at + size-of c ≤ length (file-of (loop-of (read_of c)))
 ends c =
     let E = (goal.at.In-Entry c).Else-n-eq500 in
-    omega (arith, (entry-is c).1, row-end _ _ _ _ _ _ _ _ _ _ (loop-of (read_of c)).loop-at.invariant E.loop-at-test.true E.if-n-eq500.left (row_of c) (entry-is c).0)
+    omega (arith, (entry-is c).1, row-end _ _ _ _ _ _ _ _ _ _ (loop-of (read_of c)).loop-at.invariant E.loop-at-test.true E.if-n-eq500.false (row_of c) (entry-is c).0)
 
 -- there is room for its entry
 entry : (c : In-Entry) → (loop-of (read_of c)).loop-at.t.positions < 500
-entry c = let L = loop-of (read_of c) in omega (arith, (going-small _ _ _ _ _ _ _ _ _ _ L.loop.invariant).positions, (read_of c).if-n-eq500.false)
+entry c = let L = loop-of (read_of c) in omega (arith, (going-small _ _ _ _ _ _ _ _ _ _ L.loop-at.invariant).positions, (read_of c).if-n-eq500.false)
 
 -- ---- the needs
 pub loop-at-init : goal.loop-at-init
@@ -72,7 +69,7 @@ pub returns-then-n-eq500 : goal.returns-then-n-eq500
 returns-then-n-eq500 c = going-full _ _ _ _ _ _ _ _ _ _ c.loop-at.invariant c.loop-at-test.true c.if-n-eq500.true
 
 pub overflow_add-k : goal.overflow_add-k
-overflow_add-k c = let L = loop-of (goal.at.overflow_add-k c).After-read_at in record { fits = omega (arith, (going-small _ _ _ _ _ _ _ _ _ _ L.loop.invariant).positions) }
+overflow_add-k c = let L = loop-of (goal.at.overflow_add-k c).After-read_at in record { fits = omega (arith, (going-small _ _ _ _ _ _ _ _ _ _ L.loop-at.invariant).positions) }
 
 pub returns-in-Refused : goal.returns-in-Refused
 returns-in-Refused c =
@@ -113,9 +110,9 @@ loop-at-preserved c =
     let r : Row = row_of (goal.at.loop-at-preserved c).In-Entry in
     let z = C.loss_code in
     let back : to_z w64 (of_z w64 z.result) ≡ z.result = search rules in
-    going-as _ _ _ _ _ _ L.loop.losses L.loop.marks L.loop.t.positions (sym (back ∙ z.ensures)) (sym D.mark_code.ensures) (sym c.with_row-t.ensures)
-    (ap (λ (k : ℕ). L.loop.at + k) (entry-is (goal.at.loop-at-preserved c).In-Entry).1)
-    (going_on _ _ _ _ _ _ _ _ _ _ L.loop.invariant E.loop-at-test.true E.if-n-eq500.left r (entry-is (goal.at.loop-at-preserved c).In-Entry).0)
+    going-as _ _ _ _ _ _ L.loop-at.losses L.loop-at.marks L.loop-at.t.positions (sym (back ∙ z.ensures)) (sym D.mark_code.ensures) (sym c.with_row-t.ensures)
+    (ap (λ (k : ℕ). L.loop-at.at + k) (entry-is (goal.at.loop-at-preserved c).In-Entry).1)
+    (going_on _ _ _ _ _ _ _ _ _ _ L.loop-at.invariant E.loop-at-test.true E.if-n-eq500.false r (entry-is (goal.at.loop-at-preserved c).In-Entry).0)
 
 pub returns : goal.returns
 returns c = going_end _ _ _ _ _ _ _ _ _ _ c.loop-at.invariant c.loop-at-test.false

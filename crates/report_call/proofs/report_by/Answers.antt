@@ -8,7 +8,7 @@ use lib.IntN.{ℤ, pos}
 use Rattle.report.specs.declared.Totals.{Totals}
 use Rattle.report.specs.Report.{match_of}
 use Rattle.report_call.specs.Call.{room_in}
-use Rattle.report_call.proofs.Written.{Read, reads-refused, reads-done, told-refused, told-short, kinds-long, losses-long, marks-long, told-done}
+use Rattle.report_call.proofs.Written.{Read, reads-refused, reads-done, told-refused, told-short, kinds-long, losses-long, marks-long}
 use Rattle.report_call.proofs.report_by.Goals as goal
 use Rattle.report_call.proofs.report_by.Goals.{After-keep8, After-keep_losses, After-min_of-room, After-read_all, In-Done, Start}
 
@@ -48,6 +48,10 @@ known_of R = (goal.at.After-min_of-room R).In-Done
 room-is : (R : After-min_of-room) → R.min_of-room.result ≡ room_in (kinds-of (known_of R)) (losses-of (known_of R)) (marks-of (known_of R))
 room-is R = R.min_of-room.ensures ∙ ap (λ (n : ℕ). min n (length (marks-of (known_of R)))) R.min_of.ensures
 
+pub returns-then-room-n : goal.returns-then-room-n
+returns-then-room-n c = let all = let K = known_of (goal.at.returns-then-room-n c).After-min_of-room in
+    told-short (begun K).args.file.now _ (kinds-of K) (losses-of K) (marks-of K) (totals-of K) _ _ _ _ _ _ (read K) (omega (arith, room-is (goal.at.returns-then-room-n c).After-min_of-room, c.if-room-n.true)) in record { answers = all.0; kinds = all.1.0; losses = all.1.1.0; marks = all.1.1.1 }
+
 abbrev else-of : After-keep8 → In-Done
 else-of Q = known_of (goal.at.After-keep8 Q).After-min_of-room
 
@@ -69,3 +73,9 @@ keep8-requires-in-Done c =
     let K = else-of (goal.at.keep8-requires-in-Done c).After-keep8 in
     marks-long (begun K).args.file.now _ (kinds-of K) (losses-of K) (marks-of K) (totals-of K) _ _ _ _ _ _ (read K)
 
+pub returns-in-Refused : goal.returns-in-Refused
+returns-in-Refused c = let all = let A = c in
+    let a = (start (goal.at.returns-in-Refused c).After-read_all).args in
+    let f = c.in-Refused in
+    told-refused a.file.now _ a.kinds.now a.losses.now a.marks.now f.r f.k
+    (reads-refused _ _ _ _ _ _ _ (match_of (file-of (goal.at.returns-in-Refused c).After-read_all)) A.read_all.result f.r f.k A.read_all.ensures f.is) in record { answers = all.0; kinds = all.1.0; losses = all.1.1.0; marks = all.1.1.1 }

@@ -70,3 +70,16 @@ bounds_of-requires c =
 
 pub scale_of-s-requires : goal.scale_of-s-requires
 scale_of-s-requires c = spread_at c.requires.taken
+
+pub returns : goal.returns
+returns c s G =
+    let W = c in
+    let N = most-at (goal.at.returns c).After-search-f in
+    let L = (goal.at.returns c).After-ends_of-v in
+    let S = start_of L in
+    let f : Found = W.search-f.result in
+    let leaves : List ℕ = W.search-f.new.leaves in (
+      ap Given c.bounds_of.ensures
+          ∙ given-at G S.args.margin S.args.budget S.requires.margin S.requires.budget (rule-is L) (ends-are L) f N.reads_of-n.result S.args.leaves.now leaves (most-is N) S.requires.long W.search-f.ensures,
+      reads_at G S.args.margin S.args.budget S.requires.margin S.requires.budget (rule-is L) (ends-are L) f N.reads_of-n.result S.args.leaves.now leaves (most-is N) S.requires.long W.search-f.ensures,
+    )

@@ -1,9 +1,7 @@
 use Prim.Native.Nat.{ℕ, ◌+◌, ◌-◌, ◌*◌}
 use mathlib.Core.Path.{◌≡◌, sym, ◌∙◌}
-use mathlib.Core.Logic.{⊎_elim}
 use native.Mathlib.Omega.{arith}
 use lib.ListN.{take, drop}
-use borrow.Fn.PlainCycle.{is, and}
 use Rattle.table.specs.Tree.{kind_of}
 use Rattle.worth.specs.Inside.{beside, ReadyRun}
 use Rattle.worth.proofs.Run.{Child, going_start, going-total, going_end, Next, next_of, Turn, turn-of, child-of, leaf-of, turn-fits, turn_on}
