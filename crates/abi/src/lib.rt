@@ -1,6 +1,6 @@
-// The calls for programs in C and Rust. Each writes its answer's numbers into a slice of the caller's, as many as it has room for (turning
-// has none), and returns 0; where it refuses, it writes nothing and returns the refusal's line and number as one, so that 309 is refusal 9 at line 3.
-// The report has the position before them: 2000309 is the same in position 2.
+// The calls for programs in C and Rust, which the crate abi_c exports under the same names. Each writes its answer's numbers into a slice of the caller's,
+// as many as it has room for (turning has none), and returns 0; where it refuses, it writes nothing and returns the refusal's line and number as one, so
+// that 309 is refusal 9 at line 3. The report has the position before them: 2000309 is the same in position 2.
 ghost use Rattle.std.specs.Prelude.{◌≡◌, length};
 ghost use Rattle.table.specs.Table.{read_text, answer};
 ghost use Rattle.table.specs.Slices.{laid, fitted, kinds_of, stops_of, weights_of, heights_of, decoded};
@@ -21,8 +21,7 @@ use rollout_call::Record;
 
 // An accepted table: its numbers of nodes, T, the lowest and the highest end, K, G, its number of leaves and its second total (0 for none) go to
 // `numbers`, and its nodes to the four slices, as `reading::read` has them. A refused one: nothing is written.
-#[unsafe(no_mangle)]
-pub extern "C" fn margin_read(
+pub fn margin_read(
     text: &[u8],
     numbers: &mut [i64],
     kind: &mut [u8],
@@ -41,8 +40,7 @@ pub extern "C" fn margin_read(
 }
 
 // The exact worth in grains and G go to `numbers`. Where the table is refused, nothing is written.
-#[unsafe(no_mangle)]
-pub extern "C" fn margin_worth(text: &[u8], numbers: &mut [i64]) -> u64
+pub fn margin_worth(text: &[u8], numbers: &mut [i64]) -> u64
     ensures code { result ≡ worth_code (exact_call (read_text text.now)) }
     ensures numbers { numbers.new ≡ put 0 (worth_numbers (exact_call (read_text text.now))) numbers.old }
 {
@@ -51,8 +49,7 @@ pub extern "C" fn margin_worth(text: &[u8], numbers: &mut [i64]) -> u64
 
 // Root child `number`, counted from 1, judged: 1, the loss in grains and the number of level children go to `numbers`, or 0 alone
 // where there is no decision. Where the call is refused, nothing is written.
-#[unsafe(no_mangle)]
-pub extern "C" fn margin_judge(text: &[u8], number: i64, numbers: &mut [u64]) -> u64
+pub fn margin_judge(text: &[u8], number: i64, numbers: &mut [u64]) -> u64
     ensures code { result ≡ judge_code (judge_call (read_text text.now) number) }
     ensures numbers { numbers.new ≡ put 0 (judge_numbers (judge_call (read_text text.now) number)) numbers.old }
 {
@@ -61,13 +58,7 @@ pub extern "C" fn margin_judge(text: &[u8], number: i64, numbers: &mut [u64]) ->
 
 // The search at a margin in grains: low, high, the play's node number (0 for none), the number of leaves read, G, high minus low and 0, as the budget
 // is not spent, go to `numbers`, and the leaves read to `leaves`, in reading sequence. Where the call is refused, nothing is written.
-#[unsafe(no_mangle)]
-pub extern "C" fn margin_search(
-    text: &[u8],
-    margin: i64,
-    leaves: &mut [u16],
-    numbers: &mut [i64],
-) -> u64
+pub fn margin_search(text: &[u8], margin: i64, leaves: &mut [u16], numbers: &mut [i64]) -> u64
     ensures code { result ≡ search_code (search_call (read_text text.now) margin (length leaves.old)) }
     ensures numbers { numbers.new ≡ put 0 (search_numbers (search_call (read_text text.now) margin (length leaves.old))) numbers.old }
     ensures lists { leaves.new ≡ laid (search_reads (read_text text.now) margin (length leaves.old)) leaves.old }
@@ -76,8 +67,7 @@ pub extern "C" fn margin_search(
 }
 
 // The same within a budget of leaf reads, 0 to 1,024; the last number is 1 where it was spent.
-#[unsafe(no_mangle)]
-pub extern "C" fn margin_search_within(
+pub fn margin_search_within(
     text: &[u8],
     margin: i64,
     budget: i64,
@@ -96,8 +86,7 @@ pub extern "C" fn margin_search_within(
 
 // The index of a table: the lowest and the highest utility under each M, N and C go to `lows` and `highs`, by node number; the entries of leaves stay. Where
 // the call is refused, nothing is written.
-#[unsafe(no_mangle)]
-pub extern "C" fn margin_index(text: &[u8], lows: &mut [i64], highs: &mut [i64]) -> u64
+pub fn margin_index(text: &[u8], lows: &mut [i64], highs: &mut [i64]) -> u64
     ensures code { result ≡ index_code (index_call (read_text text.now) (room_in lows.old highs.old)) }
     ensures lows { lows.new ≡ written (index_lows (read_text text.now) (room_in lows.old highs.old)) lows.old }
     ensures highs { highs.new ≡ written (index_highs (read_text text.now) (room_in lows.old highs.old)) highs.old }
@@ -106,8 +95,7 @@ pub extern "C" fn margin_index(text: &[u8], lows: &mut [i64], highs: &mut [i64])
 }
 
 // The search at a margin in grains with a lent index: numbers and leaves as in `margin_search`. Where the call is refused, nothing is written.
-#[unsafe(no_mangle)]
-pub extern "C" fn margin_search_indexed(
+pub fn margin_search_indexed(
     text: &[u8],
     margin: i64,
     lows: &[i64],
@@ -126,8 +114,7 @@ pub extern "C" fn margin_search_indexed(
 }
 
 // The turned table's text, as long as the text, goes to the start of `buffer`. Where the call is refused, nothing is written.
-#[unsafe(no_mangle)]
-pub extern "C" fn margin_turn(text: &[u8], buffer: &mut [u8]) -> u64
+pub fn margin_turn(text: &[u8], buffer: &mut [u8]) -> u64
     ensures code { result ≡ turned_code (turn_call (read_text text.now) (length buffer.old)) }
     ensures writes { buffer.new ≡ laid (turn_bytes (read_text text.now) (length buffer.old)) buffer.old }
 {
@@ -135,8 +122,7 @@ pub extern "C" fn margin_turn(text: &[u8], buffer: &mut [u8]) -> u64
 }
 
 // The table of a recipe: its text goes to the start of `buffer`, and the number of its bytes to `numbers`. Where the call is refused, nothing is written.
-#[unsafe(no_mangle)]
-pub extern "C" fn margin_recipe(
+pub fn margin_recipe(
     seed: i64,
     branching: i64,
     depth: i64,
@@ -156,8 +142,7 @@ pub extern "C" fn margin_recipe(
 
 // Rollouts under a policy list: the worth in grains and the number of leaves read go to `numbers`, the leaves read to `leaves`, in reading
 // sequence, and the bounds of the nodes as last updated to `store`, by node number. Where the call is refused, nothing is written.
-#[unsafe(no_mangle)]
-pub extern "C" fn margin_rollout(
+pub fn margin_rollout(
     text: &[u8],
     policy: &[u8],
     store: &mut [Record],
@@ -175,8 +160,7 @@ pub extern "C" fn margin_rollout(
 // The report of a match file by a scale: the number of positions, and of M and of N the number of decisions and the sum of their listed losses go
 // to `numbers`; each position's kind of root to `kinds`, to `losses` its loss in thousandths of a point, -1 for no decision, and to `marks` the
 // mark of its loss, 0 for no decision. Where the report is refused, nothing is written.
-#[unsafe(no_mangle)]
-pub extern "C" fn margin_report(
+pub fn margin_report(
     file: &[u8],
     scale: i64,
     kinds: &mut [u8],
