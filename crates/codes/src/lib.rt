@@ -1,5 +1,7 @@
 // Answers as a code and numbers, for callers in other languages: 0, or the refusal's line and number as one; and numbers written to a slice,
 // as many as it has room for.
+#![tactic(auto)]
+
 ghost use Rattle.std.specs.Prelude.{◌≡◌, ◌<◌, ◌≤◌, ◌^◌, set};
 ghost use Rattle.line.specs.Refusal.{line_of};
 ghost use Rattle.codes.specs.Numbers.{read_code, numbers_of, worth_code, worth_numbers, judge_code, judged_numbers, judge_numbers, bounds_numbers, search_code, search_numbers, roll_code, roll_numbers, turned_code, recipe_code, recipe_numbers, index_code, totals_numbers, report_code, report_numbers, put};
