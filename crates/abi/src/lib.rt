@@ -1,6 +1,8 @@
 // The calls for programs in C and Rust, which the crate abi_c exports under the same names. Each writes its answer's numbers into a slice of the caller's,
 // as many as it has room for (turning has none), and returns 0; where it refuses, it writes nothing and returns the refusal's line and number as one, so
 // that 309 is refusal 9 at line 3. The report has the position before them: 2000309 is the same in position 2.
+#![tactic(auto)]
+
 ghost use Rattle.std.specs.Prelude.{◌≡◌, length};
 ghost use Rattle.table.specs.Table.{read_text, answer};
 ghost use Rattle.table.specs.Slices.{laid, fitted, kinds_of, stops_of, weights_of, heights_of, decoded};

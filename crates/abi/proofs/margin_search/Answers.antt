@@ -1,8 +1,7 @@
--- `abi::margin_search` meets its contract. Assumes nothing.
+-- `abi::margin_search` meets its contract.
 use Prim.Native.Nat.{ℕ}
 use mathlib.Core.Path.{◌≡◌, ap, ◌∙◌}
 use mathlib.Core.List.{List}
-use borrow.Author.Rules.{rules}
 use lib.IntN.{ℤ, pos}
 use lib.ListN.{length}
 use mir.Syntax.{w64}
@@ -14,13 +13,12 @@ use Rattle.search_call.specs.declared.Bounded.{Bounded}
 use Rattle.search_call.specs.Call.{search_call, search_reads, within_call, within_reads}
 use Rattle.search_call.proofs.Answered.{default-call, default-reads}
 use Rattle.codes.specs.Numbers.{search_code, search_numbers, put}
-use Rattle.abi.proofs.margin_search.Statement.{statement}
-use Rattle.abi.proofs.margin_search.Tie as tie
+use Rattle.abi.proofs.margin_search.Goals as goal
 
-returns : tie.Need-returns
+pub returns : goal.returns
 returns c =
-    let W = c.before.before.before in
-    let S = W.before.before.before.before.before in
+    let W = c in
+    let S = c in
     let text : List ℕ = S.args.text.now in
     let list : List ℕ = S.args.leaves.now in
     let m : ℤ = S.args.margin in
@@ -30,10 +28,4 @@ returns c =
     ap (λ (z : ℤ). within_call (read_text text) z (pos 1024) (length list)) back ∙ default-call text m (length list) in
     let listed : within_reads (read_text text) (to_z w64 (of_z w64 m)) (pos 1024) (length list) ≡ search_reads (read_text text) m (length list) =
     ap (λ (z : ℤ). within_reads (read_text text) z (pos 1024) (length list)) back ∙ default-reads text m (length list) in
-    let E = W.margin-search-within.ensures in (
-      E.0 ∙ ap search_code said,
-      (E.1.0 ∙ ap (λ (x : Bounded). put 0 (search_numbers x) S.args.numbers.now) said, E.1.1 ∙ ap (λ (l : List ℕ). laid l list) listed),
-    )
-
-pub margin-search-spec : {M : Type 1} → statement M
-margin-search-spec = tie.close (tie.spec (λ c κs. search rules) (λ c. search rules) (λ c. search rules) returns)
+    let E = W.margin_search_within.ensures in record { code = E.code ∙ ap search_code said; numbers = E.numbers ∙ ap (λ (x : Bounded). put 0 (search_numbers x) S.args.numbers.now) said; lists = E.lists ∙ ap (λ (l : List ℕ). laid l list) listed }

@@ -1,0 +1,19 @@
+-- `abi::margin_worth` meets its contract.
+use mathlib.Core.Path.{sym, ap, subst, ◌∙◌}
+use Rattle.worth.specs.declared.Exact.{Exact}
+use Rattle.codes.specs.Numbers.{worth_code, worth_numbers, put}
+use Rattle.codes.specs.Inside.{SmallExact}
+use Rattle.abi.proofs.Answers.{exact-small}
+use Rattle.abi.proofs.margin_worth.Goals as goal
+
+pub put_exact-requires : goal.put_exact-requires
+put_exact-requires c =
+    let E = c in
+    subst SmallExact (sym E.exact_worth.ensures) (exact-small E.args.text.now)
+
+pub returns : goal.returns
+returns c =
+    let P = c in
+    let E = c in
+    let e = E.exact_worth.ensures in
+    record { code = P.put_exact.ensures.code ∙ ap worth_code e; numbers = P.put_exact.ensures.numbers ∙ ap (λ (x : Exact). put 0 (worth_numbers x) E.args.numbers.now) e }
