@@ -29,7 +29,6 @@ use Rattle.search_call.specs.declared.Bounds.{Bounds}
 use Rattle.search_call.specs.declared.Bounded.TheVariants.{Found}
 use Rattle.search_call.specs.Call.{bounds_of, search_call, within_reads}
 use Rattle.search_call.proofs.Answered.{answers, default-call, default-reads, unspent-answer}
-use Rattle.rollout.specs.Rollout.{Rolled}
 use Rattle.rollout.specs.Whole.{has_chance, rolled, rolled_worth}
 use Rattle.rollout.proofs.Demand.{ends-on-worth, no-leaf-twice}
 use Rattle.rolled.specs.declared.Rolled

@@ -1,5 +1,7 @@
 // A table decoded once and searched many times, for ./bench alone: every other call reads the table's text before it searches, which takes longer than
 // the search.
+#![tactic(auto)]
+
 ghost use Rattle.std.specs.Prelude.{[], ◌≡◌, length};
 ghost use Rattle.table.specs.Table.{read_text};
 ghost use Rattle.table.specs.Slices.{laid};
