@@ -1,9 +1,8 @@
 // No code: specs has what a match file is and what its report lists and adds up, proofs what holds of it. The crate `scoring` has the code for
 // one position, `report_call` the call.
-
-// What is listed of a play: no decision, or the loss in thousandths of a point.
 #![tactic(auto)]
 
+// What is listed of a play: no decision, or the loss in thousandths of a point.
 #[derive(Clone, Copy)]
 pub enum Loss {
     NoDecision,

@@ -4,7 +4,7 @@ use mathlib.Core.Path.{◌≡◌, refl, sym, ap, subst, ◌∙◌}
 use mathlib.Core.List.{List, [], ◌∷◌, ◌++◌, append-nil, append_assoc}
 use mathlib.Core.Option.{none, some}
 use native.Mathlib.Omega.{arith}
-use lib.ListN.{length, get_or}
+use lib.ListN.{length, get_or, length-append}
 use Rattle.field.proofs.Small.{choose}
 use Rattle.table.specs.Tree.{Kind, MAX, MIN, CHANCE, Forest, end, leaf, inner, leaves}
 use Rattle.table.specs.Inside.{Slices, Spans}
@@ -80,6 +80,32 @@ module _ {A : Type 0} (O : Arith A) (R : Rules A) where
       let s : State A = begin e k e.bottom e.top [] in
       let r = reads-met e under [] (scan O R e k under s) (reads-scan e k under s) in
       record { more = r.more; are = r.are; some = subst (λ (l : List ℕ). Sub l (leaf_nodes under ++ leaf_nodes rest)) (append-nil r.more) (sub-append r.some sub-none) }
+
+  few-after : (e : Frame A) (k : Kind) (rest : Forest A) (t : State A) (n : ℕ) → length t.read + leaves rest ≤ n
+      → length (scan O R e k rest t).read ≤ n → length (seen_after O R e k rest t).read ≤ n
+  unfolding cut
+  few-after e k rest t n h more = choose (λ (r : Seen A). length r.read ≤ n) (stop O R.margin rest t) (λ _. omega arith) (λ _. more)
+
+  few-met : (e : Frame A) (l : List ℕ) (r : Seen A) (n : ℕ) → length l ≤ n → length r.read ≤ n → length (met R e l r).read ≤ n
+  unfolding met_spent
+  few-met e l r n h more = choose (λ (r : Seen A). length r.read ≤ n) (R.full l) (λ _. h) (λ _. more)
+
+  pub few-scan : (e : Frame A) (k : Kind) (f : Forest A) (s : State A) → length (scan O R e k f s).read ≤ length s.read + leaves f
+  unfolding scan finish leaves point update begin
+  few-scan e k end s = omega arith
+  few-scan e k (leaf n w v rest) s =
+      let r : Seen A = point n v s.read in
+      let t : State A = update O e k n w s (met R e s.read r) in
+      let one : length r.read ≡ length s.read + 1 = length-append s.read (n ∷ []) in
+      let got : length t.read ≤ length s.read + 1 = few-met e s.read r _ (omega arith) (omega arith) in
+      few-after e k rest t _ (omega arith) (omega (arith, few-scan e k rest t))
+  few-scan e k (inner n w c under rest) s =
+      let r : Seen A = seen_under O R e k n w c under s in
+      let d : Frame A = R.frame n under in
+      let t : State A = update O e k n w s (met R d s.read r) in
+      let some = few-scan d c under (begin d c (lower O e k w s) (upper O e k w s) s.read) in
+      let got : length t.read ≤ length s.read + leaves under = few-met d s.read r _ (omega arith) some in
+      few-after e k rest t _ (omega arith) (omega (arith, few-scan e k rest t))
 
   -- what is read are some of the leaves, in line order
   pub reads-leaves : (f : Forest A) → Sub (search_root O R f).read (leaf_nodes f)

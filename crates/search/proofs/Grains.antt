@@ -45,6 +45,13 @@ grains-map G end = refl
 grains-map G (leaf n w u rest) = ap (leaf n w (u *ℤ pos G)) (grains-map G rest)
 grains-map G (inner n w k under rest) = ap₂ (inner n w k) (grains-map G under) (grains-map G rest)
 
+-- grains change no leaf's place
+pub grains-leaves : (G : ℕ) (f : Forest ℤ) → leaves (in_grains G f) ≡ leaves f
+unfolding in_grains leaves
+grains-leaves G end = refl
+grains-leaves G (leaf n w u rest) = ap (λ (a : ℕ). 1 + a) (grains-leaves G rest)
+grains-leaves G (inner n w k under rest) = ap₂ (λ (a b : ℕ). a + b) (grains-leaves G under) (grains-leaves G rest)
+
 module _ (T S G : ℕ) where
   sound : (k : Kind) (f : Forest ℕ) → (is_chance k ≡ true → OkTotal (weigh f)) → Sound (framed 0 (S * G) (grained G f)) k (grained G f)
   sound MAX f b = record { ends = omega arith; paid = tt; weighed = tt }
