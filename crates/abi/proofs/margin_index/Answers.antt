@@ -7,6 +7,5 @@ use Rattle.abi.proofs.margin_index.Goals as goal
 
 pub index_code-requires : goal.index_code-requires
 index_code-requires c =
-    let E = c in
-    let a = E.args in
-    subst SmallIndexed (sym E.build_index.ensures.answers) (built-small a.text.now (room_in a.lows.now a.highs.now))
+    let a = c.args in
+    subst SmallIndexed (sym c.build_index.ensures.answers) (built-small a.text.now (room_in a.lows.now a.highs.now))

@@ -24,11 +24,8 @@ said E = E.judge_play.ensures ∙ ap (judge_call (read_text (start_of E).args.te
 
 pub put_opinion-requires : goal.put_opinion-requires
 put_opinion-requires c =
-    let E = c in
     subst SmallOpinion (sym (said (goal.at.put_opinion-requires c).After-judge_play)) (opinion-small (start_of (goal.at.put_opinion-requires c).After-judge_play).args.text.now (start_of (goal.at.put_opinion-requires c).After-judge_play).args.number)
 
 pub returns : goal.returns
 returns c =
-    let P = c in
-    let E = c in
-    record { code = P.put_opinion.ensures.code ∙ ap judge_code (said (goal.at.returns c).After-judge_play); numbers = P.put_opinion.ensures.numbers ∙ ap (λ (x : Opinion). put 0 (judge_numbers x) (start_of (goal.at.returns c).After-judge_play).args.numbers.now) (said (goal.at.returns c).After-judge_play) }
+    record { code = c.put_opinion.ensures.code ∙ ap judge_code (said (goal.at.returns c).After-judge_play); numbers = c.put_opinion.ensures.numbers ∙ ap (λ (x : Opinion). put 0 (judge_numbers x) (start_of (goal.at.returns c).After-judge_play).args.numbers.now) (said (goal.at.returns c).After-judge_play) }

@@ -10,5 +10,4 @@ start_of R = (goal.at.After-read R).Start
 
 pub put_reading-requires : goal.put_reading-requires
 put_reading-requires c =
-    let R = c in
-    subst SmallReading (sym R.read.ensures.answers) (reading_small (start_of (goal.at.put_reading-requires c).After-read).args.text.now)
+    subst SmallReading (sym c.read.ensures.answers) (reading_small (start_of (goal.at.put_reading-requires c).After-read).args.text.now)

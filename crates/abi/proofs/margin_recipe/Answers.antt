@@ -39,20 +39,17 @@ dice-back s = search rules
 told : (W : After-write_recipe)
     → let a = W.args in Told a.seed a.branching a.depth a.dice a.buffer.now W.write_recipe.result W.write_recipe.new.buffer
 told W =
-    let s = W in
-    let a = s.args in
+    let a = W.args in
     told_same _ a.seed _ a.branching _ a.depth _ a.dice a.buffer.now W.write_recipe.result W.write_recipe.new.buffer
     (seed-back (goal.at.After-write_recipe W).Start) (branching-back (goal.at.After-write_recipe W).Start) (depth-back (goal.at.After-write_recipe W).Start) (dice-back (goal.at.After-write_recipe W).Start) (W.write_recipe.ensures.answers, W.write_recipe.ensures.writes)
 
 pub put_made-requires : goal.put_made-requires
 put_made-requires c =
-    let W = c in
-    let a = W.args in
+    let a = c.args in
     subst SmallMade (sym (told (goal.at.put_made-requires c).After-write_recipe).0) (made-small a.seed a.branching a.depth a.dice (length a.buffer.now))
 
 pub returns : goal.returns
 returns c =
-    let W = c in
     let P = c.put_made.ensures in
     let e = (told (goal.at.returns c).After-write_recipe).0 in
-    record { code = P.code ∙ ap recipe_code e; writes = (told (goal.at.returns c).After-write_recipe).1; numbers = P.numbers ∙ ap (λ (x : Made). put 0 (recipe_numbers x) W.args.numbers.now) e }
+    record { code = P.code ∙ ap recipe_code e; writes = (told (goal.at.returns c).After-write_recipe).1; numbers = P.numbers ∙ ap (λ (x : Made). put 0 (recipe_numbers x) c.args.numbers.now) e }

@@ -30,5 +30,4 @@ called E = E.report.ensures.answers ∙ ap (λ (z : ℤ). report_call (file-of E
 
 pub put_reported-requires : goal.put_reported-requires
 put_reported-requires c =
-    let E = c in
     subst SmallReported (sym (called (goal.at.put_reported-requires c).After-report)) (reported-small (file-of (goal.at.put_reported-requires c).After-report) (start_of (goal.at.put_reported-requires c).After-report).args.scale (room_of (goal.at.put_reported-requires c).After-report))

@@ -17,15 +17,13 @@ use Rattle.abi.proofs.margin_search.Goals as goal
 
 pub returns : goal.returns
 returns c =
-    let W = c in
-    let S = c in
-    let text : List ℕ = S.args.text.now in
-    let list : List ℕ = S.args.leaves.now in
-    let m : ℤ = S.args.margin in
+    let text : List ℕ = c.args.text.now in
+    let list : List ℕ = c.args.leaves.now in
+    let m : ℤ = c.args.margin in
     -- the margin is handed on as bits
-    let back : to_z w64 (of_z w64 m) ≡ m = to_z-of_z w64 m S.ranges.margin in
+    let back : to_z w64 (of_z w64 m) ≡ m = to_z-of_z w64 m c.ranges.margin in
     let said : within_call (read_text text) (to_z w64 (of_z w64 m)) (pos 1024) (length list) ≡ search_call (read_text text) m (length list) =
     ap (λ (z : ℤ). within_call (read_text text) z (pos 1024) (length list)) back ∙ default-call text m (length list) in
     let listed : within_reads (read_text text) (to_z w64 (of_z w64 m)) (pos 1024) (length list) ≡ search_reads (read_text text) m (length list) =
     ap (λ (z : ℤ). within_reads (read_text text) z (pos 1024) (length list)) back ∙ default-reads text m (length list) in
-    let E = W.margin_search_within.ensures in record { code = E.code ∙ ap search_code said; numbers = E.numbers ∙ ap (λ (x : Bounded). put 0 (search_numbers x) S.args.numbers.now) said; lists = E.lists ∙ ap (λ (l : List ℕ). laid l list) listed }
+    let E = c.margin_search_within.ensures in record { code = E.code ∙ ap search_code said; numbers = E.numbers ∙ ap (λ (x : Bounded). put 0 (search_numbers x) c.args.numbers.now) said; lists = E.lists ∙ ap (λ (l : List ℕ). laid l list) listed }

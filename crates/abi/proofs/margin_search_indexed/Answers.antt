@@ -42,10 +42,8 @@ said E = E.search_indexed.ensures.answers ∙ ap (λ (m : ℤ). indexed_call (re
 
 pub put_bounded-requires : goal.put_bounded-requires
 put_bounded-requires c =
-    let E = c in
     subst SmallBounded (sym (said (goal.at.put_bounded-requires c).After-search_indexed)) (indexed-small (text_of (goal.at.put_bounded-requires c).After-search_indexed) (start_of (goal.at.put_bounded-requires c).After-search_indexed).args.margin (lows-of (goal.at.put_bounded-requires c).After-search_indexed) (highs-of (goal.at.put_bounded-requires c).After-search_indexed) (length (list_of (goal.at.put_bounded-requires c).After-search_indexed)))
 
 pub returns : goal.returns
 returns c =
-    let P = c in
-    let E = c in record { code = P.put_bounded.ensures.code ∙ ap search_code (said (goal.at.returns c).After-search_indexed); numbers = P.put_bounded.ensures.numbers ∙ ap (λ (x : Bounded). put 0 (search_numbers x) (start_of (goal.at.returns c).After-search_indexed).args.numbers.now) (said (goal.at.returns c).After-search_indexed); lists = E.search_indexed.ensures.lists ∙ ap (λ (m : ℤ). laid (indexed_reads (read_text (text_of (goal.at.returns c).After-search_indexed)) m (lows-of (goal.at.returns c).After-search_indexed) (highs-of (goal.at.returns c).After-search_indexed) (length (list_of (goal.at.returns c).After-search_indexed))) (list_of (goal.at.returns c).After-search_indexed)) (back (start_of (goal.at.returns c).After-search_indexed)) }
+    record { code = c.put_bounded.ensures.code ∙ ap search_code (said (goal.at.returns c).After-search_indexed); numbers = c.put_bounded.ensures.numbers ∙ ap (λ (x : Bounded). put 0 (search_numbers x) (start_of (goal.at.returns c).After-search_indexed).args.numbers.now) (said (goal.at.returns c).After-search_indexed); lists = c.search_indexed.ensures.lists ∙ ap (λ (m : ℤ). laid (indexed_reads (read_text (text_of (goal.at.returns c).After-search_indexed)) m (lows-of (goal.at.returns c).After-search_indexed) (highs-of (goal.at.returns c).After-search_indexed) (length (list_of (goal.at.returns c).After-search_indexed))) (list_of (goal.at.returns c).After-search_indexed)) (back (start_of (goal.at.returns c).After-search_indexed)) }

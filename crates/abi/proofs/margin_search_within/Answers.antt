@@ -38,10 +38,8 @@ said E = E.search_within.ensures.answers ∙ ap₂ (λ (m b : ℤ). within_call 
 
 pub put_bounded-requires : goal.put_bounded-requires
 put_bounded-requires c =
-    let E = c in
     subst SmallBounded (sym (said (goal.at.put_bounded-requires c).After-search_within)) (within-small (text_of (goal.at.put_bounded-requires c).After-search_within) (start_of (goal.at.put_bounded-requires c).After-search_within).args.margin (start_of (goal.at.put_bounded-requires c).After-search_within).args.budget (length (list_of (goal.at.put_bounded-requires c).After-search_within)))
 
 pub returns : goal.returns
 returns c =
-    let P = c in
-    let E = c in record { code = P.put_bounded.ensures.code ∙ ap search_code (said (goal.at.returns c).After-search_within); numbers = P.put_bounded.ensures.numbers ∙ ap (λ (x : Bounded). put 0 (search_numbers x) (start_of (goal.at.returns c).After-search_within).args.numbers.now) (said (goal.at.returns c).After-search_within); lists = E.search_within.ensures.lists ∙ ap₂ (λ (m b : ℤ). laid (within_reads (read_text (text_of (goal.at.returns c).After-search_within)) m b (length (list_of (goal.at.returns c).After-search_within))) (list_of (goal.at.returns c).After-search_within)) (back (start_of (goal.at.returns c).After-search_within)) (budget-back (start_of (goal.at.returns c).After-search_within)) }
+    record { code = c.put_bounded.ensures.code ∙ ap search_code (said (goal.at.returns c).After-search_within); numbers = c.put_bounded.ensures.numbers ∙ ap (λ (x : Bounded). put 0 (search_numbers x) (start_of (goal.at.returns c).After-search_within).args.numbers.now) (said (goal.at.returns c).After-search_within); lists = c.search_within.ensures.lists ∙ ap₂ (λ (m b : ℤ). laid (within_reads (read_text (text_of (goal.at.returns c).After-search_within)) m b (length (list_of (goal.at.returns c).After-search_within))) (list_of (goal.at.returns c).After-search_within)) (back (start_of (goal.at.returns c).After-search_within)) (budget-back (start_of (goal.at.returns c).After-search_within)) }

@@ -8,11 +8,8 @@ use Rattle.abi.proofs.margin_turn.Goals as goal
 
 pub turned_code-requires : goal.turned_code-requires
 turned_code-requires c =
-    let E = c in
-    let s = c in
-    subst SmallTurned (sym E.turn_table.ensures.answers) (turned-small s.args.text.now (length s.args.buffer.now))
+    subst SmallTurned (sym c.turn_table.ensures.answers) (turned-small c.args.text.now (length c.args.buffer.now))
 
 pub returns : goal.returns
 returns c =
-    let E = c in
-    record { code = c.turned_code.ensures ∙ ap turned_code E.turn_table.ensures.answers; writes = E.turn_table.ensures.writes }
+    record { code = c.turned_code.ensures ∙ ap turned_code c.turn_table.ensures.answers; writes = c.turn_table.ensures.writes }

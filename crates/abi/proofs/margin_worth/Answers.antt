@@ -8,12 +8,9 @@ use Rattle.abi.proofs.margin_worth.Goals as goal
 
 pub put_exact-requires : goal.put_exact-requires
 put_exact-requires c =
-    let E = c in
-    subst SmallExact (sym E.exact_worth.ensures) (exact-small E.args.text.now)
+    subst SmallExact (sym c.exact_worth.ensures) (exact-small c.args.text.now)
 
 pub returns : goal.returns
 returns c =
-    let P = c in
-    let E = c in
-    let e = E.exact_worth.ensures in
-    record { code = P.put_exact.ensures.code ∙ ap worth_code e; numbers = P.put_exact.ensures.numbers ∙ ap (λ (x : Exact). put 0 (worth_numbers x) E.args.numbers.now) e }
+    let e = c.exact_worth.ensures in
+    record { code = c.put_exact.ensures.code ∙ ap worth_code e; numbers = c.put_exact.ensures.numbers ∙ ap (λ (x : Exact). put 0 (worth_numbers x) c.args.numbers.now) e }

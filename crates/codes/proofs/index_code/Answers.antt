@@ -6,8 +6,7 @@ use Rattle.codes.proofs.index_code.Goals as goal
 
 pub refusal_code-requires : goal.refusal_code-requires
 refusal_code-requires c =
-    let E = c in
-    subst SmallIndexed E.in-Refused.is E.requires
+    subst SmallIndexed c.in-Refused.is c.requires
 
 pub returns-in-Refused : goal.returns-in-Refused
 returns-in-Refused c = c.refusal_code.ensures ∙ ap index_code (sym c.in-Refused.is)

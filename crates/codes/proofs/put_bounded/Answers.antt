@@ -7,25 +7,18 @@ use Rattle.codes.proofs.put_bounded.Goals as goal
 
 pub refusal_code-requires : goal.refusal_code-requires
 refusal_code-requires c =
-    let E = c in
-    subst SmallBounded E.in-Refused.is E.requires
+    subst SmallBounded c.in-Refused.is c.requires
 
 pub put_bounds-requires : goal.put_bounds-requires
 put_bounds-requires c =
-    let E = c in
-    subst SmallBounded E.in-Found.is E.requires
+    subst SmallBounded c.in-Found.is c.requires
 
 pub returns-in-Refused : goal.returns-in-Refused
 returns-in-Refused c =
-    let E = c in
-    let s = c in
-    let e = sym E.in-Refused.is in
-    record { code = c.refusal_code.ensures ∙ ap search_code e; numbers = ap (λ (x : Bounded). put 0 (search_numbers x) s.args.numbers.now) e }
+    let e = sym c.in-Refused.is in
+    record { code = c.refusal_code.ensures ∙ ap search_code e; numbers = ap (λ (x : Bounded). put 0 (search_numbers x) c.args.numbers.now) e }
 
 pub returns-in-Found : goal.returns-in-Found
 returns-in-Found c =
-    let P = c in
-    let E = c in
-    let s = c in
-    let e = sym E.in-Found.is in
-    record { code = ap search_code e; numbers = P.put_bounds.ensures ∙ ap (λ (x : Bounded). put 0 (search_numbers x) s.args.numbers.now) e }
+    let e = sym c.in-Found.is in
+    record { code = ap search_code e; numbers = c.put_bounds.ensures ∙ ap (λ (x : Bounded). put 0 (search_numbers x) c.args.numbers.now) e }

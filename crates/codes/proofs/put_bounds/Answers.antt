@@ -23,37 +23,25 @@ flag_small false n e = omega arith
 
 pub signed-requires-4 : goal.signed-requires-4
 signed-requires-4 c =
-    let P6 = c in
-    let P4 = c in
-    let P2 = c in
-    let s = c in
-    flag_small s.args.b.spent _ c.one_if.ensures
+    flag_small c.args.b.spent _ c.one_if.ensures
 
 difference-back : (s : Start) → to_z w64 (of_z w64 s.args.b.difference) ≡ s.args.b.difference
 difference-back s = search rules
 
 pub returns : goal.returns
 returns c =
-    let P7 = c in
-    let P6 = c in
-    let P5 = c in
-    let P4 = c in
-    let P3 = c in
-    let P2 = c in
-    let P1 = c in
-    let s = c in
-    let b3 : to_z w64 (of_z w64 P3.signed.result) ≡ P3.signed.result = search rules in
-    let b4 : to_z w64 (of_z w64 P4.signed-2.result) ≡ P4.signed-2.result = search rules in
-    let b5 : to_z w64 (of_z w64 P5.signed-3.result) ≡ P5.signed-3.result = search rules in
-    let b7 : to_z w64 (of_z w64 P7.signed-4.result) ≡ P7.signed-4.result = search rules in
-    stored 6 P7.put_at-7.ensures
-    (stored 5 P6.put_at-6.ensures
-    (stored 4 P5.put_at-5.ensures
-    (stored 3 P4.put_at-4.ensures
-    (stored 2 P3.put_at-3.ensures
-    (stored 1 P2.put_at-2.ensures (stored {b = s.args.numbers.now} 0 P1.put_at.ensures refl (low-back (goal.at.returns c).Start)) (high-back (goal.at.returns c).Start))
-    (b3 ∙ P3.signed.ensures ∙ ap pos P3.node_number.ensures))
-    (b4 ∙ P4.signed-2.ensures))
-    (b5 ∙ P5.signed-3.ensures))
+    let b3 : to_z w64 (of_z w64 c.signed.result) ≡ c.signed.result = search rules in
+    let b4 : to_z w64 (of_z w64 c.signed-2.result) ≡ c.signed-2.result = search rules in
+    let b5 : to_z w64 (of_z w64 c.signed-3.result) ≡ c.signed-3.result = search rules in
+    let b7 : to_z w64 (of_z w64 c.signed-4.result) ≡ c.signed-4.result = search rules in
+    stored 6 c.put_at-7.ensures
+    (stored 5 c.put_at-6.ensures
+    (stored 4 c.put_at-5.ensures
+    (stored 3 c.put_at-4.ensures
+    (stored 2 c.put_at-3.ensures
+    (stored 1 c.put_at-2.ensures (stored {b = c.args.numbers.now} 0 c.put_at.ensures refl (low-back (goal.at.returns c).Start)) (high-back (goal.at.returns c).Start))
+    (b3 ∙ c.signed.ensures ∙ ap pos c.node_number.ensures))
+    (b4 ∙ c.signed-2.ensures))
+    (b5 ∙ c.signed-3.ensures))
     (difference-back (goal.at.returns c).Start))
-    (b7 ∙ P7.signed-4.ensures ∙ ap pos P7.one_if.ensures)
+    (b7 ∙ c.signed-4.ensures ∙ ap pos c.one_if.ensures)

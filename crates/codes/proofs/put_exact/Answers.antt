@@ -12,31 +12,24 @@ use Rattle.codes.proofs.put_exact.Goals as goal
 
 pub refusal_code-requires : goal.refusal_code-requires
 refusal_code-requires c =
-    let E = c in
-    subst SmallExact E.in-Refused.is E.requires
+    subst SmallExact c.in-Refused.is c.requires
 
 pub put_worth-requires : goal.put_worth-requires
 put_worth-requires c =
-    let E = c in
-    subst SmallExact E.in-Grains.is E.requires
+    subst SmallExact c.in-Grains.is c.requires
 
 pub returns-in-Refused : goal.returns-in-Refused
 returns-in-Refused c =
-    let E = c in
-    let s = c in
-    let e = sym E.in-Refused.is in
-    record { code = c.refusal_code.ensures ∙ ap worth_code e; numbers = ap (λ (x : Exact). put 0 (worth_numbers x) s.args.numbers.now) e }
+    let e = sym c.in-Refused.is in
+    record { code = c.refusal_code.ensures ∙ ap worth_code e; numbers = ap (λ (x : Exact). put 0 (worth_numbers x) c.args.numbers.now) e }
 
 pub returns-in-Grains : goal.returns-in-Grains
 returns-in-Grains c =
-    let P = c in
-    let E = c in
-    let s = c in
-    let z = E.in-Grains in
+    let z = c.in-Grains in
     let e = sym z.is in
     let back : to_z w64 (of_z w64 z.z) ≡ z.z = search rules in record {
       code = ap worth_code e;
-      numbers = P.put_worth.ensures
-          ∙ ap (λ (y : ℤ). put 0 (worth_numbers (Grains y z.g)) s.args.numbers.now) back
-          ∙ ap (λ (x : Exact). put 0 (worth_numbers x) s.args.numbers.now) e;
+      numbers = c.put_worth.ensures
+          ∙ ap (λ (y : ℤ). put 0 (worth_numbers (Grains y z.g)) c.args.numbers.now) back
+          ∙ ap (λ (x : Exact). put 0 (worth_numbers x) c.args.numbers.now) e;
     }

@@ -12,14 +12,8 @@ undecided c = search rules
 
 pub returns-in-NoDecision : goal.returns-in-NoDecision
 returns-in-NoDecision c =
-    let P = c in
-    let T = c in
-    let s = c in
-    P.put_natural.ensures ∙ ap (λ (x : Judged). put 0 (judged_numbers x) s.args.numbers.now) (sym (undecided (goal.at.returns-in-NoDecision c).In-NoDecision))
+    c.put_natural.ensures ∙ ap (λ (x : Judged). put 0 (judged_numbers x) c.args.numbers.now) (sym (undecided (goal.at.returns-in-NoDecision c).In-NoDecision))
 
 pub returns-in-Loss : goal.returns-in-Loss
 returns-in-Loss c =
-    let P = c in
-    let J = c in
-    let s = c in
-    P.put_loss.ensures ∙ ap (λ (x : Judged). put 0 (judged_numbers x) s.args.numbers.now) (sym J.in-Loss.is)
+    c.put_loss.ensures ∙ ap (λ (x : Judged). put 0 (judged_numbers x) c.args.numbers.now) (sym c.in-Loss.is)

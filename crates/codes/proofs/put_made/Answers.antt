@@ -11,27 +11,22 @@ use Rattle.codes.proofs.put_made.Goals as goal
 
 pub refusal_code-requires : goal.refusal_code-requires
 refusal_code-requires c =
-    let E = c in
-    subst SmallMade E.in-Refused.is E.requires
+    subst SmallMade c.in-Refused.is c.requires
 
 pub signed-requires : goal.signed-requires
 signed-requires c =
-    let E = c in
-    subst SmallMade E.in-Written.is E.requires
+    subst SmallMade c.in-Written.is c.requires
 
 pub returns-in-Refused : goal.returns-in-Refused
 returns-in-Refused c =
-    let E = c in
-    let e = sym E.in-Refused.is in
-    record { code = c.refusal_code.ensures ∙ ap recipe_code e; numbers = ap (λ (x : Made). put 0 (recipe_numbers x) E.args.numbers.now) e }
+    let e = sym c.in-Refused.is in
+    record { code = c.refusal_code.ensures ∙ ap recipe_code e; numbers = ap (λ (x : Made). put 0 (recipe_numbers x) c.args.numbers.now) e }
 
 pub returns-in-Written : goal.returns-in-Written
 returns-in-Written c =
-    let E = c in
-    let s = c in
-    let e = sym E.in-Written.is in
+    let e = sym c.in-Written.is in
     let back : to_z w64 (of_z w64 c.signed.result) ≡ c.signed.result = search rules in record {
       code = ap recipe_code e;
-      numbers = stored {b = s.args.numbers.now} 0 c.put_at.ensures refl (back ∙ c.signed.ensures)
-          ∙ ap (λ (x : Made). put 0 (recipe_numbers x) s.args.numbers.now) e;
+      numbers = stored {b = c.args.numbers.now} 0 c.put_at.ensures refl (back ∙ c.signed.ensures)
+          ∙ ap (λ (x : Made). put 0 (recipe_numbers x) c.args.numbers.now) e;
     }

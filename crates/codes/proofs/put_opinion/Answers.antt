@@ -7,20 +7,14 @@ use Rattle.codes.proofs.put_opinion.Goals as goal
 
 pub refusal_code-requires : goal.refusal_code-requires
 refusal_code-requires c =
-    let E = c in
-    subst SmallOpinion E.in-Refused.is E.requires
+    subst SmallOpinion c.in-Refused.is c.requires
 
 pub returns-in-Refused : goal.returns-in-Refused
 returns-in-Refused c =
-    let E = c in
-    let s = c in
-    let e = sym E.in-Refused.is in
-    record { code = c.refusal_code.ensures ∙ ap judge_code e; numbers = ap (λ (x : Opinion). put 0 (judge_numbers x) s.args.numbers.now) e }
+    let e = sym c.in-Refused.is in
+    record { code = c.refusal_code.ensures ∙ ap judge_code e; numbers = ap (λ (x : Opinion). put 0 (judge_numbers x) c.args.numbers.now) e }
 
 pub returns-in-Given : goal.returns-in-Given
 returns-in-Given c =
-    let P = c in
-    let E = c in
-    let s = c in
-    let e = sym E.in-Given.is in
-    record { code = ap judge_code e; numbers = P.put_judged.ensures ∙ ap (λ (x : Opinion). put 0 (judge_numbers x) s.args.numbers.now) e }
+    let e = sym c.in-Given.is in
+    record { code = ap judge_code e; numbers = c.put_judged.ensures ∙ ap (λ (x : Opinion). put 0 (judge_numbers x) c.args.numbers.now) e }

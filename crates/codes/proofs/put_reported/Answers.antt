@@ -22,26 +22,19 @@ refusal_code-requires c = (small c).0
 
 pub overflow_add-result : goal.overflow_add-result
 overflow_add-result c =
-    let K = c in
-    let q = K.in-Refused.q in
+    let q = c.in-Refused.q in
     record { fits = omega (arith, small (goal.at.overflow_add-result c).In-Refused, number_small q, c.refusal_code.ensures) }
 
 pub put_totals-requires : goal.put_totals-requires
 put_totals-requires c =
-    let E = c in
-    subst SmallReported E.in-Done.is E.requires
+    subst SmallReported c.in-Done.is c.requires
 
 pub returns-in-Refused : goal.returns-in-Refused
 returns-in-Refused c =
-    let E = c in
-    let s = c in
-    let e = sym E.in-Refused.is in
-    record { code = ap (λ (n : ℕ). 1000000 * E.in-Refused.k + n) c.refusal_code.ensures ∙ ap report_code e; numbers = ap (λ (x : Reported). put 0 (report_numbers x) s.args.numbers.now) e }
+    let e = sym c.in-Refused.is in
+    record { code = ap (λ (n : ℕ). 1000000 * c.in-Refused.k + n) c.refusal_code.ensures ∙ ap report_code e; numbers = ap (λ (x : Reported). put 0 (report_numbers x) c.args.numbers.now) e }
 
 pub returns-in-Done : goal.returns-in-Done
 returns-in-Done c =
-    let P = c in
-    let E = c in
-    let s = c in
-    let e = sym E.in-Done.is in
-    record { code = ap report_code e; numbers = P.put_totals.ensures ∙ ap (λ (x : Reported). put 0 (report_numbers x) s.args.numbers.now) e }
+    let e = sym c.in-Done.is in
+    record { code = ap report_code e; numbers = c.put_totals.ensures ∙ ap (λ (x : Reported). put 0 (report_numbers x) c.args.numbers.now) e }

@@ -12,8 +12,5 @@ z-back s = search rules
 
 pub returns : goal.returns
 returns c =
-    let P2 = c in
-    let P1 = c in
-    let s = c in
-    let b2 : to_z w64 (of_z w64 P2.signed.result) ≡ P2.signed.result = search rules in
-    stored 1 P2.put_at-2.ensures (stored {b = s.args.numbers.now} 0 P1.put_at.ensures refl (z-back (goal.at.returns c).Start)) (b2 ∙ P2.signed.ensures)
+    let b2 : to_z w64 (of_z w64 c.signed.result) ≡ c.signed.result = search rules in
+    stored 1 c.put_at-2.ensures (stored {b = c.args.numbers.now} 0 c.put_at.ensures refl (z-back (goal.at.returns c).Start)) (b2 ∙ c.signed.ensures)

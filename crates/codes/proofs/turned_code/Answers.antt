@@ -6,8 +6,7 @@ use Rattle.codes.proofs.turned_code.Goals as goal
 
 pub refusal_code-requires : goal.refusal_code-requires
 refusal_code-requires c =
-    let E = c in
-    subst SmallTurned E.in-Refused.is E.requires
+    subst SmallTurned c.in-Refused.is c.requires
 
 pub returns-in-Refused : goal.returns-in-Refused
 returns-in-Refused c = c.refusal_code.ensures ∙ ap turned_code (sym c.in-Refused.is)

@@ -11,12 +11,11 @@ pub bounds-t-i : goal.bounds-t-i
 bounds-t-i c = omega arith
 
 pub returns-then-t-i-ne32 : goal.returns-then-t-i-ne32
-returns-then-t-i-ne32 c =
-    let l = c in (
-      omega arith,
-      l.loop-i.invariant.1,
-      λ _. l.loop-i.invariant.1 ∙ strip-at l.args.t.now l.loop-i.i ∙ simp (ne_eqb _ 32 c.if-t-i-ne32.true),
-    )
+returns-then-t-i-ne32 c = (
+  omega arith,
+  c.loop-i.invariant.1,
+  λ _. c.loop-i.invariant.1 ∙ strip-at c.args.t.now c.loop-i.i ∙ simp (ne_eqb _ 32 c.if-t-i-ne32.true),
+)
 
 pub overflow_add-i : goal.overflow_add-i
 overflow_add-i c = omega arith
@@ -26,8 +25,7 @@ loop-i-smaller c = omega arith
 
 pub loop-i-preserved : goal.loop-i-preserved
 loop-i-preserved c =
-    let l = c in
-    (omega arith, l.loop-i.invariant.1 ∙ strip-at l.args.t.now l.loop-i.i ∙ simp (eq-eqb _ 32 c.if-t-i-ne32.false))
+    (omega arith, c.loop-i.invariant.1 ∙ strip-at c.args.t.now c.loop-i.i ∙ simp (eq-eqb _ 32 c.if-t-i-ne32.false))
 
 pub returns : goal.returns
 returns c = (omega arith, c.loop-i.invariant.1, λ h. absurd (omega arith))

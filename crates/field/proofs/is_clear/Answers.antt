@@ -12,5 +12,4 @@ returns-then-k-le1 c =
 
 pub returns : goal.returns
 returns c =
-    let a = c in
-    clear-by a.args.t.now a.args.k c.blanks.result (omega arith) a.requires.0 a.requires.1 c.blanks.ensures
+    clear-by c.args.t.now c.args.k c.blanks.result (omega arith) c.requires.0 c.requires.1 c.blanks.ensures

@@ -8,25 +8,22 @@ use Rattle.field.proofs.read_after.Goals as goal
 use Rattle.field.proofs.read_after.Goals.{After-is_off, After-read_digits-n, Else-is_off}
 
 pub read_digits-n-requires : goal.read_digits-n-requires
-read_digits-n-requires c = let s = c in (s.requires.1, s.requires.3)
+read_digits-n-requires c = (c.requires.1, c.requires.3)
 
 pub returns-then-is_off : goal.returns-then-is_off
 returns-then-is_off c =
     let o = (goal.at.returns-then-is_off c).After-is_off in
     let d = (goal.at.returns-then-is_off c).After-read_digits-n in
-    let s = c in
-    off-by s.args.c s.args.t.now s.requires.0 s.requires.2 s.requires.3 d.read_digits-n.result d.read_digits-n.ensures o.is_off.result o.is_off.ensures c.if-is_off.true
+    off-by c.args.c c.args.t.now c.requires.0 c.requires.2 c.requires.3 d.read_digits-n.result d.read_digits-n.ensures o.is_off.result o.is_off.ensures c.if-is_off.true
 
 pub with_sign-requires : goal.with_sign-requires
 with_sign-requires c =
     let d = (goal.at.with_sign-requires c).After-is_off in
-    let s = c in
-    digits-small s.args.t.now d.read_digits-n.result d.read_digits-n.ensures s.requires.1
+    digits-small c.args.t.now d.read_digits-n.result d.read_digits-n.ensures c.requires.1
 
 pub returns : goal.returns
 returns c =
     let o = (goal.at.returns c).Else-is_off in
     let d = (goal.at.returns c).After-read_digits-n in
-    let s = c in
     rw (to_z-of_z w64 c.with_sign.result (sfits_of c.with_sign.type_inv), c.with_sign.ensures)
-    (told-by s.args.c s.args.t.now s.requires.0 s.requires.2 s.requires.3 d.read_digits-n.result d.read_digits-n.ensures o.is_off.result o.is_off.ensures c.if-is_off.false)
+    (told-by c.args.c c.args.t.now c.requires.0 c.requires.2 c.requires.3 d.read_digits-n.result d.read_digits-n.ensures o.is_off.result o.is_off.ensures c.if-is_off.false)

@@ -8,31 +8,27 @@ use Rattle.field.proofs.read_columns.Goals.{After-before-then-is_clear, After-re
 
 pub returns-then-blanks-k : goal.returns-then-blanks-k
 returns-then-blanks-k c =
-    let k = c in
-    blank-by k.args.t.now k.start-k.result c.blanks.result c.if-k-t.true c.blanks.ensures
+    blank-by c.args.t.now c.start-k.result c.blanks.result c.if-k-t.true c.blanks.ensures
     c.if-blanks-k.true
 
 pub returns-then-k-t : goal.returns-then-k-t
 returns-then-k-t c =
-    let k = c in
-    none-by k.args.t.now k.start-k.result c.blanks.result c.if-k-t.true c.blanks.ensures
-    k.start-k.ensures.1 c.if-blanks-k.false
+    none-by c.args.t.now c.start-k.result c.blanks.result c.if-k-t.true c.blanks.ensures
+    c.start-k.ensures.1 c.if-blanks-k.false
 
 pub read_after-requires : goal.read_after-requires
 read_after-requires c =
     let b = (goal.at.read_after-requires c).After-before-then-is_clear in
     let e = (goal.at.read_after-requires c).Then-is_clear in
     let k = (goal.at.read_after-requires c).After-start-k in
-    let s = c in
-    cut-ready s.args.t.now k.start-k.result b.before-then-is_clear.result b.before-then-is_clear.ensures e.if-k-t.false s.requires k.start-k.ensures
+    cut-ready c.args.t.now k.start-k.result b.before-then-is_clear.result b.before-then-is_clear.ensures e.if-k-t.false c.requires k.start-k.ensures
 
 pub returns-then-is_clear : goal.returns-then-is_clear
 returns-then-is_clear c =
     let b = (goal.at.returns-then-is_clear c).After-read_after-arg-1 in
     let i = (goal.at.returns-then-is_clear c).Then-is_clear in
-    let k = c in
     c.read_after.ensures
-    ∙ cut-read k.args.t.now k.start-k.result b.before-then-is_clear.result b.before-then-is_clear.ensures i.is_clear.result k.start-k.ensures.0
+    ∙ cut-read c.args.t.now c.start-k.result b.before-then-is_clear.result b.before-then-is_clear.ensures i.is_clear.result c.start-k.ensures.0
     i.is_clear.ensures b.if-is_clear.true
 
 pub returns-else-is_clear : goal.returns-else-is_clear

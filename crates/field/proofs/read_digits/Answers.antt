@@ -18,20 +18,17 @@ bounds-t-i c = omega arith
 
 pub overflow_mul-n : goal.overflow_mul-n
 overflow_mul-n c =
-    let l = c in
-    omega (arith, wider l.loop-i.n l.loop-i.i 18 l.loop-i.invariant.1 (omega arith))
+    omega (arith, wider c.loop-i.n c.loop-i.i 18 c.loop-i.invariant.1 (omega arith))
 
 pub value-requires : goal.value-requires
 value-requires c =
-    let l = c in
-    low _ (l.requires.1 l.loop-i.i (omega arith))
+    low _ (c.requires.1 c.loop-i.i (omega arith))
 
 pub overflow_add-n : goal.overflow_add-n
 overflow_add-n c =
-    let l = c in
-    let t : List ℕ = l.args.t.now in
-    let most : get_or t l.loop-i.i 0 ≤ 57 = high (get_or t l.loop-i.i 0) (l.requires.1 l.loop-i.i (omega arith)) in
-    omega (arith, wider l.loop-i.n l.loop-i.i 18 l.loop-i.invariant.1 (omega arith))
+    let t : List ℕ = c.args.t.now in
+    let most : get_or t c.loop-i.i 0 ≤ 57 = high (get_or t c.loop-i.i 0) (c.requires.1 c.loop-i.i (omega arith)) in
+    omega (arith, wider c.loop-i.n c.loop-i.i 18 c.loop-i.invariant.1 (omega arith))
 
 pub overflow_add-i : goal.overflow_add-i
 overflow_add-i c = omega arith
@@ -41,21 +38,19 @@ loop-i-smaller c = omega arith
 
 pub loop-i-preserved : goal.loop-i-preserved
 loop-i-preserved c =
-    let l = c in
-    let t : List ℕ = l.args.t.now in
-    let i : ℕ = l.loop-i.i in
-    let n : ℕ = l.loop-i.n in
-    let d = l.requires.1 i (omega arith) in
+    let t : List ℕ = c.args.t.now in
+    let i : ℕ = c.loop-i.i in
+    let n : ℕ = c.loop-i.n in
+    let d = c.requires.1 i (omega arith) in
     let least : 48 ≤ get_or t i 0 = low (get_or t i 0) d in
     let most : get_or t i 0 ≤ 57 = high (get_or t i 0) d in (
       omega arith,
-      omega (arith, more-digits n i c.value.result l.loop-i.invariant.1 (omega arith)),
-      l.loop-i.invariant.2
+      omega (arith, more-digits n i c.value.result c.loop-i.invariant.1 (omega arith)),
+      c.loop-i.invariant.2
           ∙ digits-at t i n (omega arith)
           ∙ simp (le-ltb (get_or t i 0) 48 (omega arith), le-ltb 57 (get_or t i 0) (omega arith), c.value.ensures),
     )
 
 pub returns : goal.returns
 returns c =
-    let l = c in
-    l.loop-i.invariant.2 ∙ digits-end l.args.t.now l.loop-i.i l.loop-i.n (omega arith)
+    c.loop-i.invariant.2 ∙ digits-end c.args.t.now c.loop-i.i c.loop-i.n (omega arith)

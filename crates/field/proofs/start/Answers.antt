@@ -14,12 +14,11 @@ pub bounds-t-i : goal.bounds-t-i
 bounds-t-i c = omega arith
 
 pub returns-then-is_strange : goal.returns-then-is_strange
-returns-then-is_strange c =
-    let l = c in (
-      l.loop-i.invariant.0,
-      rw (ne_eqb l.loop-i.i 0 (λ e. omega arith)) (sym c.is_strange.ensures ∙ c.if-is_strange.true),
-      l.loop-i.invariant.1,
-    )
+returns-then-is_strange c = (
+  c.loop-i.invariant.0,
+  rw (ne_eqb c.loop-i.i 0 (λ e. omega arith)) (sym c.is_strange.ensures ∙ c.if-is_strange.true),
+  c.loop-i.invariant.1,
+)
 
 pub overflow_sub-i-in-loop-i : goal.overflow_sub-i-in-loop-i
 overflow_sub-i-in-loop-i c = omega arith
@@ -32,5 +31,4 @@ loop-i-preserved c = (omega arith, one_more c.args.t.now c.loop-i.i (sym c.is_st
 
 pub returns : goal.returns
 returns c =
-    let l = c in
-    (l.loop-i.invariant.0, rw (eq-eqb l.loop-i.i 0 (omega arith)), l.loop-i.invariant.1)
+    (c.loop-i.invariant.0, rw (eq-eqb c.loop-i.i 0 (omega arith)), c.loop-i.invariant.1)

@@ -43,14 +43,13 @@ loop-i-smaller c = omega arith
 
 pub loop-i-preserved : goal.loop-i-preserved
 loop-i-preserved c =
-    let l = c in
-    let at : ℕ = l.args.at in (
+    let at : ℕ = c.args.at in (
       omega arith,
       simp length-set (omega arith),
       omega arith,
-      simp length-set (l.loop-i.invariant.3 ∙ simp length-set),
-      l.loop-i.invariant.4
-          ∙ next-stored l.loop-i.dst at l.loop-i.i (omega arith) (omega arith) l.loop-i.n l.loop-i.negative (omega arith)
+      simp length-set (c.loop-i.invariant.3 ∙ simp length-set),
+      c.loop-i.invariant.4
+          ∙ next-stored c.loop-i.dst at c.loop-i.i (omega arith) (omega arith) c.loop-i.n c.loop-i.negative (omega arith)
           ∙ rw (c.still-negative.ensures, c.column_mark.ensures),
     )
 
@@ -60,8 +59,7 @@ shape_of-dst c = c.loop-i.invariant.3 ∙ simp length-set
 pub returns : goal.returns
 returns c =
     let l = c.loop-i in
-    let m = c in
-    let a = m.args in
+    let a = c.args in
     let z = a.z in
     finished a.dst.now l.dst a.at a.width l.i (text_of z) (rest l.negative l.n)
     (omega arith)
@@ -69,4 +67,4 @@ returns c =
     (l.invariant.3 ∙ simp length-set)
     (omega arith)
     (last_stored a.dst.now a.at a.width (omega (arith, some-columns z)) (omega arith) z
-    ∙ rw (← back z (omega arith), ← m.magnitude-m.ensures, ← c.last_digit.ensures) l.invariant.4)
+    ∙ rw (← back z (omega arith), ← c.magnitude-m.ensures, ← c.last_digit.ensures) l.invariant.4)

@@ -18,8 +18,7 @@ back s =
     rw (to_z-of_z w64 s.args.l.utility (sfits_of (omega (arith, s.requires.0))), to_z-of_z w64 s.args.lowest s.ranges.lowest)
 
 height-is : (c : After-natural)
-    → let s = c in
-    c.natural.result ≡ to_nat (s.args.l.utility -ℤ s.args.lowest)
+    → c.natural.result ≡ to_nat (c.args.l.utility -ℤ c.args.lowest)
 height-is c =
     let s = (goal.at.After-natural c).Start in
     c.natural.ensures
@@ -34,8 +33,7 @@ overflow_sub-l c =
 
 pub overflow_cast-result : goal.overflow_cast-result
 overflow_cast-result c =
-    let s = c in
-    record { fits = omega (arith, height-is c, mag-diff s.args.l.utility s.args.lowest s.requires.0 s.requires.1, nat-mag (s.args.l.utility -ℤ s.args.lowest)) }
+    record { fits = omega (arith, height-is c, mag-diff c.args.l.utility c.args.lowest c.requires.0 c.requires.1, nat-mag (c.args.l.utility -ℤ c.args.lowest)) }
 
 pub returns-then-l-eq0 : goal.returns-then-l-eq0
 returns-then-l-eq0 c = height-is c ∙ simp (eq-eqb c.args.l.kind 0 c.if-l-eq0.true)

@@ -99,12 +99,11 @@ more c l d e =
 
 pub loop-i-init : goal.loop-i-init
 loop-i-init c =
-    let b = c in
-    let a = b.args in (
-      gathering-none a.h a.n (drop 25 a.text.now) a.kind.now a.up.now a.weight.now a.height.now (replicate 64 0) (replicate 64 0) (replicate 64 0) (refl, refl, refl) (bounded-zeros 64) b.requires.0,
-      b.requires.1,
-      b.requires.2,
-      b.requires.3,
+    let a = c.args in (
+      gathering-none a.h a.n (drop 25 a.text.now) a.kind.now a.up.now a.weight.now a.height.now (replicate 64 0) (replicate 64 0) (replicate 64 0) (refl, refl, refl) (bounded-zeros 64) c.requires.0,
+      c.requires.1,
+      c.requires.2,
+      c.requires.3,
     )
 
 pub overflow_mul-at : goal.overflow_mul-at

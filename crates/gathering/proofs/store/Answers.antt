@@ -10,6 +10,5 @@ use Rattle.gathering.proofs.store.Goals as goal
 
 pub returns : goal.returns
 returns c =
-    let s = c in
-    let back : to_z w64 (of_z w64 s.args.lowest) ≡ s.args.lowest = to_z-of_z w64 s.args.lowest s.ranges.lowest in
-    record { kinds = refl; ups = refl; weights = refl; heights = ap (set s.args.height.now s.args.i) (c.height_of.ensures ∙ ap (λ (z : ℤ). height_of z s.args.l) back) }
+    let back : to_z w64 (of_z w64 c.args.lowest) ≡ c.args.lowest = to_z-of_z w64 c.args.lowest c.ranges.lowest in
+    record { kinds = refl; ups = refl; weights = refl; heights = ap (set c.args.height.now c.args.i) (c.height_of.ensures ∙ ap (λ (z : ℤ). height_of z c.args.l) back) }

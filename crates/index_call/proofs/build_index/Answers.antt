@@ -68,8 +68,7 @@ refusing R x e = (
 )
 
 pub returns-then-lows-t : goal.returns-then-lows-t
-returns-then-lows-t c = let all = let K = c in
-    let R = read_of (goal.at.returns-then-lows-t c).In-Accepted in
+returns-then-lows-t c = let all = let R = read_of (goal.at.returns-then-lows-t c).In-Accepted in
     refusing R NoRoom (index_short (taken (goal.at.returns-then-lows-t c).In-Accepted) (room_of R) (omega (arith, c.if-lows-t.true))) in record { answers = all.0; lows = all.1.0; highs = all.1.1 }
 
 -- where the index is built: at an accepted table and lists that are long enough
@@ -77,8 +76,7 @@ abbrev known_of : Else-highs-t → In-Accepted
 known_of E = (goal.at.Else-highs-t E).In-Accepted
 
 pub returns-then-highs-t : goal.returns-then-highs-t
-returns-then-highs-t c = let all = let K = c in
-    let R = read_of (goal.at.returns-then-highs-t c).In-Accepted in
+returns-then-highs-t c = let all = let R = read_of (goal.at.returns-then-highs-t c).In-Accepted in
     refusing R NoRoom (index_short (taken (goal.at.returns-then-highs-t c).In-Accepted) (room_of R) (omega (arith, c.if-highs-t.true))) in record { answers = all.0; lows = all.1.0; highs = all.1.1 }
 
 pub span_of-span-requires : goal.span_of-span-requires
@@ -89,11 +87,10 @@ long E = (omega (arith, E.if-lows-t.false), omega (arith, E.if-highs-t.false))
 
 pub own_ends-requires : goal.own_ends-requires
 own_ends-requires c =
-    let S = c in
     let G = taken (goal.at.own_ends-requires c).In-Accepted in
     let a = own-asks G in
     let n = slices-long G in
-    (n.0, n.1, n.2, n.3, n.3, (λ i l. omega (arith, S.span_of-span.ensures.0, a.0 i l)), a.1)
+    (n.0, n.1, n.2, n.3, n.3, (λ i l. omega (arith, c.span_of-span.ensures.0, a.0 i l)), a.1)
 
 -- what it made
 abbrev spanned : After-own_ends → After-span_of-span
@@ -108,11 +105,10 @@ ended O =
 
 pub put_ends-requires : goal.put_ends-requires
 put_ends-requires c =
-    let O = c in
     let E = (goal.at.put_ends-requires c).Else-highs-t in
     let G = taken (known_of E) in
     let n = slices-long G in
-    (n.0, omega (arith, O.own_ends.ensures.0, n.2), (long E).0, rw (lowest-back G) (spread_at G).lowest, (own-small G (ended (goal.at.put_ends-requires c).After-own_ends)).0)
+    (n.0, omega (arith, c.own_ends.ensures.0, n.2), (long E).0, rw (lowest-back G) (spread_at G).lowest, (own-small G (ended (goal.at.put_ends-requires c).After-own_ends)).0)
 
 -- the kinds are lent once more
 pub slice_bounds-put_ends-end-in-Accepted-2 : goal.slice_bounds-put_ends-end-in-Accepted-2
@@ -120,21 +116,17 @@ slice_bounds-put_ends-end-in-Accepted-2 c = sym c.decode.auto.kind
 
 pub put_ends-requires-in-Accepted : goal.put_ends-requires-in-Accepted
 put_ends-requires-in-Accepted c =
-    let O = c in
     let E = (goal.at.put_ends-requires-in-Accepted c).Else-highs-t in
     let G = taken (known_of E) in
     let n = slices-long G in
-    (n.0, omega (arith, O.own_ends.ensures.1, n.3), (long E).1, rw (highest-back G) (spread_at G).highest, (own-small G (ended (goal.at.put_ends-requires-in-Accepted c).After-own_ends)).1)
+    (n.0, omega (arith, c.own_ends.ensures.1, n.3), (long E).1, rw (highest-back G) (spread_at G).highest, (own-small G (ended (goal.at.put_ends-requires-in-Accepted c).After-own_ends)).1)
 
 pub returns-in-Refused : goal.returns-in-Refused
 returns-in-Refused c = let all = let r = c.in-Refused in
-    let R = c in
     refusing (goal.at.returns-in-Refused c).After-decode r.r (ap (λ (v : Verdict Table). indexed v (room_of (goal.at.returns-in-Refused c).After-decode)) (refused-at (goal.at.returns-in-Refused c).After-decode r.r r.is)) in record { answers = all.0; lows = all.1.0; highs = all.1.1 }
 
 pub returns-else-highs-t : goal.returns-else-highs-t
 returns-else-highs-t c =
-    let P = c in
-    let O = c in
     let E = (goal.at.returns-else-highs-t c).Else-highs-t in
     let K = known_of E in
     let R = read_of K in
@@ -143,10 +135,10 @@ returns-else-highs-t c =
     let l = long E in
     let all : indexed (read_text (text_of R)) (room_of R) ≡ read_text (text_of R) = index-long G (room_of R) (omega arith) in record {
       answers = index-built G (room_of R) ∙ ap index_answer (sym all);
-      lows = P.put_ends.ensures
-          ∙ ap (λ (z : ℤ). written (entries_of R.decode.new.kind O.own_ends.new.height z true t.nodes) (lows-of R)) (lowest-back G)
+      lows = c.put_ends.ensures
+          ∙ ap (λ (z : ℤ). written (entries_of R.decode.new.kind c.own_ends.new.height z true t.nodes) (lows-of R)) (lowest-back G)
           ∙ ap (λ (l : List (Option ℤ)). written l (lows-of R)) (own-lows G (ended (goal.at.returns-else-highs-t c).After-own_ends) ∙ ap (index_entries lows_of) (sym all));
       highs = c.put_ends-in-Accepted.ensures
-          ∙ ap (λ (z : ℤ). written (entries_of R.decode.new.kind O.own_ends.new.drop z false t.nodes) (highs-of R)) (highest-back G)
+          ∙ ap (λ (z : ℤ). written (entries_of R.decode.new.kind c.own_ends.new.drop z false t.nodes) (highs-of R)) (highest-back G)
           ∙ ap (λ (l : List (Option ℤ)). written l (highs-of R)) (own-highs G (ended (goal.at.returns-else-highs-t c).After-own_ends) ∙ ap (index_entries highs_of) (sym all));
     }

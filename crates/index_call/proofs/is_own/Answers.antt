@@ -15,10 +15,9 @@ low-is : (c : After-same_ends)
     → let a = c.args in
     c.same_ends.result ≡ agrees (entries_of a.kind.now a.rise.now a.t.lowest true a.t.nodes) a.lows.now
 low-is c =
-    let s = c in
-    let a = s.args in
+    let a = c.args in
     c.same_ends.ensures
-    ∙ ap (λ (z : ℤ). agrees (entries_of a.kind.now a.rise.now z true a.t.nodes) a.lows.now) (read_back a.t.lowest (omega (arith, s.requires.3.lowest)))
+    ∙ ap (λ (z : ℤ). agrees (entries_of a.kind.now a.rise.now z true a.t.nodes) a.lows.now) (read_back a.t.lowest (omega (arith, c.requires.3.lowest)))
 
 none : (a b r : Bool) → r ≡ a → not r ≡ true → false ≡ (a && b)
 none true b r e q = absurd (true-ne-false (sym q ∙ ap not e))
@@ -33,9 +32,7 @@ returns-then-not-same_ends c = none _ _ c.same_ends.result (low-is (goal.at.retu
 
 pub returns : goal.returns
 returns c =
-    let E = c in
-    let s = c in
-    let a = s.args in
-    both _ _ E.same_ends.result c.same_ends-2.result (low-is (goal.at.returns c).After-same_ends) E.if-not-same_ends.false-raw
+    let a = c.args in
+    both _ _ c.same_ends.result c.same_ends-2.result (low-is (goal.at.returns c).After-same_ends) c.if-not-same_ends.false-raw
     (c.same_ends-2.ensures
-    ∙ ap (λ (z : ℤ). agrees (entries_of a.kind.now a.drop.now z false a.t.nodes) a.highs.now) (read_back a.t.highest (omega (arith, s.requires.3.highest))))
+    ∙ ap (λ (z : ℤ). agrees (entries_of a.kind.now a.drop.now z false a.t.nodes) a.highs.now) (read_back a.t.highest (omega (arith, c.requires.3.highest))))

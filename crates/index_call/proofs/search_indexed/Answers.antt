@@ -75,11 +75,10 @@ span_of-span-requires c = spread_at (taken c)
 
 pub own_ends-requires : goal.own_ends-requires
 own_ends-requires c =
-    let S = c in
     let G = taken (goal.at.own_ends-requires c).In-Accepted in
     let a = own-asks G in
     let n = slices-long G in
-    (n.0, n.1, n.2, n.3, n.3, (λ i l. omega (arith, S.span_of-span.ensures.0, a.0 i l)), a.1)
+    (n.0, n.1, n.2, n.3, n.3, (λ i l. omega (arith, c.span_of-span.ensures.0, a.0 i l)), a.1)
 
 -- the ends that were made, of the table
 abbrev spanned : After-own_ends → After-span_of-span
@@ -97,11 +96,10 @@ ended O =
 
 pub is_own-requires : goal.is_own-requires
 is_own-requires c =
-    let O = c in
     let G = taken (known_of (goal.at.is_own-requires c).After-own_ends) in
     let n = slices-long G in
     let s = own-small G (ended (goal.at.is_own-requires c).After-own_ends) in
-    (n.0, omega (arith, O.own_ends.ensures.0, n.2), omega (arith, O.own_ends.ensures.1, n.3), spread_at G, s.0, s.1)
+    (n.0, omega (arith, c.own_ends.ensures.0, n.2), omega (arith, c.own_ends.ensures.1, n.3), spread_at G, s.0, s.1)
 
 -- ---- the three tests
 abbrev made_of : After-is_own → After-own_ends
@@ -127,10 +125,9 @@ compared I =
     ∙ ap₂ (λ (x y : List (Option ℤ)). agrees x (lows-of R) && agrees y (highs-of R)) (own-lows G (ended O)) (own-highs G (ended O))
 
 pub returns-then-not-is_own : goal.returns-then-not-is_own
-returns-then-not-is_own c = let all = let I = c in
-    let R = reading-of (goal.at.returns-then-not-is_own c).After-is_own in
+returns-then-not-is_own c = let all = let R = reading-of (goal.at.returns-then-not-is_own c).After-is_own in
     refusing R (refused BadIndex)
-    (bad-index (taken (known_of (made_of (goal.at.returns-then-not-is_own c).After-is_own))) (margin-of R) (lows-of R) (highs-of R) (length (list_of R)) (own-test (low-agree R) (high-agree R) I.is_own.result (compared (goal.at.returns-then-not-is_own c).After-is_own) c.if-not-is_own.true-raw)) in record { answers = all.0; lists = all.1 }
+    (bad-index (taken (known_of (made_of (goal.at.returns-then-not-is_own c).After-is_own))) (margin-of R) (lows-of R) (highs-of R) (length (list_of R)) (own-test (low-agree R) (high-agree R) c.is_own.result (compared (goal.at.returns-then-not-is_own c).After-is_own) c.if-not-is_own.true-raw)) in record { answers = all.0; lists = all.1 }
 
 -- past the first refusal, and past the second
 own : (E : Else-not-is_own)
@@ -147,15 +144,12 @@ good-margin : (E : Else-is_beyond) → bad_margin (margin-of (goal.at.Else-is_be
 good-margin E = sym (tested (goal.at.Else-is_beyond E).After-is_beyond) ∙ E.if-is_beyond.false
 
 pub returns-then-is_beyond : goal.returns-then-is_beyond
-returns-then-is_beyond c = let all = let E = c in
-    let R = reading-of (goal.at.returns-then-is_beyond c).After-is_own in
+returns-then-is_beyond c = let all = let R = reading-of (goal.at.returns-then-is_beyond c).After-is_own in
     refusing R (refused BadMargin)
     (bad-margin (taken (known_of (goal.at.returns-then-is_beyond c).After-own_ends)) (margin-of R) (lows-of R) (highs-of R) (length (list_of R)) (own (goal.at.returns-then-is_beyond c).Else-not-is_own) (sym (tested (goal.at.returns-then-is_beyond c).After-is_beyond) ∙ c.if-is_beyond.true)) in record { answers = all.0; lists = all.1 }
 
 pub returns-then-leaves-t : goal.returns-then-leaves-t
-returns-then-leaves-t c = let all = let E = c in
-    let F = c in
-    let R = reading-of (goal.at.returns-then-leaves-t c).After-is_own in
+returns-then-leaves-t c = let all = let R = reading-of (goal.at.returns-then-leaves-t c).After-is_own in
     refusing R (refused NoRoom)
     (no_room (taken (known_of (goal.at.returns-then-leaves-t c).After-own_ends)) (margin-of R) (lows-of R) (highs-of R) (length (list_of R)) (own (goal.at.returns-then-leaves-t c).Else-not-is_own) (good-margin (goal.at.returns-then-leaves-t c).Else-is_beyond) c.if-leaves-t.true) in record { answers = all.0; lists = all.1 }
 
@@ -220,7 +214,6 @@ slice_bounds-search-end-in-Accepted-3 c = sym (long-heights (goal.at.slice_bound
 
 pub search-f-requires : goal.search-f-requires
 search-f-requires c =
-    let L = c in
     let O = lent_of (goal.at.search-f-requires c).After-ends_of-v in
     search-ready (taken (known_of O)) O.own_ends.new.height O.own_ends.new.drop (dropped-of (goal.at.search-f-requires c).After-ends_of-v).drops.new.drop (ended O) (long-heights O) (dropped-of (goal.at.search-f-requires c).After-ends_of-v).drops.ensures.0 (dropped (goal.at.search-f-requires c).After-ends_of-v)
     (margin-of (read_of (known_of O))) (good-margin (goal.at.search-f-requires c).Else-is_beyond) (rule-is (goal.at.search-f-requires c).After-ends_of-v) (ends-are (goal.at.search-f-requires c).After-ends_of-v)
@@ -240,19 +233,16 @@ small W =
 
 pub bounds_of-requires : goal.bounds_of-requires
 bounds_of-requires c =
-    let W = c in
     let u = small (goal.at.bounds_of-requires c).After-search-f in
     (spread_at (taken (known_of (lent_of (asked_of (goal.at.bounds_of-requires c).After-search-f)))), u.0, u.1, u.2)
 
 pub returns-in-Refused : goal.returns-in-Refused
 returns-in-Refused c = let all = let r = c.in-Refused in
-    let R = c in
     let v = refused-at (goal.at.returns-in-Refused c).After-decode r.r r.is in
     refusing (goal.at.returns-in-Refused c).After-decode (refused r.r) (ap (λ (v : Verdict Table). sought_indexed v (margin-of (goal.at.returns-in-Refused c).After-decode) (lows-of (goal.at.returns-in-Refused c).After-decode) (highs-of (goal.at.returns-in-Refused c).After-decode) (length (list_of (goal.at.returns-in-Refused c).After-decode))) v) in record { answers = all.0; lists = all.1 }
 
 pub returns-else-leaves-t : goal.returns-else-leaves-t
 returns-else-leaves-t c =
-    let W = c in
     let L = asked_of (goal.at.returns-else-leaves-t c).After-search-f in
     let O = lent_of L in
     let K = known_of O in
@@ -264,7 +254,7 @@ returns-else-leaves-t c =
     let mine = own_of G (margin-of R) (lows-of R) (highs-of R) (length (list_of R)) (own (passed-of (long_of L))) in record {
       answers = ap Given c.bounds_of.ensures
           ∙ given-at G H D T (ended O) (long-heights O) (dropped-of L).drops.ensures.0 (dropped L) (margin-of R) (good-margin (goal.at.returns-else-leaves-t c).Else-is_beyond) (rule-is L) (ends-are L)
-          W.search-f.result (list_of R) W.search-f.new.leaves (long_of L).if-leaves-t.false W.search-f.ensures (lows-of R) (highs-of R) mine;
+          c.search-f.result (list_of R) c.search-f.new.leaves (long_of L).if-leaves-t.false c.search-f.ensures (lows-of R) (highs-of R) mine;
       lists = reads_at G H D T (ended O) (long-heights O) (dropped-of L).drops.ensures.0 (dropped L) (margin-of R) (good-margin (goal.at.returns-else-leaves-t c).Else-is_beyond) (rule-is L) (ends-are L)
-          W.search-f.result (list_of R) W.search-f.new.leaves (long_of L).if-leaves-t.false W.search-f.ensures (lows-of R) (highs-of R) mine;
+          c.search-f.result (list_of R) c.search-f.new.leaves (long_of L).if-leaves-t.false c.search-f.ensures (lows-of R) (highs-of R) mine;
     }

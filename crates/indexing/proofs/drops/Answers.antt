@@ -9,7 +9,7 @@ pub loop-i-init : goal.loop-i-init
 loop-i-init c = (omega arith, c.requires.0, c.requires.1, c.requires.2, refl, λ j l. absurd (omega arith))
 
 pub overflow_sub-drop : goal.overflow_sub-drop
-overflow_sub-drop c = let l = c in l.loop-i.invariant.3 l.loop-i.i c.loop-i-test.true
+overflow_sub-drop c = c.loop-i.invariant.3 c.loop-i.i c.loop-i-test.true
 
 pub bounds-drop-i : goal.bounds-drop-i
 bounds-drop-i c = let v = c.loop-i.invariant in omega (arith, v.2, v.4, c.loop-i-test.true)
@@ -19,16 +19,15 @@ loop-i-smaller c = omega arith
 
 pub loop-i-preserved : goal.loop-i-preserved
 loop-i-preserved c =
-    let l = c in
-    let a = l.args in
-    let v = l.loop-i.invariant in
+    let a = c.args in
+    let v = c.loop-i.invariant in
     let t = c.loop-i-test.true in (
       omega arith,
       v.1,
       v.2,
       v.3,
-      length-set l.loop-i.drop l.loop-i.i (a.span - get_or a.height.now l.loop-i.i 0) ∙ v.4,
-      dropped-more a.span a.height.now l.loop-i.drop l.loop-i.i (omega (arith, v.2, v.4)) v.5,
+      length-set c.loop-i.drop c.loop-i.i (a.span - get_or a.height.now c.loop-i.i 0) ∙ v.4,
+      dropped-more a.span a.height.now c.loop-i.drop c.loop-i.i (omega (arith, v.2, v.4)) v.5,
     )
 
 pub shape_of-drop : goal.shape_of-drop

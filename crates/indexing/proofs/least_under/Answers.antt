@@ -7,9 +7,8 @@ use Rattle.indexing.proofs.least_under.Goals as goal
 
 pub loop-i-init : goal.loop-i-init
 loop-i-init c =
-    let b = c in
-    let a = b.args in
-    let p = b.requires in
+    let a = c.args in
+    let p = c.requires in
     (omega arith, p.0, p.1, p.2, p.3, p.4, refl, lessened-none a.kind.now a.stop.now a.points.now a.n)
 
 pub overflow_sub-i : goal.overflow_sub-i
@@ -31,19 +30,18 @@ loop-i-smaller c = omega arith
 
 pub loop-i-preserved : goal.loop-i-preserved
 loop-i-preserved c =
-    let l = c in
-    let a = l.args in
-    let v = l.loop-i.invariant in
+    let a = c.args in
+    let v = c.loop-i.invariant in
     let t = c.loop-i-test.true in
-    let e : l.loop-i.i - 1 + 1 ≡ l.loop-i.i = omega arith in (
+    let e : c.loop-i.i - 1 + 1 ≡ c.loop-i.i = omega arith in (
       omega (arith, v.0),
       v.1,
       v.2,
       v.3,
       v.4,
       v.5,
-      length-set l.loop-i.points (l.loop-i.i - 1) c.own_least.result ∙ v.6,
-      lessened-more a.kind.now a.stop.now a.points.now a.n l.loop-i.points (l.loop-i.i - 1) c.own_least.result (rw e v.7)
+      length-set c.loop-i.points (c.loop-i.i - 1) c.own_least.result ∙ v.6,
+      lessened-more a.kind.now a.stop.now a.points.now a.n c.loop-i.points (c.loop-i.i - 1) c.own_least.result (rw e v.7)
           (omega (arith, v.0, v.3, v.6)) c.own_least.ensures,
     )
 

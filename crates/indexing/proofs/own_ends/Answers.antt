@@ -6,16 +6,12 @@ use Rattle.indexing.proofs.own_ends.Goals as goal
 
 pub returns : goal.returns
 returns c =
-    let H = c in
-    let D = c in
-    let X = c in
-    let s = c in
-    let a = s.args in
-    let h = H.least_under-2.ensures in
-    let d = D.least_under.ensures in
-    let x = X.drops.ensures in (
+    let a = c.args in
+    let h = c.least_under-2.ensures in
+    let d = c.least_under.ensures in
+    let x = c.drops.ensures in (
       h.0,
       d.0 ∙ x.0,
-      λ R. ended a.kind.now a.stop.now R.weights a.height.now X.drops.new.drop H.least_under-2.new.points D.least_under.new.points
-          a.n a.span (omega arith) x.1 h.1 d.1 R.forest s.requires.5 R.spans R.filled,
+      λ R. ended a.kind.now a.stop.now R.weights a.height.now c.drops.new.drop c.least_under-2.new.points c.least_under.new.points
+          a.n a.span (omega arith) x.1 h.1 d.1 R.forest c.requires.5 R.spans R.filled,
     )

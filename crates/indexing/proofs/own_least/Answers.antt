@@ -6,9 +6,8 @@ use Rattle.indexing.proofs.own_least.Goals as goal
 
 pub least_of-requires : goal.least_of-requires
 least_of-requires c =
-    let b = c in
-    let a = b.args in
-    let p = b.requires in
+    let a = c.args in
+    let p = c.requires in
     let t = p.5 in
     let S = slices a.kind.now a.stop.now t.weights t.heights in
     let u = spans-under S 0 a.n t.forest t.spans a.i (omega arith) p.0 c.if-kind-i-eq0.false in

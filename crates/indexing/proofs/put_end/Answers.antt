@@ -17,10 +17,9 @@ returns-then-kind-i-eq0 c =
 
 pub returns : goal.returns
 returns c =
-    let s = c in
-    let a = s.args in
+    let a = c.args in
     let x = get_or a.points.now a.i 0 in
-    let e = c.end_of.ensures ∙ ap (λ (z : ℤ). end_from z a.up x) (to_z-of_z w64 a.base s.ranges.base) in
+    let e = c.end_of.ensures ∙ ap (λ (z : ℤ). end_from z a.up x) (to_z-of_z w64 a.base c.ranges.base) in
     let r : to_z w64 (of_z w64 c.end_of.result) ≡ end_from a.base a.up x
-    = ap (λ (z : ℤ). to_z w64 (of_z w64 z)) e ∙ end_back a.base x s.requires.3 s.requires.4 a.up in
+    = ap (λ (z : ℤ). to_z w64 (of_z w64 z)) e ∙ end_back a.base x c.requires.3 c.requires.4 a.up in
     rw (ne_eqb (get_or a.kind.now a.i 0) 0 c.if-kind-i-eq0.false, r)

@@ -24,27 +24,25 @@ loop-i-init c =
 
 pub put_end-requires : goal.put_end-requires
 put_end-requires c =
-    let l = c in
-    let v = l.loop-i.invariant in
+    let v = c.loop-i.invariant in
     let t = c.loop-i-test.true in
-    (omega (arith, v.1, t), omega (arith, v.2, t), omega (arith, v.3, t, written-long _ _ _ v.6), v.4, v.5 l.loop-i.i t)
+    (omega (arith, v.1, t), omega (arith, v.2, t), omega (arith, v.3, t, written-long _ _ _ v.6), v.4, v.5 c.loop-i.i t)
 
 pub loop-i-smaller : goal.loop-i-smaller
 loop-i-smaller c = omega arith
 
 pub loop-i-preserved : goal.loop-i-preserved
 loop-i-preserved c =
-    let l = c in
     let s = (goal.at.loop-i-preserved c).Start in
     let a = s.args in
-    let v = l.loop-i.invariant in (
+    let v = c.loop-i.invariant in (
       omega arith,
       v.1,
       v.2,
       v.3,
       v.4,
       v.5,
-      c.put_end.ensures ∙ written-more a.kind.now (ends s) l.loop-i.i a.list.now l.loop-i.list v.6,
+      c.put_end.ensures ∙ written-more a.kind.now (ends s) c.loop-i.i a.list.now c.loop-i.list v.6,
     )
 
 pub shape_of-list : goal.shape_of-list
@@ -52,8 +50,6 @@ shape_of-list c = written-long _ _ _ c.loop-i.invariant.6
 
 pub returns : goal.returns
 returns c =
-    let l = c in
-    let s = c in
-    let a = s.args in
-    let z : l.loop-i.i ≡ a.n = omega (arith, l.loop-i.invariant.0, c.loop-i-test.false) in
-    rw (← z, ← to_z-of_z w64 a.base s.ranges.base) l.loop-i.invariant.6
+    let a = c.args in
+    let z : c.loop-i.i ≡ a.n = omega (arith, c.loop-i.invariant.0, c.loop-i-test.false) in
+    rw (← z, ← to_z-of_z w64 a.base c.ranges.base) c.loop-i.invariant.6

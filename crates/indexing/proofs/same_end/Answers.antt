@@ -13,9 +13,8 @@ returns-then-k-eq0 c = rw (eq-eqb c.args.k 0 c.if-k-eq0.true)
 
 pub returns : goal.returns
 returns c =
-    let s = c in
-    let a = s.args in
+    let a = c.args in
     let e : c.end_of.result ≡ end_from a.base a.up a.x
-    = c.end_of.ensures ∙ ap (λ (z : ℤ). end_from z a.up a.x) (to_z-of_z w64 a.base s.ranges.base) in
+    = c.end_of.ensures ∙ ap (λ (z : ℤ). end_from z a.up a.x) (to_z-of_z w64 a.base c.ranges.base) in
     rw (ne_eqb a.k 0 c.if-k-eq0.false, e)
-    (bits-same (end_from a.base a.up a.x) a.z (end-small a.base a.x s.requires.0 s.requires.1 a.up) s.ranges.z)
+    (bits-same (end_from a.base a.up a.x) a.z (end-small a.base a.x c.requires.0 c.requires.1 a.up) c.ranges.z)

@@ -20,8 +20,7 @@ base-is s = to_z-of_z w64 s.args.base s.ranges.base
 
 pub returns-then-list-n : goal.returns-then-list-n
 returns-then-list-n c =
-    let s = c in
-    let a = s.args in
+    let a = c.args in
     sym (agrees-short a.kind.now (λ (i : ℕ). end_from a.base a.up (get_or a.points.now i 0)) 0 a.n a.list.now c.if-list-n.true)
 
 pub loop-i-init : goal.loop-i-init
@@ -33,33 +32,30 @@ loop-i-init c =
 
 pub same_end-requires : goal.same_end-requires
 same_end-requires c =
-    let l = c in
-    (l.loop-i.invariant.4, l.loop-i.invariant.5 l.loop-i.i c.loop-i-test.true)
+    (c.loop-i.invariant.4, c.loop-i.invariant.5 c.loop-i.i c.loop-i-test.true)
 
 pub returns-then-not-same_end : goal.returns-then-not-same_end
 returns-then-not-same_end c =
-    let l = c in
     let s = (goal.at.returns-then-not-same_end c).Start in
     let a = s.args in
-    let v = l.loop-i.invariant in
+    let v = c.loop-i.invariant in
     let t = c.loop-i-test.true in
-    let y : ℤ = get_or a.list.now l.loop-i.i (pos 0) in
+    let y : ℤ = get_or a.list.now c.loop-i.i (pos 0) in
     let back : to_z w64 (of_z w64 y) ≡ y = search rules in
     let d = sym (c.if-not-same_end.true) ∙ c.same_end.ensures in
     rw (← base-is s)
-    (sym (comparing-differs a.kind.now (ends s) a.n a.list.now l.loop-i.i v.6 t (omega (arith, v.3, t)) (d ∙ rw back)))
+    (sym (comparing-differs a.kind.now (ends s) a.n a.list.now c.loop-i.i v.6 t (omega (arith, v.3, t)) (d ∙ rw back)))
 
 pub loop-i-smaller : goal.loop-i-smaller
 loop-i-smaller c = omega arith
 
 pub loop-i-preserved : goal.loop-i-preserved
 loop-i-preserved c =
-    let l = c in
     let s = (goal.at.loop-i-preserved c).Start in
     let a = s.args in
-    let v = l.loop-i.invariant in
+    let v = c.loop-i.invariant in
     let t = c.loop-i-test.true in
-    let y : ℤ = get_or a.list.now l.loop-i.i (pos 0) in
+    let y : ℤ = get_or a.list.now c.loop-i.i (pos 0) in
     let back : to_z w64 (of_z w64 y) ≡ y = search rules in
     let d = sym (c.if-not-same_end.false) ∙ c.same_end.ensures in (
       omega arith,
@@ -68,12 +64,11 @@ loop-i-preserved c =
       v.3,
       v.4,
       v.5,
-      comparing-more a.kind.now (ends s) a.n a.list.now l.loop-i.i v.6 t (omega (arith, v.3, t)) (d ∙ rw back),
+      comparing-more a.kind.now (ends s) a.n a.list.now c.loop-i.i v.6 t (omega (arith, v.3, t)) (d ∙ rw back),
     )
 
 pub returns : goal.returns
 returns c =
-    let l = c in
     let s = (goal.at.returns c).Start in
     let a = s.args in
-    rw (← base-is s) (sym (comparing-done a.kind.now (ends s) a.n a.list.now l.loop-i.i l.loop-i.invariant.6 c.loop-i-test.false))
+    rw (← base-is s) (sym (comparing-done a.kind.now (ends s) a.n a.list.now c.loop-i.i c.loop-i.invariant.6 c.loop-i-test.false))

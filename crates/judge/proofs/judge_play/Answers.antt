@@ -39,22 +39,20 @@ pub slice_bounds-judge_table-start : goal.slice_bounds-judge_table-start
 slice_bounds-judge_table-start c = long (taken (goal.at.slice_bounds-judge_table-start c).In-Accepted)
 
 pub judge_table-requires : goal.judge_table-requires
-judge_table-requires c = let S = c in whole-at (taken (goal.at.judge_table-requires c).In-Accepted) S.scale_of-g.ensures
+judge_table-requires c = whole-at (taken (goal.at.judge_table-requires c).In-Accepted) c.scale_of-g.ensures
 
 pub returns-in-Refused : goal.returns-in-Refused
 returns-in-Refused c =
     let r = c.in-Refused in
-    let R = c in
-    ap (λ (v : Verdict Table). judge_call v (number_of (goal.at.returns-in-Refused c).After-decode)) (sym (refused-by (text_of (goal.at.returns-in-Refused c).After-decode) R.decode.result r.r _ _ _ _ R.decode.ensures r.is))
+    ap (λ (v : Verdict Table). judge_call v (number_of (goal.at.returns-in-Refused c).After-decode)) (sym (refused-by (text_of (goal.at.returns-in-Refused c).After-decode) c.decode.result r.r _ _ _ _ c.decode.ensures r.is))
 
 number-back : (s : Start) → to_z w64 (of_z w64 s.args.number) ≡ s.args.number
 number-back s = search rules
 
 pub returns-in-Accepted : goal.returns-in-Accepted
 returns-in-Accepted c =
-    let S = c in
     let R = read_of (goal.at.returns-in-Accepted c).In-Accepted in
-    given-at (taken (goal.at.returns-in-Accepted c).In-Accepted) S.scale_of-g.ensures (number_of R) c.judge_table.result
+    given-at (taken (goal.at.returns-in-Accepted c).In-Accepted) c.scale_of-g.ensures (number_of R) c.judge_table.result
     (rw (number-back (goal.at.returns-in-Accepted c).Start) at c.judge_table.ensures)
 
 pub scale_of-g-requires : goal.scale_of-g-requires

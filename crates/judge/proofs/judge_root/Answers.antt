@@ -22,22 +22,19 @@ At s = Decided (beside s.args.stop.now s.args.weight.now s.args.height.now) s.ar
 
 pub find_child-requires : goal.find_child-requires
 find_child-requires c =
-    let s = c in
-    let a = s.args in
-    chain-of (beside a.stop.now a.weight.now a.height.now) a.g a.n a.lines.now s.requires.whole
+    let a = c.args in
+    chain-of (beside a.stop.now a.weight.now a.height.now) a.g a.n a.lines.now c.requires.whole
 
 number-back : (s : Start) → to_z w64 (of_z w64 s.args.number) ≡ s.args.number
 number-back s = to_z-of_z w64 s.args.number s.ranges.number
 
 -- the play is that of the number
 played : (c : After-find_child)
-    → let s = c in
-    let a = s.args in
+    → let a = c.args in
     (D : At (goal.at.After-find_child c).Start)
     → c.find_child.result ≡ play_of (numbered a.number (chain-of (beside a.stop.now a.weight.now a.height.now) a.g a.n a.lines.now D.whole).nodes)
 played c D =
-    let s = c in
-    let a = s.args in
+    let a = c.args in
     let C = chain-of (beside a.stop.now a.weight.now a.height.now) a.g a.n a.lines.now D.whole in
     c.find_child.ensures.by C ∙ ap (λ (z : ℤ). play_of (numbered z C.nodes)) (number-back (goal.at.After-find_child c).Start)
 
@@ -50,9 +47,8 @@ child : (e : In-Child)
     let a = s.args in
     (D : At s) → Found (beside a.stop.now a.weight.now a.height.now) a.g a.n a.lines.now (side_if a.max) D a.number
 child e D =
-    let f = e in
     let a = (start_of e).args in
-    found (beside a.stop.now a.weight.now a.height.now) a.g a.n a.lines.now (side_if a.max) D a.number e.in-Child.field-0 f.find_child.result e.in-Child.is (played (goal.at.In-Child e).After-find_child D)
+    found (beside a.stop.now a.weight.now a.height.now) a.g a.n a.lines.now (side_if a.max) D a.number e.in-Child.field-0 e.find_child.result e.in-Child.is (played (goal.at.In-Child e).After-find_child D)
 
 pub list_worths-m-requires : goal.list_worths-m-requires
 list_worths-m-requires c =
@@ -77,7 +73,6 @@ entry L D =
 
 pub worth_at-h-requires : goal.worth_at-h-requires
 worth_at-h-requires c =
-    let L = c in
     let s = start-at (goal.at.worth_at-h-requires c).After-list_worths-m in
     let e = entry (goal.at.worth_at-h-requires c).After-list_worths-m s.requires in
     rw (number-back s) (e.0, e.1)
@@ -115,35 +110,28 @@ best c D =
 
 pub count_levels-level-requires : goal.count_levels-level-requires
 count_levels-level-requires c =
-    let B = c in
     let L = listed_at (goal.at.count_levels-level-requires c).After-best_of-best in
     let s = start-at L in
     let a = s.args in (
       list-room (beside a.stop.now a.weight.now a.height.now) a.g a.n a.lines.now (side_if a.max) s.requires (replicate 1024 0) (list_at L) L.list_worths-m.result (omega arith) L.list_worths-m.ensures,
-      ahead_of (beside a.stop.now a.weight.now a.height.now) a.g a.n a.lines.now (side_if a.max) s.requires (replicate 1024 0) (list_at L) L.list_worths-m.result (omega arith) L.list_worths-m.ensures B.best_of-best.result (best (goal.at.count_levels-level-requires c).After-best_of-best s.requires),
+      ahead_of (beside a.stop.now a.weight.now a.height.now) a.g a.n a.lines.now (side_if a.max) s.requires (replicate 1024 0) (list_at L) L.list_worths-m.result (omega arith) L.list_worths-m.ensures c.best_of-best.result (best (goal.at.count_levels-level-requires c).After-best_of-best s.requires),
     )
 
 pub loss-requires : goal.loss-requires
 loss-requires c =
-    let B = c in
-    let W = c in
     let L = listed_by (goal.at.loss-requires c).After-worth_at-h in
     let s = start-at L in
     let a = s.args in
-    found-ahead (beside a.stop.now a.weight.now a.height.now) a.g a.n a.lines.now (side_if a.max) s.requires a.number (child (goal.at.loss-requires c).In-Child s.requires) B.best_of-best.result W.worth_at-h.result (best (goal.at.loss-requires c).After-best_of-best s.requires) (worth (goal.at.loss-requires c).After-worth_at-h s.requires)
+    found-ahead (beside a.stop.now a.weight.now a.height.now) a.g a.n a.lines.now (side_if a.max) s.requires a.number (child (goal.at.loss-requires c).In-Child s.requires) c.best_of-best.result c.worth_at-h.result (best (goal.at.loss-requires c).After-best_of-best s.requires) (worth (goal.at.loss-requires c).After-worth_at-h s.requires)
 
 pub returns-in-NoPlay : goal.returns-in-NoPlay
 returns-in-NoPlay c =
-    let f = c in
-    let a = f.args in
-    λ D. well-none (beside a.stop.now a.weight.now a.height.now) a.g a.n a.lines.now (side_if a.max) D a.number f.find_child.result c.in-NoPlay.is (played (goal.at.returns-in-NoPlay c).After-find_child D)
+    let a = c.args in
+    λ D. well-none (beside a.stop.now a.weight.now a.height.now) a.g a.n a.lines.now (side_if a.max) D a.number c.find_child.result c.in-NoPlay.is (played (goal.at.returns-in-NoPlay c).After-find_child D)
 
 pub returns-in-Child : goal.returns-in-Child
 returns-in-Child c =
-    let Q = c in
-    let B = c in
-    let W = c in
     let L = listed_by (goal.at.returns-in-Child c).After-worth_at-h in
     let a = (start-at L).args in
-    λ D. well-lost (beside a.stop.now a.weight.now a.height.now) a.g a.n a.lines.now (side_if a.max) D a.number (child (goal.at.returns-in-Child c).In-Child D) B.best_of-best.result W.worth_at-h.result c.loss.result Q.count_levels-level.result (best (goal.at.returns-in-Child c).After-best_of-best D) (worth (goal.at.returns-in-Child c).After-worth_at-h D) c.loss.ensures
-    (level-of (beside a.stop.now a.weight.now a.height.now) a.g a.n a.lines.now (side_if a.max) D (replicate 1024 0) (list_at L) L.list_worths-m.result (omega arith) L.list_worths-m.ensures B.best_of-best.result (best (goal.at.returns-in-Child c).After-best_of-best D) Q.count_levels-level.result Q.count_levels-level.ensures)
+    λ D. well-lost (beside a.stop.now a.weight.now a.height.now) a.g a.n a.lines.now (side_if a.max) D a.number (child (goal.at.returns-in-Child c).In-Child D) c.best_of-best.result c.worth_at-h.result c.loss.result c.count_levels-level.result (best (goal.at.returns-in-Child c).After-best_of-best D) (worth (goal.at.returns-in-Child c).After-worth_at-h D) c.loss.ensures
+    (level-of (beside a.stop.now a.weight.now a.height.now) a.g a.n a.lines.now (side_if a.max) D (replicate 1024 0) (list_at L) L.list_worths-m.result (omega arith) L.list_worths-m.ensures c.best_of-best.result (best (goal.at.returns-in-Child c).After-best_of-best D) c.count_levels-level.result c.count_levels-level.ensures)

@@ -28,14 +28,12 @@ start_of F = (goal.at.After-find_child F).Start
 
 pub find_child-requires : goal.find_child-requires
 find_child-requires c =
-    let s = c in
-    chain-of (slices (goal.at.find_child-requires c).Start) s.args.g s.args.n s.args.lines.now s.requires
+    chain-of (slices (goal.at.find_child-requires c).Start) c.args.g c.args.n c.args.lines.now c.requires
 
 choice : (E : In-Child) (W : At (goal.at.In-Child E).Start) → 1 < length (nodes (children W.ready.nodes))
 choice E W =
-    let F = E in
     let s = start_of (goal.at.In-Child E).After-find_child in
-    omega (arith, so-many-of (slices s) s.args.g s.args.n s.args.lines.now W F.find_child.ensures E.in-Child.field-0 E.in-Child.is)
+    omega (arith, so-many-of (slices s) s.args.g s.args.n s.args.lines.now W E.find_child.ensures E.in-Child.field-0 E.in-Child.is)
 
 -- ---- the roots by letter
 pub bounds-lines-5 : goal.bounds-lines-5
@@ -52,21 +50,19 @@ start-at L = start_of (goal.at.After-letter_code-kind L).After-find_child
 
 at-m : (c : Then-kind-eq1) → let s = start-at (goal.at.Then-kind-eq1 c).After-letter_code-kind in At s → Decided (slices s) s.args.g s.args.n s.args.lines.now AtM
 at-m c W =
-    let L = c in
     let s = start-at (goal.at.Then-kind-eq1 c).After-letter_code-kind in
     record {
       whole = W;
-      root = root-m (slices s) s.args.n s.args.lines.now L.letter_code-kind.result L.letter_code-kind.ensures W.ready.nodes W.ready.lays W.rooted c.if-kind-eq1.true;
+      root = root-m (slices s) s.args.n s.args.lines.now c.letter_code-kind.result c.letter_code-kind.ensures W.ready.nodes W.ready.lays W.rooted c.if-kind-eq1.true;
       choice = choice (told_of (goal.at.Then-kind-eq1 c).After-letter_code-kind) W;
     }
 
 at_n : (c : Then-kind-eq2) → let s = start-at (goal.at.Then-kind-eq2 c).After-letter_code-kind in At s → Decided (slices s) s.args.g s.args.n s.args.lines.now AtN
 at_n c W =
-    let L = c in
     let s = start-at (goal.at.Then-kind-eq2 c).After-letter_code-kind in
     record {
       whole = W;
-      root = root-n (slices s) s.args.n s.args.lines.now L.letter_code-kind.result L.letter_code-kind.ensures W.ready.nodes W.ready.lays W.rooted c.if-kind-eq2.true;
+      root = root-n (slices s) s.args.n s.args.lines.now c.letter_code-kind.result c.letter_code-kind.ensures W.ready.nodes W.ready.lays W.rooted c.if-kind-eq2.true;
       choice = choice (told_of (goal.at.Then-kind-eq2 c).After-letter_code-kind) W;
     }
 
@@ -79,16 +75,14 @@ judge_root-requires-then-kind-eq2 c = at_n c (start-at (goal.at.judge_root-requi
 -- ---- without a decision
 pub returns-in-NoPlay : goal.returns-in-NoPlay
 returns-in-NoPlay c =
-    let F = c in
     let s = start_of (goal.at.returns-in-NoPlay c).After-find_child in
     λ W. few-judged s.args.g.grain W.ready.nodes s.args.number W.ready.fits.filled
-    (omega (arith, fewer-of (slices s) s.args.g s.args.n s.args.lines.now W F.find_child.ensures c.in-NoPlay.is (omega arith)))
+    (omega (arith, fewer-of (slices s) s.args.g s.args.n s.args.lines.now W c.find_child.ensures c.in-NoPlay.is (omega arith)))
 
 pub returns-else-kind-eq2 : goal.returns-else-kind-eq2
 returns-else-kind-eq2 c =
-    let L = c in
     let s = start-at (goal.at.returns-else-kind-eq2 c).After-letter_code-kind in
-    λ W. none-judged s.args.g.grain W.ready.nodes s.args.number (root-else (slices s) s.args.n s.args.lines.now L.letter_code-kind.result L.letter_code-kind.ensures W.ready.nodes W.ready.lays W.rooted c.if-kind-eq1.false c.if-kind-eq2.false)
+    λ W. none-judged s.args.g.grain W.ready.nodes s.args.number (root-else (slices s) s.args.n s.args.lines.now c.letter_code-kind.result c.letter_code-kind.ensures W.ready.nodes W.ready.lays W.rooted c.if-kind-eq1.false c.if-kind-eq2.false)
 
 pub returns-then-kind-eq1 : goal.returns-then-kind-eq1
 unfolding at-m

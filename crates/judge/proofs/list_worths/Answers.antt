@@ -50,21 +50,18 @@ slice_bounds-worth_of-end c =
 
 pub worth_of-requires : goal.worth_of-requires
 worth_of-requires c =
-    let q = c in
     let s = start_of (goal.at.worth_of-requires c).In-loop-i in
     let a = s.args in
-    part-ready (beside a.stop.now a.weight.now a.height.now) a.g a.n a.lines.now s.requires.fits q.loop-i.i (q.loop-i.invariant.1 s.requires).rest (child (goal.at.worth_of-requires c).In-loop-i s.requires) c.node_at-e.result c.node_at-e.ensures
+    part-ready (beside a.stop.now a.weight.now a.height.now) a.g a.n a.lines.now s.requires.fits c.loop-i.i (c.loop-i.invariant.1 s.requires).rest (child (goal.at.worth_of-requires c).In-loop-i s.requires) c.node_at-e.result c.node_at-e.ensures
 
 -- what the child is worth
 worth : (c : After-worth_of)
-    → let q = c in
-    let a = (start_of (goal.at.After-worth_of c).In-loop-i).args in
+    → let a = (start_of (goal.at.After-worth_of c).In-loop-i).args in
     (U : Under (beside a.stop.now a.weight.now a.height.now) a.g a.n a.lines.now (length a.list.now)) → c.worth_of.result ≡ (child (goal.at.After-worth_of c).In-loop-i U).share.worth
 worth c U =
-    let q = c in
     let a = (start_of (goal.at.After-worth_of c).In-loop-i).args in
     let t = c.node_at-e in
-    part-worth (beside a.stop.now a.weight.now a.height.now) a.g a.n a.lines.now U.fits q.loop-i.i (q.loop-i.invariant.1 U).rest (child (goal.at.After-worth_of c).In-loop-i U) t.result t.ensures c.worth_of.result c.worth_of.ensures
+    part-worth (beside a.stop.now a.weight.now a.height.now) a.g a.n a.lines.now U.fits c.loop-i.i (c.loop-i.invariant.1 U).rest (child (goal.at.After-worth_of c).In-loop-i U) t.result t.ensures c.worth_of.result c.worth_of.ensures
 
 -- the list has an entry m
 entry : (c : In-loop-i) → (c.loop-i.m < 1024) × (c.loop-i.m < length c.loop-i.list)
@@ -85,19 +82,17 @@ overflow_add-m c = record { fits = omega (arith, (entry (goal.at.overflow_add-m 
 
 pub loop-i-smaller : goal.loop-i-smaller
 loop-i-smaller c =
-    let q = c in
     let k = child (goal.at.loop-i-smaller c).In-loop-i (start_of (goal.at.loop-i-smaller c).In-loop-i).requires in
-    omega (arith, c.node_at-e.ensures, k.later, k.within, q.loop-i-test.true)
+    omega (arith, c.node_at-e.ensures, k.later, k.within, c.loop-i-test.true)
 
 pub loop-i-preserved : goal.loop-i-preserved
 unfolding child
 loop-i-preserved c =
-    let q = c in
-    let l = q.loop-i in
+    let l = c.loop-i in
     let a = (start_of (goal.at.loop-i-preserved c).In-loop-i).args in
     let t = c.node_at-e in (
       length-set l.list l.m c.worth_of.result ∙ l.invariant.0,
-      λ U. list-turn (beside a.stop.now a.weight.now a.height.now) a.g a.n a.lines.now a.list.now l.list l.m l.i U l.invariant.1 q.loop-i-test.true c.worth_of.result (l.m + 1) t.result (worth c U) refl t.ensures,
+      λ U. list-turn (beside a.stop.now a.weight.now a.height.now) a.g a.n a.lines.now a.list.now l.list l.m l.i U l.invariant.1 c.loop-i-test.true c.worth_of.result (l.m + 1) t.result (worth c U) refl t.ensures,
     )
 
 pub shape_of-list : goal.shape_of-list

@@ -11,7 +11,7 @@ use Rattle.judge.proofs.worth_at.Goals.{After-natural}
 
 -- the number, from 1
 place : (c : After-natural) → c.natural.result ≡ to_nat c.args.number
-place c = let s = c in c.natural.ensures ∙ ap to_nat (to_z-of_z w64 s.args.number s.ranges.number)
+place c = c.natural.ensures ∙ ap to_nat (to_z-of_z w64 c.args.number c.ranges.number)
 
 pub overflow_sub-result : goal.overflow_sub-result
 overflow_sub-result c = omega (arith, place c, c.requires.0)
@@ -20,7 +20,7 @@ pub offset_bounds-list-natural : goal.offset_bounds-list-natural
 offset_bounds-list-natural c = record { fits = omega (arith, place c, c.requires.1) }
 
 pub bounds-list-natural : goal.bounds-list-natural
-bounds-list-natural c = let N = c in omega (arith, place (goal.at.bounds-list-natural c).After-natural, N.requires.0, N.requires.1)
+bounds-list-natural c = omega (arith, place (goal.at.bounds-list-natural c).After-natural, c.requires.0, c.requires.1)
 
 pub returns : goal.returns
-returns c = let N = c in ap (λ (k : ℕ). get_or N.args.list.now (k - 1) 0) (place (goal.at.returns c).After-natural)
+returns c = ap (λ (k : ℕ). get_or c.args.list.now (k - 1) 0) (place (goal.at.returns c).After-natural)

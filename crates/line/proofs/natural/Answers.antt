@@ -9,11 +9,9 @@ returns-then-z-lt0 c = nat-neg c.args.z (rw (to_z-of_z w64 _ c.ranges.z) at c.if
 
 pub overflow_cast-result : goal.overflow_cast-result
 overflow_cast-result c =
-    let s = c in
-    rw (to_z-of_z w64 s.args.z s.ranges.z)
-    (nat-casts s.args.z (rw (to_z-of_z w64 s.args.z s.ranges.z) at c.if-z-lt0.false) s.ranges.z.sfits)
+    rw (to_z-of_z w64 c.args.z c.ranges.z)
+    (nat-casts c.args.z (rw (to_z-of_z w64 c.args.z c.ranges.z) at c.if-z-lt0.false) c.ranges.z.sfits)
 
 pub returns : goal.returns
 returns c =
-    let s = c in
-    rw (to_z-of_z w64 s.args.z s.ranges.z) (nat-abs s.args.z (rw (to_z-of_z w64 s.args.z s.ranges.z) at c.if-z-lt0.false))
+    rw (to_z-of_z w64 c.args.z c.ranges.z) (nat-abs c.args.z (rw (to_z-of_z w64 c.args.z c.ranges.z) at c.if-z-lt0.false))

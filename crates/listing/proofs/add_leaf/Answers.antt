@@ -9,14 +9,13 @@ use Rattle.listing.proofs.add_leaf.Goals as goal
 use Rattle.listing.proofs.add_leaf.Goals.{After-index-n, Else-marks-n}
 
 -- the mark of the leaf, where the code reads it
-mark-at : (c : After-index-n) (b : Bool) → let s = c in get_or s.args.marks.now c.index-n.result false ≡ b
-    → get_or s.args.marks.now s.args.leaf false ≡ b
+mark-at : (c : After-index-n) (b : Bool) → get_or c.args.marks.now c.index-n.result false ≡ b
+    → get_or c.args.marks.now c.args.leaf false ≡ b
 mark-at c b e = ap (λ (i : ℕ). get_or c.args.marks.now i false) (sym c.index-n.ensures) ∙ e
 
 pub returns-then-marks-n : goal.returns-then-marks-n
 returns-then-marks-n c =
-    let s = c in
-    leaf-kept s.args.leaf s.args.marks.now s.args.leaves.now s.args.count s.requires (mark-at (goal.at.returns-then-marks-n c).After-index-n true c.if-marks-n.true)
+    leaf-kept c.args.leaf c.args.marks.now c.args.leaves.now c.args.count c.requires (mark-at (goal.at.returns-then-marks-n c).After-index-n true c.if-marks-n.true)
 
 -- no mark is set for it
 unmarked : (c : Else-marks-n) → get_or c.args.marks.now c.args.leaf false ≡ false
@@ -24,11 +23,9 @@ unmarked c = mark-at (goal.at.Else-marks-n c).After-index-n false c.if-marks-n.f
 
 pub bounds-leaves-count : goal.bounds-leaves-count
 bounds-leaves-count c =
-    let s = c in
-    leaf_room s.args.leaf s.args.marks.now s.args.leaves.now s.args.count s.requires (unmarked c)
+    leaf_room c.args.leaf c.args.marks.now c.args.leaves.now c.args.count c.requires (unmarked c)
 
 pub returns : goal.returns
 returns c =
-    let s = c in
-    subst (λ (i : ℕ). AddedLeaf s.args.leaf s.args.leaves.now s.args.count (s.args.count + 1) (set s.args.marks.now i true) (set s.args.leaves.now s.args.count s.args.leaf))
-    (sym c.index-n.ensures) (leaf-put s.args.leaf s.args.marks.now s.args.leaves.now s.args.count s.requires (unmarked c))
+    subst (λ (i : ℕ). AddedLeaf c.args.leaf c.args.leaves.now c.args.count (c.args.count + 1) (set c.args.marks.now i true) (set c.args.leaves.now c.args.count c.args.leaf))
+    (sym c.index-n.ensures) (leaf-put c.args.leaf c.args.marks.now c.args.leaves.now c.args.count c.requires (unmarked c))

@@ -2,21 +2,16 @@ use Rattle.listing.proofs.Added.{adding-none, adding-ready, adding-more, adding-
 use Rattle.listing.proofs.add_new.Goals as goal
 
 pub loop-i-init : goal.loop-i-init
-loop-i-init c = let s = c in adding-none s.args.read.now s.args.marks.now s.args.leaves.now s.args.count s.requires
+loop-i-init c = adding-none c.args.read.now c.args.marks.now c.args.leaves.now c.args.count c.requires
 
 pub add_leaf-n-requires : goal.add_leaf-n-requires
 add_leaf-n-requires c =
-    let L = c in
-    let s = c in
-    adding-ready s.args.read.now s.args.marks.now s.args.leaves.now s.args.count s.requires L.loop-i.invariant L.loop-i-test.true
+    adding-ready c.args.read.now c.args.marks.now c.args.leaves.now c.args.count c.requires c.loop-i.invariant c.loop-i-test.true
 
 pub loop-i-preserved : goal.loop-i-preserved
 loop-i-preserved c =
-    let W = c in
-    let L = c in
-    let s = c in
-    adding-more s.args.read.now s.args.marks.now s.args.leaves.now s.args.count s.requires L.loop-i.invariant L.loop-i-test.true
-    W.add_leaf-n.ensures W.add_leaf-n.auto.marks W.add_leaf-n.auto.leaves
+    adding-more c.args.read.now c.args.marks.now c.args.leaves.now c.args.count c.requires c.loop-i.invariant c.loop-i-test.true
+    c.add_leaf-n.ensures c.add_leaf-n.auto.marks c.add_leaf-n.auto.leaves
 
 pub shape_of-marks : goal.shape_of-marks
 shape_of-marks c = c.loop-i.invariant.wide
@@ -26,5 +21,4 @@ shape_of-leaves c = c.loop-i.invariant.long
 
 pub returns : goal.returns
 returns c =
-    let s = c in
-    adding-done s.args.read.now s.args.marks.now s.args.leaves.now s.args.count s.requires c.loop-i.invariant c.loop-i-test.false
+    adding-done c.args.read.now c.args.marks.now c.args.leaves.now c.args.count c.requires c.loop-i.invariant c.loop-i-test.false

@@ -23,15 +23,13 @@ bounds-kinds-d c = omega arith
 
 pub returns-then-kinds-d-eq0 : goal.returns-then-kinds-d-eq0
 returns-then-kinds-d-eq0 c =
-    let l = c in
-    let a = l.args in
-    record { shown = λ cs. sym (l.loop-d.invariant.2 cs ∙ climb-leaf a.nodes.now a.kinds.now cs a.parent l.loop-d.d (omega arith) c.if-nodes-d.true c.if-kinds-d-eq0.true); upto = tt }
+    let a = c.args in
+    record { shown = λ cs. sym (c.loop-d.invariant.2 cs ∙ climb-leaf a.nodes.now a.kinds.now cs a.parent c.loop-d.d (omega arith) c.if-nodes-d.true c.if-kinds-d-eq0.true); upto = tt }
 
 pub returns-then-nodes-d : goal.returns-then-nodes-d
 returns-then-nodes-d c =
-    let l = c in
-    let a = l.args in
-    record { shown = λ cs. sym (l.loop-d.invariant.2 cs ∙ climb-here a.nodes.now a.kinds.now cs a.parent l.loop-d.d (omega arith) c.if-nodes-d.true c.if-kinds-d-eq0.false); upto = omega arith }
+    let a = c.args in
+    record { shown = λ cs. sym (c.loop-d.invariant.2 cs ∙ climb-here a.nodes.now a.kinds.now cs a.parent c.loop-d.d (omega arith) c.if-nodes-d.true c.if-kinds-d-eq0.false); upto = omega arith }
 
 pub overflow_sub-d-in-loop-d : goal.overflow_sub-d-in-loop-d
 overflow_sub-d-in-loop-d c = omega arith
@@ -41,12 +39,10 @@ loop-d-smaller c = omega arith
 
 pub loop-d-preserved : goal.loop-d-preserved
 loop-d-preserved c =
-    let l = c in
-    let a = l.args in
-    (omega arith, omega arith, λ cs. l.loop-d.invariant.2 cs ∙ climb-on a.nodes.now a.kinds.now cs a.parent l.loop-d.d (omega arith) c.if-nodes-d.false)
+    let a = c.args in
+    (omega arith, omega arith, λ cs. c.loop-d.invariant.2 cs ∙ climb-on a.nodes.now a.kinds.now cs a.parent c.loop-d.d (omega arith) c.if-nodes-d.false)
 
 pub returns : goal.returns
 returns c =
-    let l = c in
-    let a = l.args in
-    record { shown = λ cs. sym (l.loop-d.invariant.2 cs ∙ climb-none a.nodes.now a.kinds.now cs a.parent l.loop-d.d (omega arith)); upto = tt }
+    let a = c.args in
+    record { shown = λ cs. sym (c.loop-d.invariant.2 cs ∙ climb-none a.nodes.now a.kinds.now cs a.parent c.loop-d.d (omega arith)); upto = tt }

@@ -31,17 +31,14 @@ returns-then-is_ill_heading c =
 
 pub returns-then-is_wide_heading : goal.returns-then-is_wide_heading
 returns-then-is_wide_heading c =
-    let w = c in
     let i = (goal.at.returns-then-is_wide_heading c).After-is_ill_heading in
-    head-wide (lines-of i) (last_of i) (heads i) (sym i.is_ill_heading.ensures ∙ w.if-is_ill_heading.false) (sym w.is_wide_heading.ensures ∙ c.if-is_wide_heading.true) ∙ same i
+    head-wide (lines-of i) (last_of i) (heads i) (sym i.is_ill_heading.ensures ∙ c.if-is_ill_heading.false) (sym c.is_wide_heading.ensures ∙ c.if-is_wide_heading.true) ∙ same i
 
 pub returns-then-not-is_number : goal.returns-then-not-is_number
 returns-then-not-is_number c =
-    let n = c in
-    let w = c in
     let i = (goal.at.returns-then-not-is_number c).After-is_ill_heading in
-    head-count (lines-of i) (last_of i) (heads i) (sym i.is_ill_heading.ensures ∙ w.if-is_ill_heading.false) (sym w.is_wide_heading.ensures ∙ n.if-is_wide_heading.false)
-    (sym n.is_number.ensures ∙ c.if-not-is_number.true)
+    head-count (lines-of i) (last_of i) (heads i) (sym i.is_ill_heading.ensures ∙ c.if-is_ill_heading.false) (sym c.is_wide_heading.ensures ∙ c.if-is_wide_heading.false)
+    (sym c.is_number.ensures ∙ c.if-not-is_number.true)
     ∙ same i
 
 pub returns : goal.returns
@@ -54,10 +51,8 @@ returns c =
     let back-lo : to_z w64 (of_z w64 lo.result) ≡ lo.result = search rules in
     let back_s : to_z w64 (of_z w64 s.result) ≡ s.result = search rules in
     let back-t : to_z w64 (of_z w64 t.result) ≡ t.result = search rules in
-    let n = c in
-    let w = c in
     let i = (goal.at.returns c).After-is_ill_heading in
     rw (back-hi, back-lo, c.natural-2.ensures, c.natural.ensures, back_s, back-t, hi.ensures, lo.ensures, s.ensures, t.ensures)
-    (head-fine (lines-of i) (last_of i) (heads i) (sym i.is_ill_heading.ensures ∙ w.if-is_ill_heading.false) (sym w.is_wide_heading.ensures ∙ n.if-is_wide_heading.false)
-    (sym n.is_number.ensures ∙ c.if-not-is_number.false)
+    (head-fine (lines-of i) (last_of i) (heads i) (sym i.is_ill_heading.ensures ∙ c.if-is_ill_heading.false) (sym c.is_wide_heading.ensures ∙ c.if-is_wide_heading.false)
+    (sym c.is_number.ensures ∙ c.if-not-is_number.false)
     ∙ same i)

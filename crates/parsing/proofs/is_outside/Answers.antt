@@ -9,8 +9,7 @@ use Rattle.parsing.proofs.is_outside.Goals as goal
 
 pub returns-in-Number : goal.returns-in-Number
 returns-in-Number c =
-    let a = c in
     let z = c.in-Number.z in
     let back : to_z w64 (of_z w64 z) ≡ z = search rules in
-    rw (back, to_z-of_z w64 a.args.lo a.ranges.lo, to_z-of_z w64 a.args.hi a.ranges.hi)
-    (sym (ap (outside a.args.lo a.args.hi) c.in-Number.is))
+    rw (back, to_z-of_z w64 c.args.lo c.ranges.lo, to_z-of_z w64 c.args.hi c.ranges.hi)
+    (sym (ap (outside c.args.lo c.args.hi) c.in-Number.is))

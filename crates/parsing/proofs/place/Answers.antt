@@ -25,48 +25,37 @@ returns-then-is_ill_entry c =
 
 pub returns-then-not-is_number : goal.returns-then-not-is_number
 returns-then-not-is_number c =
-    let n = c in
-    let a = n.args in
-    record { shown = place-number a.h a.i a.e a.fifth a.last (path_of a.nodes.now a.kinds.now a.chances.now a.depth) (ill-is (goal.at.returns-then-not-is_number c).After-is_ill_entry false n.if-is_ill_entry.false) (sym n.is_number.ensures ∙ c.if-not-is_number.true); roomy = tt }
+    let a = c.args in
+    record { shown = place-number a.h a.i a.e a.fifth a.last (path_of a.nodes.now a.kinds.now a.chances.now a.depth) (ill-is (goal.at.returns-then-not-is_number c).After-is_ill_entry false c.if-is_ill_entry.false) (sym c.is_number.ensures ∙ c.if-not-is_number.true); roomy = tt }
 
 pub returns-then-kind-eq4 : goal.returns-then-kind-eq4
 returns-then-kind-eq4 c =
-    let k = c in
-    let n = c in
-    let a = n.args in
-    record { shown = place-kind a.h a.i a.e a.fifth a.last (path_of a.nodes.now a.kinds.now a.chances.now a.depth) (ill-is (goal.at.returns-then-kind-eq4 c).After-is_ill_entry false n.if-is_ill_entry.false) (sym n.is_number.ensures ∙ k.if-not-is_number.false) (sym k.code_of-kind.ensures ∙ c.if-kind-eq4.true); roomy = tt }
+    let a = c.args in
+    record { shown = place-kind a.h a.i a.e a.fifth a.last (path_of a.nodes.now a.kinds.now a.chances.now a.depth) (ill-is (goal.at.returns-then-kind-eq4 c).After-is_ill_entry false c.if-is_ill_entry.false) (sym c.is_number.ensures ∙ c.if-not-is_number.false) (sym c.code_of-kind.ensures ∙ c.if-kind-eq4.true); roomy = tt }
 
 pub place_below-requires : goal.place_below-requires
 place_below-requires c =
-    let s = c in
-    (le_trans (found-upto s.args.depth _ c.above.result c.in-At.is c.above.ensures.upto) s.requires.0, s.requires.1, s.requires.2, s.requires.3)
+    (le_trans (found-upto c.args.depth _ c.above.result c.in-At.is c.above.ensures.upto) c.requires.0, c.requires.1, c.requires.2, c.requires.3)
 
 pub returns-in-Nowhere : goal.returns-in-Nowhere
 returns-in-Nowhere c =
-    let ab = c in
-    let k = c in
-    let n = c in
-    let a = n.args in record {
+    let a = c.args in record {
       shown = place-parent a.h a.i a.e a.fifth a.last (path_of a.nodes.now a.kinds.now a.chances.now a.depth)
-          (ill-is (goal.at.returns-in-Nowhere c).After-is_ill_entry false n.if-is_ill_entry.false) (sym n.is_number.ensures ∙ k.if-not-is_number.false)
-          (λ z. ab.if-kind-eq4.false (k.code_of-kind.ensures ∙ z))
-          (sym (ab.above.ensures.shown a.chances.now) ∙ ap (above_shown a.nodes.now a.kinds.now a.chances.now) c.in-Nowhere.is);
+          (ill-is (goal.at.returns-in-Nowhere c).After-is_ill_entry false c.if-is_ill_entry.false) (sym c.is_number.ensures ∙ c.if-not-is_number.false)
+          (λ z. c.if-kind-eq4.false (c.code_of-kind.ensures ∙ z))
+          (sym (c.above.ensures.shown a.chances.now) ∙ ap (above_shown a.nodes.now a.kinds.now a.chances.now) c.in-Nowhere.is);
       roomy = tt;
     }
 
 pub returns-in-At : goal.returns-in-At
 returns-in-At c =
-    let f = c in
-    let ab = c in
-    let k = c in
-    let n = c in
-    let a = n.args in record {
+    let a = c.args in record {
       shown = c.place_below.ensures.shown a.nodes.now
-          ∙ ap (λ (m : ℕ). placing_of a.h a.i m a.e (path_of a.nodes.now a.kinds.now a.chances.now f.in-At.d)) k.code_of-kind.ensures
+          ∙ ap (λ (m : ℕ). placing_of a.h a.i m a.e (path_of a.nodes.now a.kinds.now a.chances.now c.in-At.d)) c.code_of-kind.ensures
           ∙ place-on a.h a.i a.e a.fifth a.last (path_of a.nodes.now a.kinds.now a.chances.now a.depth)
-          (ill-is (goal.at.returns-in-At c).After-is_ill_entry false n.if-is_ill_entry.false) (sym n.is_number.ensures ∙ k.if-not-is_number.false)
-          (λ z. ab.if-kind-eq4.false (k.code_of-kind.ensures ∙ z))
-          (path_of a.nodes.now a.kinds.now a.chances.now f.in-At.d)
-          (sym (ab.above.ensures.shown a.chances.now) ∙ ap (above_shown a.nodes.now a.kinds.now a.chances.now) f.in-At.is);
+          (ill-is (goal.at.returns-in-At c).After-is_ill_entry false c.if-is_ill_entry.false) (sym c.is_number.ensures ∙ c.if-not-is_number.false)
+          (λ z. c.if-kind-eq4.false (c.code_of-kind.ensures ∙ z))
+          (path_of a.nodes.now a.kinds.now a.chances.now c.in-At.d)
+          (sym (c.above.ensures.shown a.chances.now) ∙ ap (above_shown a.nodes.now a.kinds.now a.chances.now) c.in-At.is);
       roomy = c.place_below.ensures.roomy;
     }

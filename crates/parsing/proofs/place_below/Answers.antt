@@ -56,12 +56,11 @@ returns-then-is_wide_entry c =
 
 pub returns : goal.returns
 returns c =
-    let w = c in
     let m = (goal.at.returns c).Else-is_misfilled in
     let d = (goal.at.returns c).Else-d-c in
     let a = d.args in record {
       shown = λ ns.
           rw c.line_of.ensures
-          (below-fine a.h a.i a.kind a.e ns a.kinds.now a.chances.now a.d _ (sum_is (goal.at.returns c).After-one_if ns) d.if-d-c.false (sym (misfilled-is (goal.at.returns c).After-is_misfilled ns) ∙ m.if-is_misfilled.false) (sym w.is_wide_entry.ensures ∙ w.if-is_wide_entry.false));
+          (below-fine a.h a.i a.kind a.e ns a.kinds.now a.chances.now a.d _ (sum_is (goal.at.returns c).After-one_if ns) d.if-d-c.false (sym (misfilled-is (goal.at.returns c).After-is_misfilled ns) ∙ m.if-is_misfilled.false) (sym c.is_wide_entry.ensures ∙ c.if-is_wide_entry.false));
       roomy = shallow a.d (d.chances_on.result + d.one_if.result) d.if-d-c.false;
     }

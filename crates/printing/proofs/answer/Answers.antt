@@ -35,9 +35,8 @@ table_is R = part-table (input_of R) R.least-from.result R.least-from.ensures
 
 margin-is : (R : After-print_search-n) → to_z w64 (of_z w64 R.margin_of.result) ≡ margin_of (input_of R)
 margin-is R =
-    let M = R in
-    let back : to_z w64 (of_z w64 M.margin_of.result) ≡ M.margin_of.result = search rules in
-    back ∙ M.margin_of.ensures
+    let back : to_z w64 (of_z w64 R.margin_of.result) ≡ R.margin_of.result = search rules in
+    back ∙ R.margin_of.ensures
 
 bytes-are : (R : After-print_search-n) → R.print_search-n.result ≡ length (output_of (input_of R))
 bytes-are R = R.print_search-n.ensures.bytes ∙ ap₂ (λ (l : List ℕ) (z : ℤ). length (shown l z)) (table_is R) (margin-is R)
@@ -47,30 +46,24 @@ text-is R = R.print_search-n.ensures.text ∙ ap₂ (λ (l : List ℕ) (z : ℤ)
 
 room : (L : After-least-m) → L.least-m.result ≤ length L.print_search-n.new.text
 room L =
-    let R = L in
-    omega (arith, L.least-m.ensures, R.print_search-n.ensures.room, R.print_search-n.auto.text)
+    omega (arith, L.least-m.ensures, L.print_search-n.ensures.room, L.print_search-n.auto.text)
 
 pub slice_bounds-text-end : goal.slice_bounds-text-end
 slice_bounds-text-end c = room c
 
 pub slice_bounds-copy_in-end : goal.slice_bounds-copy_in-end
 slice_bounds-copy_in-end c =
-    let L = c in
-    sym (length-take-le L.least-m.result L.print_search-n.new.text (room (goal.at.slice_bounds-copy_in-end c).After-least-m))
+    sym (length-take-le c.least-m.result c.print_search-n.new.text (room (goal.at.slice_bounds-copy_in-end c).After-least-m))
 
 pub copy_in-requires : goal.copy_in-requires
 copy_in-requires c =
-    let L = c in
-    let text : List ℕ = L.print_search-n.new.text in
-    omega (arith, length-take-le L.least-m.result text (room (goal.at.copy_in-requires c).After-least-m), L.least-m.ensures)
+    let text : List ℕ = c.print_search-n.new.text in
+    omega (arith, length-take-le c.least-m.result text (room (goal.at.copy_in-requires c).After-least-m), c.least-m.ensures)
 
 pub returns : goal.returns
 returns c =
-    let C = c in
-    let L = c in
-    let R = c in
     let s = start_of (goal.at.returns c).After-print_search-n in
     let output : List ℕ = s.args.output.now in
     let P : List ℕ = output_of (input_of (goal.at.returns c).After-print_search-n) in
-    let count : L.least-m.result ≡ min (length P) (length output) = L.least-m.ensures ∙ ap (λ (n : ℕ). min n (length output)) (bytes-are (goal.at.returns c).After-print_search-n) in
-    let fits : length P ≤ length blank = omega (arith, bytes-are (goal.at.returns c).After-print_search-n, R.print_search-n.ensures.room) in record { bytes = count; output = C.copy_in.ensures ∙ ap (λ (l : List ℕ). sets output 0 (take L.least-m.result l)) (text-is (goal.at.returns c).After-print_search-n) ∙ copied P blank output L.least-m.result fits count }
+    let count : c.least-m.result ≡ min (length P) (length output) = c.least-m.ensures ∙ ap (λ (n : ℕ). min n (length output)) (bytes-are (goal.at.returns c).After-print_search-n) in
+    let fits : length P ≤ length blank = omega (arith, bytes-are (goal.at.returns c).After-print_search-n, c.print_search-n.ensures.room) in record { bytes = count; output = c.copy_in.ensures ∙ ap (λ (l : List ℕ). sets output 0 (take c.least-m.result l)) (text-is (goal.at.returns c).After-print_search-n) ∙ copied P blank output c.least-m.result fits count }

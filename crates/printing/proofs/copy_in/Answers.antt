@@ -27,13 +27,12 @@ loop-i-smaller c = omega arith
 
 pub loop-i-preserved : goal.loop-i-preserved
 loop-i-preserved c =
-    let L = c in
-    let a = L.args in
+    let a = c.args in
     let t = c.loop-i-test.true in (
       omega (arith, t),
-      ap (λ (l : List ℕ). set l (a.at + L.loop-i.i) (get_or a.from.now L.loop-i.i 0)) L.loop-i.invariant.1
-          ∙ sets_more a.to.now a.from.now a.at L.loop-i.i t,
-      length-set L.loop-i.to (a.at + L.loop-i.i) (get_or a.from.now L.loop-i.i 0) ∙ L.loop-i.invariant.2,
+      ap (λ (l : List ℕ). set l (a.at + c.loop-i.i) (get_or a.from.now c.loop-i.i 0)) c.loop-i.invariant.1
+          ∙ sets_more a.to.now a.from.now a.at c.loop-i.i t,
+      length-set c.loop-i.to (a.at + c.loop-i.i) (get_or a.from.now c.loop-i.i 0) ∙ c.loop-i.invariant.2,
     )
 
 pub shape_of-to : goal.shape_of-to
@@ -41,6 +40,5 @@ shape_of-to c = c.loop-i.invariant.2
 
 pub returns : goal.returns
 returns c =
-    let L = c in
-    let a = L.args in
-    L.loop-i.invariant.1 ∙ ap (sets a.to.now a.at) (take_all L.loop-i.i a.from.now c.loop-i-test.false)
+    let a = c.args in
+    c.loop-i.invariant.1 ∙ ap (sets a.to.now a.at) (take_all c.loop-i.i a.from.now c.loop-i-test.false)

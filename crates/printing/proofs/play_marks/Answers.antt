@@ -10,11 +10,9 @@ use Rattle.printing.proofs.play_marks.Goals as goal
 use Rattle.printing.proofs.play_marks.Goals.{In-Child}
 
 -- the node has its line in the table
-lined : (c : In-Child) → let s = c in
-    (25 * c.in-Child.node + 50 ≤ length s.args.table.now) × (c.in-Child.node ≤ 1024)
+lined : (c : In-Child) → (25 * c.in-Child.node + 50 ≤ length c.args.table.now) × (c.in-Child.node ≤ 1024)
 lined c =
-    let s = c in
-    subst (Lined (length s.args.table.now)) c.in-Child.is s.requires
+    subst (Lined (length c.args.table.now)) c.in-Child.is c.requires
 
 pub slice_bounds-child_marks-count : goal.slice_bounds-child_marks-count
 slice_bounds-child_marks-count c = omega (arith, (lined c).0)
@@ -24,16 +22,13 @@ slice_bounds-child_marks-start c = omega (arith, (lined c).0)
 
 pub child_marks-requires : goal.child_marks-requires
 child_marks-requires c =
-    let K = c in
-    let t : List ℕ = K.args.table.now in
+    let t : List ℕ = c.args.table.now in
     let e : length (take (length t - 25) (drop 25 t)) ≡ length t - 25 = ap length (from_on t 25) ∙ length-drop 25 t in
     (omega (arith, (lined (goal.at.child_marks-requires c).In-Child).0, e), (lined (goal.at.child_marks-requires c).In-Child).1)
 
 pub returns-in-Child : goal.returns-in-Child
 returns-in-Child c =
-    let K = c in
-    let s = c in
-    let t : List ℕ = s.args.table.now in
+    let t : List ℕ = c.args.table.now in
     c.child_marks.ensures
-    ∙ ap (λ (l : List ℕ). child_marks l K.in-Child.node) (from_on t 25)
-    ∙ sym (ap (play_marks t) K.in-Child.is)
+    ∙ ap (λ (l : List ℕ). child_marks l c.in-Child.node) (from_on t 25)
+    ∙ sym (ap (play_marks t) c.in-Child.is)

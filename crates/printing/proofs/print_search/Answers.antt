@@ -55,13 +55,11 @@ told-found S b e = answer-found (asked S) b (sym (answered S) ∙ e)
 
 pub put_refusal-requires : goal.put_refusal-requires
 put_refusal-requires c =
-    let S = c in
     let r = c.in-Refused in
     (omega (arith, (start_of (goal.at.put_refusal-requires c).After-search_table).requires), refused-low (table_of (goal.at.put_refusal-requires c).After-search_table) (margin-of (goal.at.put_refusal-requires c).After-search_table) 1024 r.r (told-refused (goal.at.put_refusal-requires c).After-search_table r.r r.is))
 
 pub play_marks-requires : goal.play_marks-requires
 play_marks-requires c =
-    let S = c in
     let g = c.in-Found in
     let (s, q, p) = told-found (goal.at.play_marks-requires c).After-search_table g.b g.is in
     subst (λ (b : Bounds). Lined (length (table_of (goal.at.play_marks-requires c).After-search_table)) b.play) p (lined (table_of (goal.at.play_marks-requires c).After-search_table) (margin-of (goal.at.play_marks-requires c).After-search_table) 1024 s q)
@@ -74,33 +72,26 @@ marked M s p =
 
 pub put_found-requires : goal.put_found-requires
 put_found-requires c =
-    let M = c in
-    let S = c in
-    let g = M.in-Found in
+    let g = c.in-Found in
     let (s, q, p) = told-found (goal.at.put_found-requires c).After-search_table g.b g.is in
-    let fit : Narrow g.b M.play_marks.result =
-    subst (λ (b : Bounds). Narrow b M.play_marks.result) p (narrow (table_of (goal.at.put_found-requires c).After-search_table) (margin-of (goal.at.put_found-requires c).After-search_table) 1024 s q M.play_marks.result (marked (goal.at.put_found-requires c).After-play_marks s p)) in
-    ((start_of (goal.at.put_found-requires c).After-search_table).requires, fit, omega (arith, fit.leaves, S.search_table.auto.leaves))
+    let fit : Narrow g.b c.play_marks.result =
+    subst (λ (b : Bounds). Narrow b c.play_marks.result) p (narrow (table_of (goal.at.put_found-requires c).After-search_table) (margin-of (goal.at.put_found-requires c).After-search_table) 1024 s q c.play_marks.result (marked (goal.at.put_found-requires c).After-play_marks s p)) in
+    ((start_of (goal.at.put_found-requires c).After-search_table).requires, fit, omega (arith, fit.leaves, c.search_table.auto.leaves))
 
 pub returns-in-Refused : goal.returns-in-Refused
 returns-in-Refused c =
-    let P = c in
-    let S = c in
-    let r = P.in-Refused in
+    let r = c.in-Refused in
     let e = told-refused (goal.at.returns-in-Refused c).After-search_table r.r r.is in
-    let d : List ℕ = (start_of (goal.at.returns-in-Refused c).After-search_table).args.text.now in record { room = omega (arith, P.put_refusal.ensures.bytes, refusal-size r.r); bytes = P.put_refusal.ensures.bytes ∙ ap (λ (v : Verdict Sought). length (printed (rows_of v))) (sym e); text = P.put_refusal.ensures.text ∙ ap (λ (v : Verdict Sought). sets d 0 (printed (rows_of v))) (sym e) }
+    let d : List ℕ = (start_of (goal.at.returns-in-Refused c).After-search_table).args.text.now in record { room = omega (arith, c.put_refusal.ensures.bytes, refusal-size r.r); bytes = c.put_refusal.ensures.bytes ∙ ap (λ (v : Verdict Sought). length (printed (rows_of v))) (sym e); text = c.put_refusal.ensures.text ∙ ap (λ (v : Verdict Sought). sets d 0 (printed (rows_of v))) (sym e) }
 
 pub returns-in-Found : goal.returns-in-Found
 returns-in-Found c =
-    let F = c in
-    let M = c in
-    let S = c in
-    let g = M.in-Found in
+    let g = c.in-Found in
     let (s, q, p) = told-found (goal.at.returns-in-Found c).After-search_table g.b g.is in
-    let k : ℕ = M.play_marks.result in
-    let list : List ℕ = S.search_table.new.leaves in
+    let k : ℕ = c.play_marks.result in
+    let list : List ℕ = c.search_table.new.leaves in
     let d : List ℕ = (start_of (goal.at.returns-in-Found c).After-search_table).args.text.now in
     let same : bound_rows g.b k ++ map leaf_row (take g.b.leaves list) ≡ rows_of (asked (goal.at.returns-in-Found c).After-search_table) =
     ap₂ (λ (b : Bounds) (l : List ℕ). bound_rows b k ++ map leaf_row (take b.leaves l)) (sym p) (listed (goal.at.returns-in-Found c).After-search_table ∙ ap (λ (v : Verdict Sought). laid (search_list v) (replicate 1024 0)) q)
     ∙ rows (table_of (goal.at.returns-in-Found c).After-search_table) (margin-of (goal.at.returns-in-Found c).After-search_table) 1024 s q k (marked (goal.at.returns-in-Found c).After-play_marks s p) (replicate 1024 0)
-    ∙ ap rows_of (sym q) in record { room = F.put_found.ensures.room; bytes = F.put_found.ensures.bytes ∙ ap (λ (l : List WordLine). length (printed l)) same; text = F.put_found.ensures.text ∙ ap (λ (l : List WordLine). sets d 0 (printed l)) same }
+    ∙ ap rows_of (sym q) in record { room = c.put_found.ensures.room; bytes = c.put_found.ensures.bytes ∙ ap (λ (l : List WordLine). length (printed l)) same; text = c.put_found.ensures.text ∙ ap (λ (l : List WordLine). sets d 0 (printed l)) same }

@@ -23,52 +23,40 @@ handed z h = rw (back z (omega arith)) (omega arith, few-columns z 14 (omega ari
 
 pub put_row-requires : goal.put_row-requires
 put_row-requires c =
-    let s = c in
-    (omega (arith, s.requires.0), refl, (handed s.args.b.low s.requires.1.low).0, (handed s.args.b.low s.requires.1.low).1)
+    (omega (arith, c.requires.0), refl, (handed c.args.b.low c.requires.1.low).0, (handed c.args.b.low c.requires.1.low).1)
 
 pub put_row-requires-2 : goal.put_row-requires-2
 put_row-requires-2 c =
-    let R = c in
-    let s = c in
-    (omega (arith, s.requires.0, R.put_row.auto.text), refl, (handed s.args.b.high s.requires.1.high).0, (handed s.args.b.high s.requires.1.high).1)
+    (omega (arith, c.requires.0, c.put_row.auto.text), refl, (handed c.args.b.high c.requires.1.high).0, (handed c.args.b.high c.requires.1.high).1)
 
 pub put_count-requires-3 : goal.put_count-requires-3
 put_count-requires-3 c =
-    let V3 = c in
-    let V1 = c in
-    let s = c in
-    (search rules, search rules, omega (arith, s.requires.1.leaves))
+    (search rules, search rules, omega (arith, c.requires.1.leaves))
 
 pub returns : goal.returns
 unfolding printed
 returns c =
-    let V5 = c in
-    let V4 = c in
-    let V3 = c in
-    let V2 = c in
-    let V1 = c in
-    let s = c in
-    let b : Bounds = s.args.b in
-    let play : ℕ = s.args.play in
-    let d : List ℕ = s.args.text.now in
-    let l1 : List ℕ = V1.put_row.new.text in
-    let l2 : List ℕ = V2.put_row-2.new.text in
-    let l3 : List ℕ = V3.put_count.new.text in
-    let l4 : List ℕ = V4.put_count-2.new.text in
-    let l5 : List ℕ = V5.put_count-3.new.text in
+    let b : Bounds = c.args.b in
+    let play : ℕ = c.args.play in
+    let d : List ℕ = c.args.text.now in
+    let l1 : List ℕ = c.put_row.new.text in
+    let l2 : List ℕ = c.put_row-2.new.text in
+    let l3 : List ℕ = c.put_count.new.text in
+    let l4 : List ℕ = c.put_count-2.new.text in
+    let l5 : List ℕ = c.put_count-3.new.text in
     let r5 = row_of (columns Leaves) (pos b.leaves) ++ printed [] in
     let r4 = row_of (columns Play) (pos play) ++ r5 in
     let r3 = row_of (columns Grain) (pos b.grain) ++ r4 in
     then d l1 l5 0 22 (row_of (columns Low) b.low) (row_of (columns High) b.high ++ r3)
-    (V1.put_row.ensures ∙ ap (λ (z : ℤ). sets d 0 (row_of (columns Low) z)) (back b.low (omega (arith, s.requires.1.low))))
-    (ap (λ (n : ℕ). 0 + n) (row-size (columns Low) b.low refl (few-columns b.low 14 (omega arith) s.requires.1.low)))
+    (c.put_row.ensures ∙ ap (λ (z : ℤ). sets d 0 (row_of (columns Low) z)) (back b.low (omega (arith, c.requires.1.low))))
+    (ap (λ (n : ℕ). 0 + n) (row-size (columns Low) b.low refl (few-columns b.low 14 (omega arith) c.requires.1.low)))
     (then l1 l2 l5 22 44 (row_of (columns High) b.high) r3
-    (V2.put_row-2.ensures ∙ ap (λ (z : ℤ). sets l1 22 (row_of (columns High) z)) (back b.high (omega (arith, s.requires.1.high))))
-    (ap (λ (n : ℕ). 22 + n) (row-size (columns High) b.high refl (few-columns b.high 14 (omega arith) s.requires.1.high)))
+    (c.put_row-2.ensures ∙ ap (λ (z : ℤ). sets l1 22 (row_of (columns High) z)) (back b.high (omega (arith, c.requires.1.high))))
+    (ap (λ (n : ℕ). 22 + n) (row-size (columns High) b.high refl (few-columns b.high 14 (omega arith) c.requires.1.high)))
     (then l2 l3 l5 44 66 (row_of (columns Grain) (pos b.grain)) r4
-    V3.put_count.ensures
+    c.put_count.ensures
     (ap (λ (n : ℕ). 44 + n) (row-size (columns Grain) (pos b.grain) refl (count-columns b.grain)))
     (then l3 l4 l5 66 88 (row_of (columns Play) (pos play)) r5
-    V4.put_count-2.ensures
+    c.put_count-2.ensures
     (ap (λ (n : ℕ). 66 + n) (row-size (columns Play) (pos play) refl (count-columns play)))
-    (last_row l4 l5 88 (row_of (columns Leaves) (pos b.leaves)) V5.put_count-3.ensures))))
+    (last_row l4 l5 88 (row_of (columns Leaves) (pos b.leaves)) c.put_count-3.ensures))))

@@ -17,11 +17,8 @@ as-pos n h = to_z-of_z w64 (pos n) (sfits_of (omega arith))
 
 pub put_row-requires : goal.put_row-requires
 put_row-requires c =
-    let s = c in
-    (s.requires.0, s.requires.1, rw (as-pos s.args.n s.requires.2) s.requires.2, rw (as-pos s.args.n s.requires.2) (count-columns s.args.n))
+    (c.requires.0, c.requires.1, rw (as-pos c.args.n c.requires.2) c.requires.2, rw (as-pos c.args.n c.requires.2) (count-columns c.args.n))
 
 pub returns : goal.returns
 returns c =
-    let R = c in
-    let s = c in
-    R.put_row.ensures ∙ ap (λ (z : ℤ). sets s.args.text.now s.args.at (row_of s.args.word.now z)) (as-pos s.args.n s.requires.2)
+    c.put_row.ensures ∙ ap (λ (z : ℤ). sets c.args.text.now c.args.at (row_of c.args.word.now z)) (as-pos c.args.n c.requires.2)

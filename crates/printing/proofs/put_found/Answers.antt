@@ -14,18 +14,15 @@ use Rattle.printing.proofs.put_found.Goals as goal
 
 pub returns : goal.returns
 returns c =
-    let L = c in
-    let s = c in
-    let B = c in
-    let b : Bounds = s.args.b in
-    let play : ℕ = s.args.play in
-    let d : List ℕ = s.args.text.now in
-    let ns : List ℕ = take b.leaves s.args.leaves.now in
-    let narrow = s.requires.1 in
-    let long : length ns ≡ b.leaves = length-take-le b.leaves s.args.leaves.now s.requires.2 in record {
+    let b : Bounds = c.args.b in
+    let play : ℕ = c.args.play in
+    let d : List ℕ = c.args.text.now in
+    let ns : List ℕ = take b.leaves c.args.leaves.now in
+    let narrow = c.requires.1 in
+    let long : length ns ≡ b.leaves = length-take-le b.leaves c.args.leaves.now c.requires.2 in record {
       room = omega (arith, narrow.leaves);
       bytes = sym (found-size b play ns narrow ∙ ap (λ (k : ℕ). 110 + 22 * k) long);
-      text = then d B.put_bounds.new.text L.put_leaves.new.text 0 110 (printed (bound_rows b play)) (printed (map leaf_row ns))
-          B.put_bounds.ensures (ap (λ (k : ℕ). 0 + k) (bounds-size b play narrow)) L.put_leaves.ensures
+      text = then d c.put_bounds.new.text c.put_leaves.new.text 0 110 (printed (bound_rows b play)) (printed (map leaf_row ns))
+          c.put_bounds.ensures (ap (λ (k : ℕ). 0 + k) (bounds-size b play narrow)) c.put_leaves.ensures
           ∙ ap (sets d 0) (sym (printed-append (bound_rows b play) (map leaf_row ns)));
     }

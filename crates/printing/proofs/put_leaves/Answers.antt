@@ -15,41 +15,34 @@ loop-i-init c = (omega arith, refl, refl)
 
 pub offset_bounds-leaves-i : goal.offset_bounds-leaves-i
 offset_bounds-leaves-i c =
-    let L = c in
-    record { fits = omega (arith, L.loop-i.invariant.0, L.requires.2) }
+    record { fits = omega (arith, c.loop-i.invariant.0, c.requires.2) }
 
 pub bounds-leaves-i : goal.bounds-leaves-i
 bounds-leaves-i c =
-    let L = c in
-    omega (arith, c.loop-i-test.true, L.requires.1)
+    omega (arith, c.loop-i-test.true, c.requires.1)
 
 pub put_leaf-requires : goal.put_leaf-requires
 put_leaf-requires c =
-    let L = c in
-    let s = c in
     let t = c.loop-i-test.true in
-    (omega (arith, t, L.loop-i.invariant.2, s.requires.0), omega (arith, t, s.requires.2))
+    (omega (arith, t, c.loop-i.invariant.2, c.requires.0), omega (arith, t, c.requires.2))
 
 pub overflow_add-i : goal.overflow_add-i
 overflow_add-i c =
-    let L = c in
-    record { fits = omega (arith, L.loop-i.invariant.0, L.requires.2) }
+    record { fits = omega (arith, c.loop-i.invariant.0, c.requires.2) }
 
 pub loop-i-smaller : goal.loop-i-smaller
 loop-i-smaller c = omega (arith, c.loop-i-test.true)
 
 pub loop-i-preserved : goal.loop-i-preserved
 loop-i-preserved c =
-    let P = c in
-    let L = c in
-    let a = L.args in
-    let i : ℕ = L.loop-i.i in
-    let t = P.loop-i-test.true in (
+    let a = c.args in
+    let i : ℕ = c.loop-i.i in
+    let t = c.loop-i-test.true in (
       omega (arith, t),
-      P.put_leaf.ensures
-          ∙ ap (λ (l : List ℕ). sets l (110 + 22 * i) (row_of (columns Leaf) (pos (get_or a.leaves.now i 0)))) L.loop-i.invariant.1
-          ∙ leaf-stored a.text.now a.leaves.now 110 i (omega (arith, t, L.requires.1)),
-      P.put_leaf.auto.text ∙ L.loop-i.invariant.2,
+      c.put_leaf.ensures
+          ∙ ap (λ (l : List ℕ). sets l (110 + 22 * i) (row_of (columns Leaf) (pos (get_or a.leaves.now i 0)))) c.loop-i.invariant.1
+          ∙ leaf-stored a.text.now a.leaves.now 110 i (omega (arith, t, c.requires.1)),
+      c.put_leaf.auto.text ∙ c.loop-i.invariant.2,
     )
 
 pub shape_of-text : goal.shape_of-text
@@ -57,7 +50,6 @@ shape_of-text c = c.loop-i.invariant.2
 
 pub returns : goal.returns
 returns c =
-    let L = c in
-    let a = L.args in
-    let e : L.loop-i.i ≡ a.count = omega (arith, L.loop-i.invariant.0, c.loop-i-test.false) in
-    L.loop-i.invariant.1 ∙ ap (λ (k : ℕ). sets a.text.now 110 (printed (map leaf_row (take k a.leaves.now)))) e
+    let a = c.args in
+    let e : c.loop-i.i ≡ a.count = omega (arith, c.loop-i.invariant.0, c.loop-i-test.false) in
+    c.loop-i.invariant.1 ∙ ap (λ (k : ℕ). sets a.text.now 110 (printed (map leaf_row (take k a.leaves.now)))) e

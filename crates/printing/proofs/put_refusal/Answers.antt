@@ -16,22 +16,18 @@ use Rattle.printing.proofs.put_refusal.Goals.{After-text-1}
 
 pub put_count-requires : goal.put_count-requires
 put_count-requires c =
-    let s = c in
-    (omega (arith, s.requires.0), refl, omega (arith, c.refusal_number.ensures, number_small s.args.r))
+    (omega (arith, c.requires.0), refl, omega (arith, c.refusal_number.ensures, number_small c.args.r))
 
 pub returns : goal.returns
 unfolding printed
 returns c =
-    let Q = c in
     let P = (goal.at.returns c).After-text-1 in
-    let N = c in
-    let s = c in
-    let r : Refusal = s.args.r in
-    let d : List ℕ = s.args.text.now in record {
+    let r : Refusal = c.args.r in
+    let d : List ℕ = c.args.text.now in record {
       bytes = sym (refusal-size r);
-      text = then d P.put_count.new.text Q.put_count-2.new.text 0 22 (row_of (columns Refuse) (pos (number_of r))) (row_of (columns Line) (pos (line_of r)) ++ printed [])
-          (P.put_count.ensures ∙ ap (λ (n : ℕ). sets d 0 (row_of (columns Refuse) (pos n))) N.refusal_number.ensures)
+      text = then d P.put_count.new.text c.put_count-2.new.text 0 22 (row_of (columns Refuse) (pos (number_of r))) (row_of (columns Line) (pos (line_of r)) ++ printed [])
+          (P.put_count.ensures ∙ ap (λ (n : ℕ). sets d 0 (row_of (columns Refuse) (pos n))) c.refusal_number.ensures)
           (ap (λ (n : ℕ). 0 + n) (row-size (columns Refuse) (pos (number_of r)) refl (count-columns (number_of r))))
-          (last_row P.put_count.new.text Q.put_count-2.new.text 22 (row_of (columns Line) (pos (line_of r)))
-          (Q.put_count-2.ensures ∙ ap (λ (n : ℕ). sets P.put_count.new.text 22 (row_of (columns Line) (pos n))) Q.refusal_line.ensures));
+          (last_row P.put_count.new.text c.put_count-2.new.text 22 (row_of (columns Line) (pos (line_of r)))
+          (c.put_count-2.ensures ∙ ap (λ (n : ℕ). sets P.put_count.new.text 22 (row_of (columns Line) (pos n))) c.refusal_line.ensures));
     }

@@ -12,16 +12,11 @@ use Rattle.printing.proofs.put_row.Goals as goal
 
 pub shape_of-text : goal.shape_of-text
 shape_of-text c =
-    let W = c in
-    let C = c in
-    length-set W.write.new.dst (C.args.at + 21) 10 ∙ W.write.auto.dst ∙ C.copy_in.auto.to
+    length-set c.write.new.dst (c.args.at + 21) 10 ∙ c.write.auto.dst ∙ c.copy_in.auto.to
 
 pub returns : goal.returns
 returns c =
-    let W = c in
-    let C = c in
-    let s = c in
-    let a = s.args in
+    let a = c.args in
     ap (λ (l : List ℕ). set l (a.at + 21) 10)
-    (W.write.ensures ∙ ap₂ (λ (l : List ℕ) (z : ℤ). written l (a.at + 6) 15 z) C.copy_in.ensures (to_z-of_z w64 a.z s.ranges.z))
-    ∙ row-stored a.text.now a.word.now a.at a.z s.requires.0 s.requires.1 s.requires.3
+    (c.write.ensures ∙ ap₂ (λ (l : List ℕ) (z : ℤ). written l (a.at + 6) 15 z) c.copy_in.ensures (to_z-of_z w64 a.z c.ranges.z))
+    ∙ row-stored a.text.now a.word.now a.at a.z c.requires.0 c.requires.1 c.requires.3

@@ -20,14 +20,11 @@ use Rattle.reading.proofs.completed.Goals.{After-grain_of-grain, Else-odd-n, Sta
 
 pub returns-then-bare-n : goal.returns-then-bare-n
 returns-then-bare-n c =
-    let b = c in
-    λ C. rw (← b.first_childless-bare.ensures, lt-ltb b.first_childless-bare.result _ c.if-bare-n.true)
+    λ C. rw (← c.first_childless-bare.ensures, lt-ltb c.first_childless-bare.result _ c.if-bare-n.true)
 
 pub returns-then-odd-n : goal.returns-then-odd-n
 returns-then-odd-n c =
-    let u = c in
-    let b = c in
-    λ C. rw (← u.other_total.ensures, ← b.first_childless-bare.ensures, le-ltb b.first_childless-bare.result _ c.if-bare-n.false, ← u.first_unbalanced-odd.ensures, lt-ltb u.first_unbalanced-odd.result _ c.if-odd-n.true)
+    λ C. rw (← c.other_total.ensures, ← c.first_childless-bare.ensures, le-ltb c.first_childless-bare.result _ c.if-bare-n.false, ← c.first_unbalanced-odd.ensures, lt-ltb c.first_unbalanced-odd.result _ c.if-odd-n.true)
 
 abbrev start : Else-odd-n → Start
 start c = (goal.at.Else-odd-n c).Start
@@ -37,13 +34,12 @@ sums : (c : Else-odd-n)
     → let a = (start c).args in
     Counted a.kind.now a.stop.now a.weight.now a.n a.most → Summed a.kind.now a.stop.now a.weight.now a.n a.most (totals a.h)
 sums c C =
-    let u = c in
     let b = start c in
     let a = b.args in
     let S : Slices = record { kinds = a.kind.now; stops = a.stop.now; weights = a.weight.now; heights = C.heights } in
     record {
       counted = C;
-      balanced = odd-none a.h S a.n b.requires.3 C.forest C.spans (rw (← u.other_total.ensures, ← u.first_unbalanced-odd.ensures) c.if-odd-n.false);
+      balanced = odd-none a.h S a.n b.requires.3 C.forest C.spans (rw (← c.other_total.ensures, ← c.first_unbalanced-odd.ensures) c.if-odd-n.false);
     }
 
 pub grain_of-grain-requires : goal.grain_of-grain-requires
@@ -57,9 +53,7 @@ left : (c : Else-odd-n) (G : ℕ)
     cond (ltb 16777216 G) (Refused TooManyGrains) (Accepted (summary_of a.n a.h a.most a.leaves G))
     ≡ complete_at a.kind.now a.stop.now a.weight.now a.n a.h a.most a.leaves G
 left c G =
-    let u = c in
-    let b = c in
-    rw (← u.other_total.ensures, ← b.first_childless-bare.ensures, le-ltb b.first_childless-bare.result _ c.if-bare-n.false, ← u.first_unbalanced-odd.ensures, le-ltb u.first_unbalanced-odd.result _ c.if-odd-n.false)
+    rw (← c.other_total.ensures, ← c.first_childless-bare.ensures, le-ltb c.first_childless-bare.result _ c.if-bare-n.false, ← c.first_unbalanced-odd.ensures, le-ltb c.first_unbalanced-odd.result _ c.if-odd-n.false)
 
 -- the grain count is that of the nodes
 known : (c : After-grain_of-grain)
@@ -81,14 +75,12 @@ cond-low G x y l = rw (le-ltb 16777216 G l) refl
 
 pub returns-then-grain-gt16777216 : goal.returns-then-grain-gt16777216
 returns-then-grain-gt16777216 c =
-    let g = c in
-    let G = g.grain_of-grain.result in
+    let G = c.grain_of-grain.result in
     λ C. cond-high G (Refused TooManyGrains) _ c.if-grain-gt16777216.true ∙ left (goal.at.returns-then-grain-gt16777216 c).Else-odd-n G ∙ known (goal.at.returns-then-grain-gt16777216 c).After-grain_of-grain C
 
 pub returns : goal.returns
 returns c =
-    let g = c in
-    let G = g.grain_of-grain.result in
+    let G = c.grain_of-grain.result in
     let a = (start (goal.at.returns c).Else-odd-n).args in
     let back-lo : to_z w64 (of_z w64 a.h.lowest) ≡ a.h.lowest = search rules in
     let back-hi : to_z w64 (of_z w64 a.h.highest) ≡ a.h.highest = search rules in

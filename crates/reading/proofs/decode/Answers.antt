@@ -44,8 +44,6 @@ slice_bounds-header-end c = let l : 50 ≤ length (text_of (goal.at.slice_bounds
 
 pub decode_lines-requires : goal.decode_lines-requires
 decode_lines-requires c =
-    let H = c in
-    let e = c in
     let s = text_of (goal.at.decode_lines-requires c).After-is_bad_length in
     let l = good_length (length s) (good (goal.at.decode_lines-requires c).Else-is_bad_length) in
     let h = c.in-Fine in
@@ -53,18 +51,13 @@ decode_lines-requires c =
 
 pub returns-in-Refused : goal.returns-in-Refused
 returns-in-Refused c =
-    let H = c in
-    let e = c in
     let s = text_of (goal.at.returns-in-Refused c).After-is_bad_length in
     let r = c.in-Refused in
     decoded-refused (read_text s) r.r _ _ _ _ _ _ _ _ (read-refused s (good (goal.at.returns-in-Refused c).Else-is_bad_length) r.r (said (goal.at.returns-in-Refused c).After-header (HeadRead.TheVariants.Refused r.r) r.is))
 
 pub returns-in-Fine : goal.returns-in-Fine
 returns-in-Fine c =
-    let D = c in
-    let H = c in
-    let e = c in
     let s = text_of (goal.at.returns-in-Fine c).After-is_bad_length in
-    let h = D.in-Fine in
+    let h = c.in-Fine in
     let a = (start (goal.at.returns-in-Fine c).After-is_bad_length).args in
-    rw (read-lines s (good (goal.at.returns-in-Fine c).Else-is_bad_length) h.h (said (goal.at.returns-in-Fine c).After-header (HeadRead.TheVariants.Fine h.h) h.is)) D.decode_lines.ensures
+    rw (read-lines s (good (goal.at.returns-in-Fine c).Else-is_bad_length) h.h (said (goal.at.returns-in-Fine c).After-header (HeadRead.TheVariants.Fine h.h) h.is)) c.decode_lines.ensures

@@ -57,7 +57,6 @@ stopped c =
 
 pub completed-requires : goal.completed-requires
 completed-requires c =
-    let S = c in
     let M = most-of (goal.at.completed-requires c).After-stops in
     let N = lines-of M in
     let b = start N in
@@ -65,30 +64,28 @@ completed-requires c =
     let p = b.requires in
     let L = lined M in (
       omega (arith, N.node_lines.auto.kind, p.0.kinds, p.2),
-      omega (arith, S.stops.auto.stop, p.0.ups, p.2),
+      omega (arith, c.stops.auto.stop, p.0.ups, p.2),
       omega (arith, N.node_lines.auto.weight, p.0.weights, p.2),
       p.2,
       p.4.total,
       p.4.second,
       rw L.most-is (lines-counted a.h a.n 0 [] (drop 25 a.text.now) L.lines L.verdict).1,
-      counts a.h a.n (drop 25 a.text.now) L.lines L.verdict p.1 a.kind.now a.stop.now a.weight.now a.height.now N.node_lines.new.kind S.stops.new.stop N.node_lines.new.weight N.node_lines.new.height L.kinds (stopped (goal.at.completed-requires c).After-stops) L.weights L.heights p.2 M.in-Fine.most M.in-Fine.leaves L.most-is L.leaves-is,
+      counts a.h a.n (drop 25 a.text.now) L.lines L.verdict p.1 a.kind.now a.stop.now a.weight.now a.height.now N.node_lines.new.kind c.stops.new.stop N.node_lines.new.weight N.node_lines.new.height L.kinds (stopped (goal.at.completed-requires c).After-stops) L.weights L.heights p.2 M.in-Fine.most M.in-Fine.leaves L.most-is L.leaves-is,
     )
 
 pub returns-in-Refused : goal.returns-in-Refused
 returns-in-Refused c =
-    let N = c in
     let r = c.in-Refused.r in
     let e : verdict-of (goal.at.returns-in-Refused c).After-node_lines ≡ refused r = gathered-refusal (start (goal.at.returns-in-Refused c).After-node_lines).args.h.lowest (verdict-of (goal.at.returns-in-Refused c).After-node_lines) r _ _ _ _ _ _ _ _ (gathers (goal.at.returns-in-Refused c).After-node_lines (Lines.TheVariants.Refused r) c.in-Refused.is) in
     decoded-refused (lines_of (start (goal.at.returns-in-Refused c).After-node_lines).args.h (start (goal.at.returns-in-Refused c).After-node_lines).args.n (drop 25 (start (goal.at.returns-in-Refused c).After-node_lines).args.text.now)) r _ _ _ _ _ _ _ _ (rw e)
 
 pub returns-in-Fine : goal.returns-in-Fine
 returns-in-Fine c =
-    let S = c in
     let M = most-of (goal.at.returns-in-Fine c).After-stops in
     let N = lines-of M in
     let b = start N in
     let a = b.args in
     let p = b.requires in
     let L = lined M in
-    decoded-all a.h a.n (drop 25 a.text.now) L.lines L.verdict p.1 a.kind.now a.stop.now a.weight.now a.height.now N.node_lines.new.kind S.stops.new.stop N.node_lines.new.weight N.node_lines.new.height L.kinds (stopped (goal.at.returns-in-Fine c).After-stops) L.weights L.heights
+    decoded-all a.h a.n (drop 25 a.text.now) L.lines L.verdict p.1 a.kind.now a.stop.now a.weight.now a.height.now N.node_lines.new.kind c.stops.new.stop N.node_lines.new.weight N.node_lines.new.height L.kinds (stopped (goal.at.returns-in-Fine c).After-stops) L.weights L.heights
     p.2 M.in-Fine.most M.in-Fine.leaves L.most-is L.leaves-is c.completed.result c.completed.ensures

@@ -46,16 +46,14 @@ power-requires-3 c = let p = (start (goal.at.power-requires-3 c).After-most_uses
 
 pub overflow_mul-result : goal.overflow_mul-result
 overflow_mul-result c =
-    let u = c in
     let b = start (goal.at.overflow_mul-result c).After-most_uses-second in
     let f = few (goal.at.overflow_mul-result c).After-most_uses-second in
-    let x : c.power-2.result ≤ 16777216 = rw c.power-2.ensures (power_small _ u.most_uses-first.result (omega (arith, b.requires.4)) f.0) in
-    let y : c.power-3.result ≤ 16777216 = rw c.power-3.ensures (power_small _ u.most_uses-second.result (omega (arith, b.requires.4, b.requires.5)) f.1) in
+    let x : c.power-2.result ≤ 16777216 = rw c.power-2.ensures (power_small _ c.most_uses-first.result (omega (arith, b.requires.4)) f.0) in
+    let y : c.power-3.result ≤ 16777216 = rw c.power-3.ensures (power_small _ c.most_uses-second.result (omega (arith, b.requires.4, b.requires.5)) f.1) in
     record { fits = omega (arith, mul-le-mul x y) }
 
 pub returns : goal.returns
 returns c =
-    let u = c in
     let a = (start (goal.at.returns c).After-most_uses-second).args in
     λ S. ap₂ ◌*◌ (c.power-2.ensures ∙ ap (λ (k : ℕ). a.h.total ^ k) (first-is (goal.at.returns c).After-most_uses-second S)) (c.power-3.ensures ∙ ap (λ (k : ℕ). a.h.second ^ k) (second_is (goal.at.returns c).After-most_uses-second S))
-    ∙ grain-double a.h a.kind.now a.stop.now a.weight.now a.n a.most S u.if-h-eq0.false
+    ∙ grain-double a.h a.kind.now a.stop.now a.weight.now a.n a.most S c.if-h-eq0.false

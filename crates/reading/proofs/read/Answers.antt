@@ -44,26 +44,22 @@ long_of : (c : In-Accepted)
 long_of c = nodes-long (read_text (text_of (decoding c))) c.in-Accepted.t _ _ _ _ (accepts c)
 
 pub keep8-requires : goal.keep8-requires
-keep8-requires c = let T = c in omega (arith, (accepts (goal.at.keep8-requires c).In-Accepted).kinds.long, (long_of (goal.at.keep8-requires c).In-Accepted).0)
+keep8-requires c = omega (arith, (accepts (goal.at.keep8-requires c).In-Accepted).kinds.long, (long_of (goal.at.keep8-requires c).In-Accepted).0)
 
 pub keep16-requires : goal.keep16-requires
 keep16-requires c =
-    let T = c in
     omega (arith, (accepts (goal.at.keep16-requires c).In-Accepted).stops.long, (long_of (goal.at.keep16-requires c).In-Accepted).1)
 
 pub keep8-requires-in-Accepted : goal.keep8-requires-in-Accepted
 keep8-requires-in-Accepted c =
-    let T = c in
     omega (arith, (accepts (goal.at.keep8-requires-in-Accepted c).In-Accepted).weights.long, (long_of (goal.at.keep8-requires-in-Accepted c).In-Accepted).2)
 
 pub keep32-requires : goal.keep32-requires
 keep32-requires c =
-    let T = c in
     omega (arith, (accepts (goal.at.keep32-requires c).In-Accepted).heights.long, (long_of (goal.at.keep32-requires c).In-Accepted).3)
 
 pub returns-in-Refused : goal.returns-in-Refused
 returns-in-Refused c =
-    let D = c in
     let v = read_text (text_of (goal.at.returns-in-Refused c).After-decode) in
     let r = c.in-Refused.r in
     let e : v ≡ refused r = decoded-refusal v r _ _ _ _ _ _ _ _ (decodes (goal.at.returns-in-Refused c).After-decode (Refused r) c.in-Refused.is) in
@@ -71,12 +67,7 @@ returns-in-Refused c =
 
 pub returns-in-Accepted : goal.returns-in-Accepted
 returns-in-Accepted c =
-    let K32 = c in
-    let K8b = c in
-    let K16 = c in
-    let K8a = c in
-    let T = c in
     let A = accepts (goal.at.returns-in-Accepted c).In-Accepted in
     let a = (decoding (goal.at.returns-in-Accepted c).In-Accepted).args in
     let n = long_of (goal.at.returns-in-Accepted c).In-Accepted in
-    let v = read_text (text_of (decoding (goal.at.returns-in-Accepted c).In-Accepted)) in record { answers = ap Accepted A.numbers ∙ sym (ap answer A.verdict); kinds = kept-front kinds_of v A.table _ _ a.kind.now _ A.verdict n.0 A.kinds K8a.keep8.ensures; stops = kept-front stops_of v A.table _ _ a.stop.now _ A.verdict n.1 A.stops K16.keep16.ensures; weights = kept-front weights_of v A.table _ _ a.weight.now _ A.verdict n.2 A.weights K8b.keep8-in-Accepted.ensures; heights = kept-front heights_of v A.table _ _ a.height.now _ A.verdict n.3 A.heights K32.keep32.ensures }
+    let v = read_text (text_of (decoding (goal.at.returns-in-Accepted c).In-Accepted)) in record { answers = ap Accepted A.numbers ∙ sym (ap answer A.verdict); kinds = kept-front kinds_of v A.table _ _ a.kind.now _ A.verdict n.0 A.kinds c.keep8.ensures; stops = kept-front stops_of v A.table _ _ a.stop.now _ A.verdict n.1 A.stops c.keep16.ensures; weights = kept-front weights_of v A.table _ _ a.weight.now _ A.verdict n.2 A.weights c.keep8-in-Accepted.ensures; heights = kept-front heights_of v A.table _ _ a.height.now _ A.verdict n.3 A.heights c.keep32.ensures }

@@ -10,8 +10,6 @@ use Rattle.recipe.proofs.Rows.{row-none, line-ready, under-ready, rest-ready, ro
 use Rattle.recipe.proofs.+write_row.Goals as goal
 use Rattle.recipe.proofs.+write_row.Goals.{After-write_row-after}
 
--- the lines left, and then the siblings left
--- what the callees ask and tell
 some : {m : ℕ} → (m ≡ 0 → ⊥) → 0 < m
 some h = omega arith
 
@@ -29,26 +27,21 @@ returns-then-m-eq0 t c =
 
 pub write_first-first-requires : goal.write_first-first-requires
 write_first-first-requires t c =
-    let s = c in
-    let a = s.args in
-    line-ready a.b a.dice a.y a.m a.c a.at (length a.buffer.now) (some c.if-m-eq0.false) s.requires
+    let a = c.args in
+    line-ready a.b a.dice a.y a.m a.c a.at (length a.buffer.now) (some c.if-m-eq0.false) c.requires
 
 pub under_of-under-requires : goal.under_of-under-requires
 under_of-under-requires t c =
     omega (arith, c.requires.shallow (some c.if-m-eq0.false))
 
-pub children-requires : goal.children-requires
-children-requires t c = tt
-
 pub write_row-after-requires : goal.write_row-after-requires
 write_row-after-requires t c =
-    let s = c in
-    let a = s.args in
+    let a = c.args in
     let h = some c.if-m-eq0.false in
     let w = c.write_first-first in
     let u = c.under_of-under.ensures in
-    let R = s.requires in (
-      omega (arith, s.decreases, falls-under a.y.left a.m a.b h R.most, ap (λ (x : Siblings). x.left) u, c.children.ensures),
+    let R = c.requires in (
+      omega (arith, c.decreases, falls-under a.y.left a.m a.b h R.most, ap (λ (x : Siblings). x.left) u, c.children.ensures),
       rw (u, c.children.ensures, w.auto.buffer) (under-ready a.b a.dice a.y a.m a.c a.at (length a.buffer.now) h R w.result w.ensures.places),
     )
 
@@ -60,22 +53,20 @@ overflow_add-c t c = omega (arith, c.requires.numbers)
 
 pub write_row-requires : goal.write_row-requires
 write_row-requires t c =
-    let s = c in
-    let a = s.args in
+    let a = c.args in
     let h = some c.if-m-eq0.false in
     let w = c.write_first-first in
     let v = c.write_row-after in
     let l = v.auto.buffer ∙ w.auto.buffer in (
-      omega (arith, s.decreases, h),
-      rw l (rest-ready a.b a.dice a.y a.m a.c a.at (length a.buffer.now) h s.requires w.result v.result w.new.buffer v.new.buffer w.ensures.places (write-row-under t (goal.at.write_row-requires t c).After-write_row-after)),
+      omega (arith, c.decreases, h),
+      rw l (rest-ready a.b a.dice a.y a.m a.c a.at (length a.buffer.now) h c.requires w.result v.result w.new.buffer v.new.buffer w.ensures.places (write-row-under t (goal.at.write_row-requires t c).After-write_row-after)),
     )
 
 pub returns : goal.returns
 returns t c =
-    let s = c in
-    let a = s.args in
+    let a = c.args in
     let h = some c.if-m-eq0.false in
     let w = c.write_first-first in
     let v = c.write_row-after in
-    row_more a.b a.dice a.y a.m a.c a.at (length a.buffer.now) h s.requires w.result v.result w.new.buffer v.new.buffer w.ensures.places
+    row_more a.b a.dice a.y a.m a.c a.at (length a.buffer.now) h c.requires w.result v.result w.new.buffer v.new.buffer w.ensures.places
     (write-row-under t (goal.at.returns t c).After-write_row-after) a.buffer.now c.write_row.new.buffer c.write_row.result w.ensures.writes c.write_row.ensures

@@ -15,18 +15,16 @@ returns-then-chance_at c =
 
 pub returns-then-plays-eq0 : goal.returns-then-plays-eq0
 returns-then-plays-eq0 c =
-    let s = c in
-    let d = s.args.dice in
-    let l = s.args.level in
+    let d = c.args.dice in
+    let l = c.args.level in
     let e : chance_at d l ≡ false = sym c.chance_at.ensures ∙ c.if-chance_at.false in
     let q : eqb (plays d l % 2) 0 ≡ true = eq-eqb (plays d l % 2) 0 (ap (λ (n : ℕ). n % 2) (sym c.plays.ensures) ∙ c.if-plays-eq0.true) in
     rw (e, q)
 
 pub returns : goal.returns
 returns c =
-    let s = c in
-    let d = s.args.dice in
-    let l = s.args.level in
+    let d = c.args.dice in
+    let l = c.args.level in
     let e : chance_at d l ≡ false = sym c.chance_at.ensures ∙ c.if-chance_at.false in
     let q : eqb (plays d l % 2) 0 ≡ false = ne_eqb (plays d l % 2) 0 (λ z. c.if-plays-eq0.false (ap (λ (n : ℕ). n % 2) c.plays.ensures ∙ z)) in
     rw (e, q)

@@ -5,7 +5,7 @@ use Rattle.recipe.proofs.Written.{levels-few}
 use Rattle.recipe.proofs.table_nodes.Goals as goal
 
 pub count_nodes-requires : goal.count_nodes-requires
-count_nodes-requires c = let s = c in (s.requires.0, rw c.levels.ensures (levels-few s.args.dice s.args.depth s.requires.1))
+count_nodes-requires c = (c.requires.0, rw c.levels.ensures (levels-few c.args.dice c.args.depth c.requires.1))
 
 pub returns : goal.returns
 returns c = c.count_nodes.ensures ∙ ap (nodes c.args.b) c.levels.ensures

@@ -12,9 +12,8 @@ use Rattle.recipe.proofs.write_first.Goals as goal
 
 pub put_line-requires : goal.put_line-requires
 put_line-requires c =
-    let s = c in
-    let a = s.args in
-    (omega (arith, s.requires.fits), subst Short (sym c.first_line-l.ensures) (first_short a.b a.dice a.y a.c a.at (length a.buffer.now) s.requires))
+    let a = c.args in
+    (omega (arith, c.requires.fits), subst Short (sym c.first_line-l.ensures) (first_short a.b a.dice a.y a.c a.at (length a.buffer.now) c.requires))
 
 pub returns : goal.returns
 returns c =

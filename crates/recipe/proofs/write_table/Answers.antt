@@ -12,22 +12,19 @@ use Rattle.recipe.proofs.write_table.Goals as goal
 
 pub put_header-requires : goal.put_header-requires
 put_header-requires c =
-    let s = c in
-    let T = s.requires in
-    (omega (arith, T.fits), T.few, subst Ranged (sym c.head.ensures) (ranged s.args.b s.args.dice T.least T.most))
+    let T = c.requires in
+    (omega (arith, T.fits), T.few, subst Ranged (sym c.head.ensures) (ranged c.args.b c.args.dice T.least T.most))
 
 pub write_row-requires : goal.write_row-requires
 write_row-requires c =
-    let s = c in
-    let a = s.args in
-    rw (c.levels.ensures, c.put_header.auto.buffer) (root-ready a.seed a.b a.depth a.dice a.n (length a.buffer.now) s.requires)
+    let a = c.args in
+    rw (c.levels.ensures, c.put_header.auto.buffer) (root-ready a.seed a.b a.depth a.dice a.n (length a.buffer.now) c.requires)
 
 pub returns : goal.returns
 returns c =
-    let s = c in
-    let a = s.args in
+    let a = c.args in
     let w = c.write_row in
     let h = c.put_header in
-    table-stored a.seed a.b a.depth a.dice a.n (length a.buffer.now) s.requires a.buffer.now h.new.buffer w.new.buffer w.result refl
+    table-stored a.seed a.b a.depth a.dice a.n (length a.buffer.now) c.requires a.buffer.now h.new.buffer w.new.buffer w.result refl
     (h.ensures ∙ ap (λ (x : Head). sets a.buffer.now 0 (header_text x a.n)) c.head.ensures)
     (rw c.levels.ensures at w.ensures)

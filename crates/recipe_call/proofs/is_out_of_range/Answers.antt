@@ -7,15 +7,14 @@ use Rattle.recipe_call.proofs.is_out_of_range.Goals as goal
 
 pub returns : goal.returns
 returns c =
-    let s = c in
     let a = c.is_beyond.ensures in
     let b = c.is_beyond-2.ensures in
     let d = c.is_beyond-3.ensures in
     let e = c.is_beyond-4.ensures in
     (λ j. ((a j || b j) || d j) || e j)
     ∙ rw (
-      to_z-of_z w64 s.args.seed s.ranges.seed,
-      to_z-of_z w64 s.args.branching s.ranges.branching,
-      to_z-of_z w64 s.args.depth s.ranges.depth,
-      to_z-of_z w64 s.args.dice s.ranges.dice,
+      to_z-of_z w64 c.args.seed c.ranges.seed,
+      to_z-of_z w64 c.args.branching c.ranges.branching,
+      to_z-of_z w64 c.args.depth c.ranges.depth,
+      to_z-of_z w64 c.args.dice c.ranges.dice,
     )

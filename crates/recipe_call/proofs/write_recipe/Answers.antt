@@ -20,10 +20,9 @@ use Rattle.recipe_call.proofs.write_recipe.Goals.{After-is_out_of_range, After-n
 -- whether the numbers are out of range
 out-is : (c : After-is_out_of_range) → let a = c.args in c.is_out_of_range.result ≡ out_of_range a.seed a.branching a.depth a.dice
 out-is c =
-    let s = c in
-    let a = s.args in
+    let a = c.args in
     c.is_out_of_range.ensures
-    ∙ (λ j. out_of_range (to_z-of_z w64 a.seed s.ranges.seed j) (to_z-of_z w64 a.branching s.ranges.branching j) (to_z-of_z w64 a.depth s.ranges.depth j) (to_z-of_z w64 a.dice s.ranges.dice j))
+    ∙ (λ j. out_of_range (to_z-of_z w64 a.seed c.ranges.seed j) (to_z-of_z w64 a.branching c.ranges.branching j) (to_z-of_z w64 a.depth c.ranges.depth j) (to_z-of_z w64 a.dice c.ranges.dice j))
 
 -- where three of them were taken over
 abbrev start_of : After-natural-with → Start
@@ -44,12 +43,11 @@ dice-is N = N.natural-with.ensures ∙ ap to_nat (to_z-of_z w64 (start_of N).arg
 -- how many nodes were counted
 count-is : (c : After-table_nodes-count) → let a = c.args in c.table_nodes-count.result ≡ nodes (to_nat a.branching) (levels (with_dice a.dice) (to_nat a.depth))
 count-is c =
-    let N = c in
     c.table_nodes-count.ensures ∙ (λ j. nodes (branching-is (goal.at.After-table_nodes-count c).After-natural-with j) (levels (eqb (dice-is (goal.at.After-table_nodes-count c).After-natural-with j) 1) (depth_is (goal.at.After-table_nodes-count c).After-natural-with j)))
 
 -- and the fourth number
 seed-is : (c : After-natural) → c.natural.result ≡ to_nat c.args.seed
-seed-is c = let s = c in c.natural.ensures ∙ ap to_nat (to_z-of_z w64 s.args.seed s.ranges.seed)
+seed-is c = c.natural.ensures ∙ ap to_nat (to_z-of_z w64 c.args.seed c.ranges.seed)
 
 pub returns-then-is_out_of_range : goal.returns-then-is_out_of_range
 returns-then-is_out_of_range c = let all = let a = c.args in
@@ -73,7 +71,6 @@ returns-then-buffer-long c = let all = let a = c.args in
 pub write_table-requires : goal.write_table-requires
 write_table-requires c =
     let a = c.args in
-    let N = c in
     let n = count-is (goal.at.write_table-requires c).After-table_nodes-count in
     ready-same _ _ _ _ _ _ _ _ _ _ (length a.buffer.now) (seed-is (goal.at.write_table-requires c).After-natural) (branching-is (goal.at.write_table-requires c).After-natural-with) (depth_is (goal.at.write_table-requires c).After-natural-with) (dice-is (goal.at.write_table-requires c).After-natural-with) n
     (ready a.seed a.branching a.depth a.dice (fair (goal.at.write_table-requires c).After-natural-with) (omega (arith, n, c.if-count-gt1024.false)) (length a.buffer.now) (omega (arith, n, c.if-buffer-long.false)))
@@ -81,7 +78,6 @@ write_table-requires c =
 pub returns : goal.returns
 returns c =
     let a = c.args in
-    let N = c in
     let n = count-is (goal.at.returns c).After-table_nodes-count in
     let s = seed-is (goal.at.returns c).After-natural in
     let D = done a.seed a.branching a.depth a.dice (fair (goal.at.returns c).After-natural-with) (omega (arith, n, c.if-count-gt1024.false)) a.buffer.now (omega (arith, n, c.if-buffer-long.false)) in record {

@@ -38,10 +38,9 @@ loop-i-smaller c = omega arith
 -- a number read from memory is the entry
 pub loop-i-preserved : goal.loop-i-preserved
 loop-i-preserved c =
-    let L = c in
-    let z : ℤ = get_or L.args.from.now L.loop-i.i (pos 0) in
+    let z : ℤ = get_or c.args.from.now c.loop-i.i (pos 0) in
     let back : to_z w64 (of_z w64 z) ≡ z = search rules in
-    rw back (copying-more _ _ _ _ _ L.loop-i.invariant (pos 0) c.loop-i-test.true c.if-to-i.false)
+    rw back (copying-more _ _ _ _ _ c.loop-i.invariant (pos 0) c.loop-i-test.true c.if-to-i.false)
 
 pub shape_of-to : goal.shape_of-to
 shape_of-to c = c.loop-i.invariant.kept

@@ -61,9 +61,9 @@ ends c =
 entry : (c : In-Entry) → (loop-of (read_of c)).loop-at.t.positions < 500
 entry c = let L = loop-of (read_of c) in omega (arith, (going-small _ _ _ _ _ _ _ _ _ _ L.loop-at.invariant).positions, (read_of c).if-n-eq500.false)
 
--- ---- the needs
+-- ---- the goals
 pub loop-at-init : goal.loop-at-init
-loop-at-init c = let s = c in going-none _ _ _ _ _ _ c.zero_totals-t.ensures s.requires.0 s.requires.1 s.requires.2
+loop-at-init c = going-none _ _ _ _ _ _ c.zero_totals-t.ensures c.requires.0 c.requires.1 c.requires.2
 
 pub returns-then-n-eq500 : goal.returns-then-n-eq500
 returns-then-n-eq500 c = going-full _ _ _ _ _ _ _ _ _ _ c.loop-at.invariant c.loop-at-test.true c.if-n-eq500.true
@@ -74,9 +74,8 @@ overflow_add-k c = let L = loop-of (goal.at.overflow_add-k c).After-read_at in r
 pub returns-in-Refused : goal.returns-in-Refused
 returns-in-Refused c =
     let P = (goal.at.returns-in-Refused c).After-read_at in
-    let E = c in
     let f = c.in-Refused in
-    going-stopped _ _ _ _ _ _ _ _ _ _ (loop-of (goal.at.returns-in-Refused c).After-read_at).loop-at.invariant E.loop-at-test.true E.if-n-eq500.false f.r (said-refused _ _ f.r (position-is (goal.at.returns-in-Refused c).After-read_at (Refused f.r) f.is))
+    going-stopped _ _ _ _ _ _ _ _ _ _ (loop-of (goal.at.returns-in-Refused c).After-read_at).loop-at.invariant c.loop-at-test.true c.if-n-eq500.false f.r (said-refused _ _ f.r (position-is (goal.at.returns-in-Refused c).After-read_at (Refused f.r) f.is))
 
 pub bounds-kinds-n : goal.bounds-kinds-n
 bounds-kinds-n c = let G = (loop-of (read_of c)).loop-at.invariant in listed-room _ _ _ _ _ G.kinds (entry c)
@@ -85,26 +84,23 @@ pub bounds-losses-n : goal.bounds-losses-n
 bounds-losses-n c = let G = (loop-of (goal.at.bounds-losses-n c).After-read_at).loop-at.invariant in listed-room _ _ _ _ _ G.losses (entry (goal.at.bounds-losses-n c).In-Entry)
 
 pub bounds-marks-n : goal.bounds-marks-n
-bounds-marks-n c = let K = c in let G = (loop-of (read_of (goal.at.bounds-marks-n c).In-Entry)).loop-at.invariant in listed-room _ _ _ _ _ G.marks (entry (goal.at.bounds-marks-n c).In-Entry)
+bounds-marks-n c = let G = (loop-of (read_of (goal.at.bounds-marks-n c).In-Entry)).loop-at.invariant in listed-room _ _ _ _ _ G.marks (entry (goal.at.bounds-marks-n c).In-Entry)
 
 pub overflow_add-at : goal.overflow_add-at
 overflow_add-at c = record { fits = omega (arith, ends (goal.at.overflow_add-at c).In-Entry) }
 
 pub with_row-t-requires : goal.with_row-t-requires
 with_row-t-requires c =
-    let K = c in
     (going-small _ _ _ _ _ _ _ _ _ _ (loop-of (read_of (goal.at.with_row-t-requires c).In-Entry)).loop-at.invariant, small (goal.at.with_row-t-requires c).In-Entry)
 
 pub loop-at-smaller : goal.loop-at-smaller
 loop-at-smaller c =
-    let K = c in
     omega (arith, (entry-is (goal.at.loop-at-smaller c).In-Entry).1, ends (goal.at.loop-at-smaller c).In-Entry)
 
 pub loop-at-preserved : goal.loop-at-preserved
 loop-at-preserved c =
     let D = (goal.at.loop-at-preserved c).After-mark_code in
     let C = (goal.at.loop-at-preserved c).After-loss_code in
-    let K = c in
     let L = loop-of (read_of (goal.at.loop-at-preserved c).In-Entry) in
     let E = (goal.at.loop-at-preserved c).Else-n-eq500 in
     let r : Row = row_of (goal.at.loop-at-preserved c).In-Entry in

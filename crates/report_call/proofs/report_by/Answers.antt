@@ -65,17 +65,13 @@ keep_losses-requires c =
     let K = else-of (goal.at.keep_losses-requires c).After-keep8 in
     losses-long (begun K).args.file.now _ (kinds-of K) (losses-of K) (marks-of K) (totals-of K) _ _ _ _ _ _ (read K)
 
-abbrev kinds_kept : After-keep_losses → After-keep8
-kinds_kept W = (goal.at.After-keep_losses W).After-keep8
-
 pub keep8-requires-in-Done : goal.keep8-requires-in-Done
 keep8-requires-in-Done c =
     let K = else-of (goal.at.keep8-requires-in-Done c).After-keep8 in
     marks-long (begun K).args.file.now _ (kinds-of K) (losses-of K) (marks-of K) (totals-of K) _ _ _ _ _ _ (read K)
 
 pub returns-in-Refused : goal.returns-in-Refused
-returns-in-Refused c = let all = let A = c in
-    let a = (start (goal.at.returns-in-Refused c).After-read_all).args in
+returns-in-Refused c = let all = let a = (start (goal.at.returns-in-Refused c).After-read_all).args in
     let f = c.in-Refused in
     told-refused a.file.now _ a.kinds.now a.losses.now a.marks.now f.r f.k
-    (reads-refused _ _ _ _ _ _ _ (match_of (file-of (goal.at.returns-in-Refused c).After-read_all)) A.read_all.result f.r f.k A.read_all.ensures f.is) in record { answers = all.0; kinds = all.1.0; losses = all.1.1.0; marks = all.1.1.1 }
+    (reads-refused _ _ _ _ _ _ _ (match_of (file-of (goal.at.returns-in-Refused c).After-read_all)) c.read_all.result f.r f.k c.read_all.ensures f.is) in record { answers = all.0; kinds = all.1.0; losses = all.1.1.0; marks = all.1.1.1 }

@@ -11,10 +11,9 @@ returns-then-kind-side c = let a = c.args in with-other a.t a.side a.kind a.loss
 
 pub overflow_add-result-in-Thousandths : goal.overflow_add-result-in-Thousandths
 overflow_add-result-in-Thousandths c =
-    let s = c in
     let n = c.in-Thousandths in
-    let h : n.n ≤ 2000000000 = subst SmallLoss n.is s.requires.1 in
-    record { fits = omega (arith, h, s.requires.0.sum) }
+    let h : n.n ≤ 2000000000 = subst SmallLoss n.is c.requires.1 in
+    record { fits = omega (arith, h, c.requires.0.sum) }
 
 pub returns-in-NoDecision : goal.returns-in-NoDecision
 returns-in-NoDecision c = let a = c.args in with_none a.t a.side a.kind a.loss c.in-NoDecision.is

@@ -57,7 +57,6 @@ accepted c = (taken c).accepted
 
 pub returns-then-t-gt0 : goal.returns-then-t-gt0
 returns-then-t-gt0 c =
-    let K = c in
     let R = read_of (goal.at.returns-then-t-gt0 c).In-Accepted in
     let a = (start_of R).args in
     refuses (text_of R) a.policy.now a.room _ (list_of R) a.low.now a.high.now
@@ -65,12 +64,10 @@ returns-then-t-gt0 c =
 
 pub returns-then-leaves-t : goal.returns-then-leaves-t
 returns-then-leaves-t c =
-    let E = c in
-    let K = c in
     let R = read_of (goal.at.returns-then-leaves-t c).In-Accepted in
     let a = (start_of R).args in
     refuses (text_of R) a.policy.now a.room _ (list_of R) a.low.now a.high.now
-    (too_short (text_of R) (summary-of (goal.at.returns-then-leaves-t c).In-Accepted) (accepted (goal.at.returns-then-leaves-t c).In-Accepted) (length (list_of R)) a.room E.if-t-gt0.false c.if-leaves-t.true)
+    (too_short (text_of R) (summary-of (goal.at.returns-then-leaves-t c).In-Accepted) (accepted (goal.at.returns-then-leaves-t c).In-Accepted) (length (list_of R)) a.room c.if-t-gt0.false c.if-leaves-t.true)
 
 -- where the rollouts are called: at an accepted table without a C, with room for all
 abbrev known_of : Else-leaves-t → In-Accepted
@@ -105,16 +102,14 @@ top-is c = ap (λ (g : Scale). g.top) c.scale_of-g.ensures
 
 pub roll_out-used-requires : goal.roll_out-used-requires
 roll_out-used-requires c =
-    let I = c in
     let G = (goal.at.roll_out-used-requires c).After-scale_of-g in
-    let E = c in
     let K = known_of (goal.at.roll_out-used-requires c).Else-leaves-t in
     let R = read_of K in
     let s = start_of R in
     let y = taken K in
     roll-ready (text_of R) (summary-of K) (accepted K) (replicate 1024 0) (replicate 1024 0) (replicate 1024 0) (replicate 1024 0)
     R.decode.new.kind R.decode.new.stop R.decode.new.height refl refl refl refl y.kinds y.stops y.heights
-    _ _ s.requires.0 (I.start.auto.high ∙ s.requires.1) G.scale_of-g.result.top (top-is (goal.at.roll_out-used-requires c).After-scale_of-g) I.start.ensures (length (list_of R)) (enough (goal.at.roll_out-used-requires c).Else-leaves-t)
+    _ _ s.requires.0 (c.start.auto.high ∙ s.requires.1) G.scale_of-g.result.top (top-is (goal.at.roll_out-used-requires c).After-scale_of-g) c.start.ensures (length (list_of R)) (enough (goal.at.roll_out-used-requires c).Else-leaves-t)
 
 -- ---- what they left
 abbrev scaled : After-roll_out-used → After-scale_of-g
@@ -140,11 +135,10 @@ facts W =
     let K = known_of E in
     let R = read_of K in
     let a = (start_of R).args in
-    let I = W in
     let y = taken K in
     roll-facts (text_of R) (summary-of K) (accepted K) (replicate 1024 0) (replicate 1024 0) (replicate 1024 0) (replicate 1024 0)
     R.decode.new.kind R.decode.new.stop R.decode.new.height refl refl refl refl y.kinds y.stops y.heights
-    _ _ (start_of R).requires.0 (I.start.auto.high ∙ (start_of R).requires.1) G.scale_of-g.result.top (top-is G) I.start.ensures
+    _ _ (start_of R).requires.0 (W.start.auto.high ∙ (start_of R).requires.1) G.scale_of-g.result.top (top-is G) W.start.ensures
     a.policy.now (low_of W) (high-of W) W.roll_out-used.result (list_of R) W.roll_out-used.new.leaves a.room W.if-t-gt0.false W.if-leaves-t.false (enough E) W.roll_out-used.ensures
 
 -- the lowest end is handed on as bits
@@ -162,7 +156,6 @@ bounds-low-0 c = let F = facts (goal.at.bounds-low-0 c).After-roll_out-used in o
 
 pub in_grains-requires : goal.in_grains-requires
 in_grains-requires c =
-    let W = c in
     let K = known_at (goal.at.in_grains-requires c).After-roll_out-used in
     let s = spread (text_of (read_of K)) (summary-of K) (accepted K) in
     let F = facts (goal.at.in_grains-requires c).After-roll_out-used in
@@ -171,7 +164,6 @@ in_grains-requires c =
 pub returns-in-Refused : goal.returns-in-Refused
 returns-in-Refused c =
     let r = c.in-Refused in
-    let R = c in
     let a = (start_of (goal.at.returns-in-Refused c).After-decode).args in
     let v = refused-at (goal.at.returns-in-Refused c).After-decode r.r r.is in
     refuses (text_of (goal.at.returns-in-Refused c).After-decode) a.policy.now a.room r.r (list_of (goal.at.returns-in-Refused c).After-decode) a.low.now a.high.now
@@ -179,7 +171,6 @@ returns-in-Refused c =
 
 pub returns-else-leaves-t : goal.returns-else-leaves-t
 returns-else-leaves-t c =
-    let W = c in
     let K = known_at (goal.at.returns-else-leaves-t c).After-roll_out-used in
     let R = read_of K in
     let t : Summary = summary-of K in
@@ -191,7 +182,7 @@ returns-else-leaves-t c =
     let base = sum ∙ plus_none (t.lowest *ℤ pos t.grain) in
     let small = subst (λ (z : ℤ). mag z ≤ 35184372088832) (sym sum) (base-small t.lowest t.grain s.lowest s.grain) in
     record {
-      answers = (λ i. Done (worth i) W.roll_out-used.result) ∙ F.answers;
+      answers = (λ i. Done (worth i) c.roll_out-used.result) ∙ F.answers;
       nodes = F.nodes;
       fits = fitting (goal.at.returns-else-leaves-t c).Else-leaves-t;
       few = F.few;

@@ -12,41 +12,32 @@ loop-i-init c =
 
 -- the child at entry i
 child : (c : In-loop-i)
-    → let s = c in
-    First s.args.stop.now c.loop-i.i s.args.e (c.loop-i.invariant.1 s.requires.0.nodes s.requires.0.row).nodes
+    → First c.args.stop.now c.loop-i.i c.args.e (c.loop-i.invariant.1 c.requires.0.nodes c.requires.0.row).nodes
 child c =
-    let s = c in
-    count-first (c.loop-i.invariant.1 s.requires.0.nodes s.requires.0.row) c.loop-i-test.true
+    count-first (c.loop-i.invariant.1 c.requires.0.nodes c.requires.0.row) c.loop-i-test.true
 
 pub is_candidate-requires : goal.is_candidate-requires
 is_candidate-requires c =
-    let s = c in
-    (omega (arith, c.loop-i-test.true, s.requires.1), omega (arith, c.loop-i-test.true, s.requires.2))
+    (omega (arith, c.loop-i-test.true, c.requires.1), omega (arith, c.loop-i-test.true, c.requires.2))
 
 pub overflow_add-m : goal.overflow_add-m
 overflow_add-m c =
-    let i = c in
-    let s = c in
-    record { fits = omega (arith, c.one_if-m.ensures, one-or-none c.is_candidate.result, i.loop-i.invariant.0, i.loop-i-test.true, s.requires.0.few) }
+    record { fits = omega (arith, c.one_if-m.ensures, one-or-none c.is_candidate.result, c.loop-i.invariant.0, c.loop-i-test.true, c.requires.0.few) }
 
 pub node_at-i-requires : goal.node_at-i-requires
 node_at-i-requires c =
-    let i = c in
-    let s = c in
-    omega (arith, i.loop-i-test.true, s.requires.0.room)
+    omega (arith, c.loop-i-test.true, c.requires.0.room)
 
 pub loop-i-smaller : goal.loop-i-smaller
 loop-i-smaller c =
-    let i = c in
-    omega (arith, c.node_at-i.ensures, (child (goal.at.loop-i-smaller c).In-loop-i).below, i.loop-i-test.true)
+    omega (arith, c.node_at-i.ensures, (child (goal.at.loop-i-smaller c).In-loop-i).below, c.loop-i-test.true)
 
 pub loop-i-preserved : goal.loop-i-preserved
 loop-i-preserved c =
-    let i = c in
     let t = c.is_candidate in
     let o = c.one_if-m in (
-      omega (arith, i.loop-i.invariant.0, o.ensures, one-or-none t.result, c.node_at-i.ensures, (child (goal.at.loop-i-preserved c).In-loop-i).below),
-      λ F h. count_turn (i.loop-i.invariant.1 F h) i.loop-i-test.true t.result o.result c.node_at-i.result t.ensures o.ensures c.node_at-i.ensures,
+      omega (arith, c.loop-i.invariant.0, o.ensures, one-or-none t.result, c.node_at-i.ensures, (child (goal.at.loop-i-preserved c).In-loop-i).below),
+      λ F h. count_turn (c.loop-i.invariant.1 F h) c.loop-i-test.true t.result o.result c.node_at-i.result t.ensures o.ensures c.node_at-i.ensures,
     )
 
 pub returns : goal.returns

@@ -41,15 +41,13 @@ shape_of-path-then-at8-eq0 c = c.loop-used.invariant.0
 
 pub returns-then-at8-eq0 : goal.returns-then-at8-eq0
 returns-then-at8-eq0 c =
-    let l = c in
     let k = c.at8 in
-    λ H G R. descent-end (l.loop-used.invariant.1 H G R) (omega (arith, (start_of (goal.at.returns-then-at8-eq0 c).At-loop-used).requires.path, l.loop-used.invariant.0)) k.result k.ensures c.if-at8-eq0.true
+    λ H G R. descent-end (c.loop-used.invariant.1 H G R) (omega (arith, (start_of (goal.at.returns-then-at8-eq0 c).At-loop-used).requires.path, c.loop-used.invariant.0)) k.result k.ensures c.if-at8-eq0.true
 
 pub list_node-requires : goal.list_node-requires
 list_node-requires c =
-    let l = c in
     let R = ready (goal.at.list_node-requires c).At-loop-used in
-    (omega (arith, (descent (goal.at.list_node-requires c).At-loop-used).deep, R.some, R.few, (start_of (goal.at.list_node-requires c).At-loop-used).requires.path, l.loop-used.invariant.0), omega (arith, R.some, R.few))
+    (omega (arith, (descent (goal.at.list_node-requires c).At-loop-used).deep, R.some, R.few, (start_of (goal.at.list_node-requires c).At-loop-used).requires.path, c.loop-used.invariant.0), omega (arith, R.some, R.few))
 
 pub bound_at-requires : goal.bound_at-requires
 bound_at-requires c = let R = ready (goal.at.bound_at-requires c).At-loop-used in omega (arith, R.some, R.low)
@@ -90,16 +88,14 @@ overflow_add-c-in-loop-used c = let R = ready (goal.at.overflow_add-c-in-loop-us
 
 pub find-c-requires : goal.find-c-requires
 find-c-requires c =
-    let w = c in
     let l = at_of (goal.at.find-c-requires c).After-node_at-e in
     inner-choice (ready l) (window (goal.at.find-c-requires c).After-node_at-e) (drop l.loop-used.at (start_of l).args.policy.now) c.choice-j.result c.choice-j.ensures
 
 -- where the child was found
 choosing : (c : After-find-c)
-    → let w = c in
-    let l = at_of (goal.at.After-find-c c).After-node_at-e in
+    → let l = at_of (goal.at.After-find-c c).After-node_at-e in
     let a = (start_of l).args in
-    Choosing a.stop.now l.loop-used.c w.node_at-e.result w.max_of-a.result w.min_of-b.result (stored a.low.now a.high.now)
+    Choosing a.stop.now l.loop-used.c c.node_at-e.result c.max_of-a.result c.min_of-b.result (stored a.low.now a.high.now)
     (drop l.loop-used.at a.policy.now) c.choice-j.result c.find-c.result
 choosing c = record { named = c.choice-j.ensures; found = c.find-c.ensures }
 
@@ -111,16 +107,14 @@ overflow_add-depth c =
 
 pub loop-used-smaller : goal.loop-used-smaller
 loop-used-smaller c =
-    let w = c in
     let l = at_of (goal.at.loop-used-smaller c).After-node_at-e in
     let R = ready l in
     omega (arith, R.some, R.stops, descent-later (descent l) (omega (arith, (start_of l).requires.path, l.loop-used.invariant.0)) (window (goal.at.loop-used-smaller c).After-node_at-e) (choosing (goal.at.loop-used-smaller c).After-find-c))
 
 pub loop-used-preserved : goal.loop-used-preserved
 loop-used-preserved c =
-    let w = c in
     let l = at_of (goal.at.loop-used-preserved c).After-node_at-e in
-    let n = w.list_node in (
+    let n = c.list_node in (
       n.auto.list ∙ l.loop-used.invariant.0,
       λ H G R. descent-turn (l.loop-used.invariant.1 H G R) (omega (arith, (start_of l).requires.path, l.loop-used.invariant.0)) (window (goal.at.loop-used-preserved c).After-node_at-e) (choosing (goal.at.loop-used-preserved c).After-find-c) c.consume-at.result c.consume-at.ensures _ n.ensures,
     )

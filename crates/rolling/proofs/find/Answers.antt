@@ -11,17 +11,14 @@ loop-left-init c =
 
 -- what holds at each turn
 sought : (c : At-loop-left)
-    → let s = c in
-    let a = s.args in
-    Seeking a.stop.now a.e a.alpha a.beta (stored a.low.now a.high.now) s.requires.nodes a.j c.loop-left.left c.loop-left.i
+    → let a = c.args in
+    Seeking a.stop.now a.e a.alpha a.beta (stored a.low.now a.high.now) c.requires.nodes a.j c.loop-left.left c.loop-left.i
 sought c =
-    let s = c in
-    c.loop-left.invariant s.requires.nodes s.requires.row s.requires.some
+    c.loop-left.invariant c.requires.nodes c.requires.row c.requires.some
 
 pub is_candidate-t-requires : goal.is_candidate-t-requires
 is_candidate-t-requires c =
-    let s = c in
-    (omega (arith, seek-within (sought c), s.requires.low), omega (arith, seek-within (sought c), s.requires.high))
+    (omega (arith, seek-within (sought c), c.requires.low), omega (arith, seek-within (sought c), c.requires.high))
 
 pub returns-then-t-left : goal.returns-then-t-left
 returns-then-t-left c =
@@ -35,12 +32,10 @@ overflow_sub-left c =
 
 pub node_at-i-requires : goal.node_at-i-requires
 node_at-i-requires c =
-    let l = c in
-    omega (arith, seek-within (sought (goal.at.node_at-i-requires c).At-loop-left), l.requires.room)
+    omega (arith, seek-within (sought (goal.at.node_at-i-requires c).At-loop-left), c.requires.room)
 
 pub loop-left-smaller : goal.loop-left-smaller
 loop-left-smaller c =
-    let l = c in
     omega (arith, c.node_at-i.ensures, (seek-first (sought (goal.at.loop-left-smaller c).At-loop-left)).below, seek-within (sought (goal.at.loop-left-smaller c).At-loop-left))
 
 pub loop-left-preserved : goal.loop-left-preserved

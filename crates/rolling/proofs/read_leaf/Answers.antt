@@ -8,8 +8,7 @@ use Rattle.rolling.proofs.read_leaf.Goals as goal
 
 pub overflow_mul-v : goal.overflow_mul-v
 overflow_mul-v c =
-    let s = c in
-    record { fits = omega (arith, mul_most c.wide32.result s.args.grain 4294967295 16777216 (omega (arith, c.wide32.ensures, c.shared_slice_known-2-1.given s.args.c)) s.requires.3) }
+    record { fits = omega (arith, mul_most c.wide32.result c.args.grain 4294967295 16777216 (omega (arith, c.wide32.ensures, c.shared_slice_known-2-1.given c.args.c)) c.requires.3) }
 
 pub returns : goal.returns
 returns c =

@@ -7,7 +7,6 @@ use Rattle.rolling.proofs.Looped.{Rolling, rolling-begin, rolling-room, rolling-
 use Rattle.rolling.proofs.roll_out.Goals as goal
 use Rattle.rolling.proofs.roll_out.Goals.{After-walk-r, At-loop-path, Start}
 
--- every walk reads a leaf, and there is room for them all
 pub loop-path-init : goal.loop-path-init
 loop-path-init c =
     let a = c.args in
@@ -40,22 +39,19 @@ shape_of-leaves-then-b-a c = c.loop-path.invariant.2
 
 pub returns-then-b-a : goal.returns-then-b-a
 returns-then-b-a c =
-    let l = c in
     let a = c.bound_at-a in
     let b = c.bound_at-b in
     let s = (start_of (goal.at.returns-then-b-a c).At-loop-path).args in
-    λ R. rolling-end s.leaves.now s.policy.now R (l.loop-path.invariant.4 R) a.result b.result a.ensures b.ensures c.if-b-a.true
+    λ R. rolling-end s.leaves.now s.policy.now R (c.loop-path.invariant.4 R) a.result b.result a.ensures b.ensures c.if-b-a.true
 
 pub slice_bounds-walk-end : goal.slice_bounds-walk-end
 slice_bounds-walk-end c = sym c.loop-path.invariant.3
 
 pub walk-r-requires : goal.walk-r-requires
 walk-r-requires c =
-    let e = c in
-    let a = e.bound_at-a in
-    let b = e.bound_at-b in
-    let l = c in
-    (rolling-ready _ _ _ (rolling (goal.at.walk-r-requires c).At-loop-path) a.result b.result a.ensures b.ensures e.if-b-a.false, omega (arith, l.loop-path.invariant.3))
+    let a = c.bound_at-a in
+    let b = c.bound_at-b in
+    (rolling-ready _ _ _ (rolling (goal.at.walk-r-requires c).At-loop-path) a.result b.result a.ensures b.ensures c.if-b-a.false, omega (arith, c.loop-path.invariant.3))
 
 -- after a walk: there is room for its leaf
 abbrev at_of : After-walk-r → At-loop-path
@@ -65,18 +61,16 @@ room : (c : After-walk-r)
     → let l = at_of c in
     (l.loop-path.used < length (start_of l).args.leaves.now) × (l.loop-path.used < 1024) × (c.walk-r.result.leaf < 1024)
 room c =
-    let e = c in
-    let a = e.bound_at-a in
-    let b = e.bound_at-b in
+    let a = c.bound_at-a in
+    let b = c.bound_at-b in
     let L = rolling (at_of c) in (
-      rolling-less _ _ _ L a.result b.result a.ensures b.ensures e.if-b-a.false c.walk-r.result (stored _ _) c.walk-r.ensures,
-      rolling-few _ _ _ L a.result b.result a.ensures b.ensures e.if-b-a.false c.walk-r.result (stored _ _) c.walk-r.ensures,
-      rolling-small _ _ _ L a.result b.result a.ensures b.ensures e.if-b-a.false c.walk-r.result (stored _ _) c.walk-r.ensures,
+      rolling-less _ _ _ L a.result b.result a.ensures b.ensures c.if-b-a.false c.walk-r.result (stored _ _) c.walk-r.ensures,
+      rolling-few _ _ _ L a.result b.result a.ensures b.ensures c.if-b-a.false c.walk-r.result (stored _ _) c.walk-r.ensures,
+      rolling-small _ _ _ L a.result b.result a.ensures b.ensures c.if-b-a.false c.walk-r.result (stored _ _) c.walk-r.ensures,
     )
 
 pub list_node-requires : goal.list_node-requires
 list_node-requires c =
-    let w = c in
     (omega (arith, (room (goal.at.list_node-requires c).After-walk-r).0, (at_of (goal.at.list_node-requires c).After-walk-r).loop-path.invariant.2), (room (goal.at.list_node-requires c).After-walk-r).2)
 
 pub overflow_add-used : goal.overflow_add-used
@@ -87,16 +81,14 @@ loop-path-smaller c = omega (arith, (room (goal.at.loop-path-smaller c).After-wa
 
 pub loop-path-preserved : goal.loop-path-preserved
 loop-path-preserved c =
-    let w = c in
-    let e = c in
-    let a = e.bound_at-a in
-    let b = e.bound_at-b in
+    let a = c.bound_at-a in
+    let b = c.bound_at-b in
     let l = at_of (goal.at.loop-path-preserved c).After-walk-r in
     let s = (start_of l).args in
     let f = c.list_node in (
-      omega (arith, w.walk-r.auto.low, l.loop-path.invariant.0),
-      omega (arith, w.walk-r.auto.high, l.loop-path.invariant.1),
+      omega (arith, c.walk-r.auto.low, l.loop-path.invariant.0),
+      omega (arith, c.walk-r.auto.high, l.loop-path.invariant.1),
       omega (arith, f.auto.list, l.loop-path.invariant.2),
-      omega (arith, w.walk-r.auto.path, l.loop-path.invariant.3),
-      λ R. rolling-on s.leaves.now s.policy.now R (l.loop-path.invariant.4 R) a.result b.result a.ensures b.ensures e.if-b-a.false w.walk-r.result (stored _ _) w.walk-r.ensures _ f.ensures,
+      omega (arith, c.walk-r.auto.path, l.loop-path.invariant.3),
+      λ R. rolling-on s.leaves.now s.policy.now R (l.loop-path.invariant.4 R) a.result b.result a.ensures b.ensures c.if-b-a.false c.walk-r.result (stored _ _) c.walk-r.ensures _ f.ensures,
     )

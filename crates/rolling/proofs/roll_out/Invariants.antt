@@ -14,5 +14,6 @@ invariant-loop-path l =
     × (length l.path ≡ 1024)
     × ((R : ReadyRoll l.kind l.stop l.height l.grain l.n (stored l.initial.low l.initial.high) (length l.initial.leaves)) → Rolling l.initial.leaves l.policy R l.used l.at (stored l.low l.high) l.leaves)
 
+-- every walk reads a leaf, and there is room for them all
 abbrev pub decreases-loop-path : goal.decreases-loop-path
 decreases-loop-path l = length l.initial.leaves - l.used

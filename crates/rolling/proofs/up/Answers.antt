@@ -26,36 +26,31 @@ node_at-c-requires c = omega (arith, c.loop-d-test.true, (climb c).path)
 
 pub at8-requires : goal.at8-requires
 at8-requires c =
-    let i = c in
-    let n = climb-within (climb (goal.at.at8-requires c).In-loop-d) i.loop-d-test.true c.node_at-c.result c.node_at-c.ensures in
+    let n = climb-within (climb (goal.at.at8-requires c).In-loop-d) c.loop-d-test.true c.node_at-c.result c.node_at-c.ensures in
     omega (arith, n, (climb (goal.at.at8-requires c).In-loop-d).kinds)
 
 pub node_at-requires : goal.node_at-requires
 node_at-requires c =
-    let i = c in
-    let n = climb-within (climb (goal.at.node_at-requires c).In-loop-d) i.loop-d-test.true c.node_at-c.result c.node_at-c.ensures in
+    let n = climb-within (climb (goal.at.node_at-requires c).In-loop-d) c.loop-d-test.true c.node_at-c.result c.node_at-c.ensures in
     omega (arith, n, (climb (goal.at.node_at-requires c).In-loop-d).stops)
 
 pub update-requires : goal.update-requires
 update-requires c =
-    let i = c in
     let s = c.node_at-c in
-    climb-children (climb (goal.at.update-requires c).In-loop-d) i.loop-d-test.true s.result s.ensures c.node_at.result c.node_at.ensures
+    climb-children (climb (goal.at.update-requires c).In-loop-d) c.loop-d-test.true s.result s.ensures c.node_at.result c.node_at.ensures
 
 pub loop-d-smaller : goal.loop-d-smaller
 loop-d-smaller c = omega (arith, c.loop-d-test.true)
 
 pub loop-d-preserved : goal.loop-d-preserved
 loop-d-preserved c =
-    let U = c in
-    let i = c in
-    let l = i.loop-d in
+    let l = c.loop-d in
     let s = c.node_at-c in
     let k = c.at8 in
-    let e = U.node_at in (
-      U.update.auto.low ∙ l.invariant.0,
-      U.update.auto.high ∙ l.invariant.1,
-      λ C. climbing-on C (l.invariant.2 C) i.loop-d-test.true s.result s.ensures k.result k.ensures e.result e.ensures _ _ U.update.ensures.0 U.update.ensures.1,
+    let e = c.node_at in (
+      c.update.auto.low ∙ l.invariant.0,
+      c.update.auto.high ∙ l.invariant.1,
+      λ C. climbing-on C (l.invariant.2 C) c.loop-d-test.true s.result s.ensures k.result k.ensures e.result e.ensures _ _ c.update.ensures.0 c.update.ensures.1,
     )
 
 pub shape_of-low : goal.shape_of-low

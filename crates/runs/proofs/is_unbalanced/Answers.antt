@@ -13,9 +13,8 @@ returns-then-kind-i-ne3 c =
 
 pub sum_weights-sum-requires : goal.sum_weights-sum-requires
 sum_weights-sum-requires c =
-    let s = c in
-    let a = s.args in
-    let p = s.requires in
+    let a = c.args in
+    let p = c.requires in
     let h = p.5 in
     let S : Slices = record { kinds = a.kind.now; stops = a.stop.now; weights = a.weight.now; heights = h.heights } in
     let u = spans-under S 0 a.n h.forest h.spans a.i (omega arith) p.0 (λ z. omega (arith, z, c.if-kind-i-ne3.false)) in

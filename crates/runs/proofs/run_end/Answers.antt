@@ -19,9 +19,8 @@ overflow_add-c c = let p = c.requires in omega (arith, p.0, p.3)
 -- the last node
 pub returns-then-n-c : goal.returns-then-n-c
 returns-then-n-c c =
-    let s = c in
-    let a = s.args in
-    stop-last (take a.n a.up.now) a.i (a.i + 1) refl (omega (arith, length-take-le a.n a.up.now s.requires.1, c.if-n-c.true))
+    let a = c.args in
+    stop-last (take a.n a.up.now) a.i (a.i + 1) refl (omega (arith, length-take-le a.n a.up.now c.requires.1, c.if-n-c.true))
 
 pub offset_bounds-up-c : goal.offset_bounds-up-c
 offset_bounds-up-c c = let p = c.requires in omega (arith, p.0, p.3)
@@ -70,11 +69,10 @@ bounds-up-j c = omega arith
 
 pub returns-then-index-i-2 : goal.returns-then-index-i-2
 returns-then-index-i-2 c =
-    let l = c in
     let a = (start_of (goal.at.returns-then-index-i-2 c).After-index).args in
     let up = a.up.now in
-    let w = within a.n up l.loop-j.invariant.2 l.loop-j.j (omega (arith, c.loop-j-test.true)) in
-    stop-here (take a.n up) a.i l.loop-j.j l.loop-j.invariant.6 w.0 (omega (arith, w.1, c.index-in-loop-j.ensures, c.if-index-i-2.true))
+    let w = within a.n up c.loop-j.invariant.2 c.loop-j.j (omega (arith, c.loop-j-test.true)) in
+    stop-here (take a.n up) a.i c.loop-j.j c.loop-j.invariant.6 w.0 (omega (arith, w.1, c.index-in-loop-j.ensures, c.if-index-i-2.true))
 
 pub offset_bounds-stop-j : goal.offset_bounds-stop-j
 offset_bounds-stop-j c = omega arith
@@ -84,18 +82,16 @@ bounds-stop-j c = omega arith
 
 -- the next node is one past a child's run
 next-is : (c : After-index-j)
-    → let l = c in
-    let a = (start_of (goal.at.After-index-j c).After-index).args in
-    (l.loop-j.j < length (take a.n a.up.now)) × (a.i ≤ get_or (take a.n a.up.now) l.loop-j.j 0) × (c.index-j.result ≡ stop_in (take a.n a.up.now) l.loop-j.j) × (stop_in (take a.n a.up.now) l.loop-j.j ≤ a.n)
+    → let a = (start_of (goal.at.After-index-j c).After-index).args in
+    (c.loop-j.j < length (take a.n a.up.now)) × (a.i ≤ get_or (take a.n a.up.now) c.loop-j.j 0) × (c.index-j.result ≡ stop_in (take a.n a.up.now) c.loop-j.j) × (stop_in (take a.n a.up.now) c.loop-j.j ≤ a.n)
 next-is c =
-    let l = c in
     let a = (start_of (goal.at.After-index-j c).After-index).args in
     let up = a.up.now in
-    let w = within a.n up l.loop-j.invariant.2 l.loop-j.j (omega (arith, c.loop-j-test.true)) in (
+    let w = within a.n up c.loop-j.invariant.2 c.loop-j.j (omega (arith, c.loop-j-test.true)) in (
       w.0,
       omega (arith, w.1, c.index-in-loop-j.ensures, c.if-index-i-2.false),
-      c.index-j.ensures ∙ l.loop-j.invariant.5 l.loop-j.j (omega (arith, l.loop-j.invariant.0)) w.0,
-      omega (arith, stop-within (take a.n up) a.i l.loop-j.j l.loop-j.invariant.6 w.0, length-take-le a.n up l.loop-j.invariant.2),
+      c.index-j.ensures ∙ c.loop-j.invariant.5 c.loop-j.j (omega (arith, c.loop-j.invariant.0)) w.0,
+      omega (arith, stop-within (take a.n up) a.i c.loop-j.j c.loop-j.invariant.6 w.0, length-take-le a.n up c.loop-j.invariant.2),
     )
 
 pub loop-j-smaller : goal.loop-j-smaller
@@ -105,9 +101,8 @@ loop-j-smaller c =
 
 pub loop-j-preserved : goal.loop-j-preserved
 loop-j-preserved c =
-    let l = c in
     let a = (start_of (goal.at.loop-j-preserved c).After-index).args in
-    let v = l.loop-j.invariant in
+    let v = c.loop-j.invariant in
     let e = next-is c in (
       omega (arith, e.2, v.0),
       omega (arith, e.2, e.3),
@@ -115,11 +110,10 @@ loop-j-preserved c =
       v.3,
       v.4,
       v.5,
-      rw e.2 (stop-on (take a.n a.up.now) a.i l.loop-j.j v.6 e.0 e.1 (omega (arith, v.0))),
+      rw e.2 (stop-on (take a.n a.up.now) a.i c.loop-j.j v.6 e.0 e.1 (omega (arith, v.0))),
     )
 
 pub returns : goal.returns
 returns c =
-    let l = c in
     let a = (start_of (goal.at.returns c).After-index).args in
-    stop-last (take a.n a.up.now) a.i l.loop-j.j l.loop-j.invariant.6 (omega (arith, length-take-le a.n a.up.now l.loop-j.invariant.2, c.loop-j-test.false))
+    stop-last (take a.n a.up.now) a.i c.loop-j.j c.loop-j.invariant.6 (omega (arith, length-take-le a.n a.up.now c.loop-j.invariant.2, c.loop-j-test.false))

@@ -17,8 +17,7 @@ sum_is : (c : After-sum_weights)
     → let a = c.args in
     c.sum_weights.result ≡ weigh_at a.stop.now a.weight.now 1024 (a.i + 1) (get_or a.stop.now a.i 0)
 sum_is c =
-    let b = c in
-    rw b.requires.5 c.sum_weights.ensures
+    rw c.requires.5 c.sum_weights.ensures
 
 pub returns-then-sum_weights-total : goal.returns-then-sum_weights-total
 returns-then-sum_weights-total c =

@@ -10,12 +10,10 @@ use Rattle.scale.proofs.scale_of.Goals.{After-span_of}
 pub overflow_mul-top : goal.overflow_mul-top
 overflow_mul-top c =
     let N = (goal.at.overflow_mul-top c).After-span_of in
-    let s = c in
-    let m : N.span_of.result * s.args.t.grain ≤ 2000002 * 16777216 = mul-le-mul N.span_of.ensures.1 s.requires.grain in
+    let m : N.span_of.result * c.args.t.grain ≤ 2000002 * 16777216 = mul-le-mul N.span_of.ensures.1 c.requires.grain in
     record { fits = omega (arith, m) }
 
 pub returns : goal.returns
 returns c =
-    let N = c in
-    let t : Summary = N.args.t in
-    ap (λ (n : ℕ). record { grain = t.grain; top = n * t.grain }) N.span_of.ensures.0
+    let t : Summary = c.args.t in
+    ap (λ (n : ℕ). record { grain = t.grain; top = n * t.grain }) c.span_of.ensures.0

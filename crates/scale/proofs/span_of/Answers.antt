@@ -25,7 +25,6 @@ overflow_sub-t c = rw (back (goal.at.overflow_sub-t c).Start) (sfits_of (omega (
 
 pub returns : goal.returns
 returns c =
-    let s = c in
-    let z : ℤ = s.args.t.highest -ℤ s.args.t.lowest in
+    let z : ℤ = c.args.t.highest -ℤ c.args.t.lowest in
     let is : c.natural.result ≡ to_nat z = c.natural.ensures ∙ ap to_nat (ap (λ (z : ℤ). to_z w64 (of_z w64 z)) (back (goal.at.returns c).Start) ∙ read_back z (omega (arith, rise (goal.at.returns c).Start))) in
     (is, omega (arith, is, nat-mag z, rise (goal.at.returns c).Start))

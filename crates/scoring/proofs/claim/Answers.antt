@@ -20,7 +20,7 @@ pub returns-then-n-lt1 : goal.returns-then-n-lt1
 returns-then-n-lt1 c = claim-low c.args.f (omega (arith, c.if-n-lt1.true, count-is (goal.at.returns-then-n-lt1 c).After-natural-n))
 
 pub returns-then-n-gt1024 : goal.returns-then-n-gt1024
-returns-then-n-gt1024 c = let N = c in claim-high N.args.f (omega (arith, c.if-n-lt1.false, count-is (goal.at.returns-then-n-gt1024 c).After-natural-n)) (omega (arith, c.if-n-gt1024.true, count-is (goal.at.returns-then-n-gt1024 c).After-natural-n))
+returns-then-n-gt1024 c = claim-high c.args.f (omega (arith, c.if-n-lt1.false, count-is (goal.at.returns-then-n-gt1024 c).After-natural-n)) (omega (arith, c.if-n-gt1024.true, count-is (goal.at.returns-then-n-gt1024 c).After-natural-n))
 
 pub returns : goal.returns
-returns c = let N = c in count-is (goal.at.returns c).After-natural-n ∙ claim-is N.args.f (omega (arith, c.if-n-lt1.false, count-is (goal.at.returns c).After-natural-n)) (omega (arith, c.if-n-gt1024.false, count-is (goal.at.returns c).After-natural-n))
+returns c = count-is (goal.at.returns c).After-natural-n ∙ claim-is c.args.f (omega (arith, c.if-n-lt1.false, count-is (goal.at.returns c).After-natural-n)) (omega (arith, c.if-n-gt1024.false, count-is (goal.at.returns c).After-natural-n))

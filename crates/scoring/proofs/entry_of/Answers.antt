@@ -8,7 +8,7 @@ use Rattle.scoring.proofs.entry_of.Goals as goal
 use Rattle.scoring.proofs.entry_of.Goals.{Start}
 
 pub loss_of-requires : goal.loss_of-requires
-loss_of-requires c = let a = c in subst (SmallOpinion a.args.grain) c.in-Given.is a.requires
+loss_of-requires c = subst (SmallOpinion c.args.grain) c.in-Given.is c.requires
 
 -- by the case of the opinion
 entry : (s : Start) (o : Opinion) → s.args.o ≡ o → entry_as s.args.kind s.args.grain s.args.size o ≡ entry_as s.args.kind s.args.grain s.args.size s.args.o
@@ -19,6 +19,5 @@ returns-in-Refused c = entry (goal.at.returns-in-Refused c).Start _ c.in-Refused
 
 pub returns-in-Given : goal.returns-in-Given
 returns-in-Given c =
-    let s = c in
-    ap (λ (l : Loss). Entry (record { kind = s.args.kind; loss = l }) s.args.size) c.loss_of.ensures
+    ap (λ (l : Loss). Entry (record { kind = c.args.kind; loss = l }) c.args.size) c.loss_of.ensures
     ∙ entry (goal.at.returns-in-Given c).Start _ c.in-Given.is

@@ -18,8 +18,7 @@ returns-then-s-ne10 c = play-newline c.args.s.now c.if-s-lt30.false c.if-s-ne10.
 -- by the field that was read
 field_told : (R : After-read) (f : Field) → R.read.result ≡ f → (is_ill f || is_blank f) ≡ bad_start R.args.s.now
 field_told R f e =
-    let E = R in
-    play-field E.args.s.now E.if-s-lt30.false E.if-s-ne10.false f (sym R.read.ensures ∙ e)
+    play-field R.args.s.now R.if-s-lt30.false R.if-s-ne10.false f (sym R.read.ensures ∙ e)
 
 pub returns-in-Blank : goal.returns-in-Blank
 returns-in-Blank c = field_told (goal.at.returns-in-Blank c).After-read Blank c.in-Blank.is

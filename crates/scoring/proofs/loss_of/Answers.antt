@@ -9,7 +9,7 @@ use Rattle.scoring.proofs.loss_of.Goals as goal
 use Rattle.scoring.proofs.loss_of.Goals.{Start}
 
 pub in_thousandths-requires : goal.in_thousandths-requires
-in_thousandths-requires c = let a = c in subst (SmallJudged a.args.grain) c.in-Loss.is a.requires
+in_thousandths-requires c = subst (SmallJudged c.args.grain) c.in-Loss.is c.requires
 
 -- by the case of the judgement
 listed : (s : Start) (j : Judged) → s.args.j ≡ j → loss_of s.args.grain (judged_of j) ≡ loss_of s.args.grain (judged_of s.args.j)
@@ -20,5 +20,4 @@ returns-in-NoDecision c = listed (goal.at.returns-in-NoDecision c).Start _ c.in-
 
 pub returns-in-Loss : goal.returns-in-Loss
 returns-in-Loss c =
-    let s = c in
     ap Thousandths c.in_thousandths.ensures ∙ listed (goal.at.returns-in-Loss c).Start _ c.in-Loss.is

@@ -65,21 +65,17 @@ overflow_add-size c = record { fits = omega (arith, few c) }
 
 pub returns-then-s-size : goal.returns-then-s-size
 returns-then-s-size c =
-    let K = c in
     let E = (goal.at.returns-then-s-size c).Else-is_bad_start in
     sym (ap (said (size_of (part (goal.at.returns-then-s-size c).After-is_bad_start))) (lines-missing (part (goal.at.returns-then-s-size c).After-is_bad_start) (well E) (nodes (goal.at.returns-then-s-size c).In-Nodes) (is-nodes (goal.at.returns-then-s-size c).In-Nodes) (omega (arith, c.if-s-size.true, size_is (goal.at.returns-then-s-size c).In-Nodes))))
 
 pub returns-in-Refused : goal.returns-in-Refused
 returns-in-Refused c =
-    let N = c in
-    let E = c in
     let r = c.in-Refused in
     sym (ap (said (size_of (part (goal.at.returns-in-Refused c).After-is_bad_start))) (head-stops (part (goal.at.returns-in-Refused c).After-is_bad_start) (well (goal.at.returns-in-Refused c).Else-is_bad_start) r.r (counts (goal.at.returns-in-Refused c).After-count_nodes (Count.TheVariants.Refused r.r) r.is)))
 
 pub returns-else-s-size : goal.returns-else-s-size
 returns-else-s-size c =
     let F = (goal.at.returns-else-s-size c).Else-s-size in
-    let K = c in
     let E = (goal.at.returns-else-s-size c).Else-is_bad_start in
     let s = part (goal.at.returns-else-s-size c).After-is_bad_start in
     let z = c.value in

@@ -40,7 +40,7 @@ taken : (c : In-Accepted)
 taken c = taken-by (text_of (read_of c)) (read_of c).decode.ensures c.in-Accepted.is
 
 pub judge_table-o-requires : goal.judge_table-o-requires
-judge_table-o-requires c = let S = c in whole-at (taken (goal.at.judge_table-o-requires c).In-Accepted) S.scale_of-g.ensures
+judge_table-o-requires c = whole-at (taken (goal.at.judge_table-o-requires c).In-Accepted) c.scale_of-g.ensures
 
 -- ---- the judgement
 abbrev scale_at : After-judge_table-o → After-scale_of-g
@@ -63,16 +63,14 @@ entry_of-requires c = let K = (goal.at.entry_of-requires c).In-Accepted in small
 pub returns-in-Refused : goal.returns-in-Refused
 returns-in-Refused c =
     let r = c.in-Refused in
-    let R = c in
     ap (λ (v : Verdict Table). said (start (goal.at.returns-in-Refused c).After-decode).args.size (next v (λ (t : Table). next (judge t (number_of (goal.at.returns-in-Refused c).After-decode)) (λ (j : Judgement). fine (row_of t j)))))
-    (sym (refused-by (text_of (goal.at.returns-in-Refused c).After-decode) R.decode.result r.r _ _ _ _ R.decode.ensures r.is))
+    (sym (refused-by (text_of (goal.at.returns-in-Refused c).After-decode) c.decode.result r.r _ _ _ _ c.decode.ensures r.is))
 
 pub returns-in-Accepted : goal.returns-in-Accepted
 returns-in-Accepted c =
-    let J = c in
     let K = (goal.at.returns-in-Accepted c).In-Accepted in
     let R = read_of K in
-    c.entry_of.ensures ∙ row_at (taken K) (number_of R) J.judge_table-o.result (given (goal.at.returns-in-Accepted c).After-judge_table-o) (start R).args.size
+    c.entry_of.ensures ∙ row_at (taken K) (number_of R) c.judge_table-o.result (given (goal.at.returns-in-Accepted c).After-judge_table-o) (start R).args.size
 
 pub scale_of-g-requires : goal.scale_of-g-requires
 scale_of-g-requires c = spread_at (taken c)

@@ -9,7 +9,7 @@ use Rattle.search_call.proofs.reads_of.Goals.{After-natural-b}
 
 -- the budget as a count
 counted : (c : After-natural-b) → c.natural-b.result ≡ to_nat c.args.budget
-counted c = let s = c in c.natural-b.ensures ∙ ap to_nat (to_z-of_z w64 s.args.budget s.ranges.budget)
+counted c = c.natural-b.ensures ∙ ap to_nat (to_z-of_z w64 c.args.budget c.ranges.budget)
 
 pub returns-then-b-room : goal.returns-then-b-room
 returns-then-b-room c = omega (arith, counted (goal.at.returns-then-b-room c).After-natural-b, c.if-b-room.true)

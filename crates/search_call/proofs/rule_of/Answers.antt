@@ -8,6 +8,5 @@ use Rattle.search_call.proofs.rule_of.Goals as goal
 
 pub returns : goal.returns
 returns c =
-    let s = c in
-    ap (λ (n : ℕ). record { margin = n; grain = s.args.s.grain })
-    (c.natural.ensures ∙ ap to_nat (to_z-of_z w64 s.args.margin s.ranges.margin))
+    ap (λ (n : ℕ). record { margin = n; grain = c.args.s.grain })
+    (c.natural.ensures ∙ ap to_nat (to_z-of_z w64 c.args.margin c.ranges.margin))

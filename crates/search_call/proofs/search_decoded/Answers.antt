@@ -40,13 +40,11 @@ slice_bounds-search-end-2 c = omega (arith, most-is (goal.at.slice_bounds-search
 
 pub slice_bounds-search-end-3 : goal.slice_bounds-search-end-3
 slice_bounds-search-end-3 c =
-    let N = c in
     let S = start_of (goal.at.slice_bounds-search-end-3 c).After-ends_of-v in
-    sym (part_length N.reads_of-n.result (to_nat S.args.budget) S.args.leaves.now (most-is (goal.at.slice_bounds-search-end-3 c).After-reads_of-n))
+    sym (part_length c.reads_of-n.result (to_nat S.args.budget) S.args.leaves.now (most-is (goal.at.slice_bounds-search-end-3 c).After-reads_of-n))
 
 pub search-f-requires : goal.search-f-requires
 search-f-requires c =
-    let L = c in
     let S = start_of (goal.at.search-f-requires c).After-ends_of-v in
     search-ready S.requires.taken S.args.margin S.args.budget S.requires.margin S.requires.budget (rule-is (goal.at.search-f-requires c).After-ends_of-v) (ends-are (goal.at.search-f-requires c).After-ends_of-v)
 
@@ -64,7 +62,6 @@ small W =
 
 pub bounds_of-requires : goal.bounds_of-requires
 bounds_of-requires c =
-    let W = c in
     let u = small (goal.at.bounds_of-requires c).After-search-f in
     (spread_at (start_of (goal.at.bounds_of-requires c).After-ends_of-v).requires.taken, u.0, u.1, u.2)
 
@@ -73,13 +70,12 @@ scale_of-s-requires c = spread_at c.requires.taken
 
 pub returns : goal.returns
 returns c s G =
-    let W = c in
     let N = most-at (goal.at.returns c).After-search-f in
     let L = (goal.at.returns c).After-ends_of-v in
     let S = start_of L in
-    let f : Found = W.search-f.result in
-    let leaves : List ℕ = W.search-f.new.leaves in (
+    let f : Found = c.search-f.result in
+    let leaves : List ℕ = c.search-f.new.leaves in (
       ap Given c.bounds_of.ensures
-          ∙ given-at G S.args.margin S.args.budget S.requires.margin S.requires.budget (rule-is L) (ends-are L) f N.reads_of-n.result S.args.leaves.now leaves (most-is N) S.requires.long W.search-f.ensures,
-      reads_at G S.args.margin S.args.budget S.requires.margin S.requires.budget (rule-is L) (ends-are L) f N.reads_of-n.result S.args.leaves.now leaves (most-is N) S.requires.long W.search-f.ensures,
+          ∙ given-at G S.args.margin S.args.budget S.requires.margin S.requires.budget (rule-is L) (ends-are L) f N.reads_of-n.result S.args.leaves.now leaves (most-is N) S.requires.long c.search-f.ensures,
+      reads_at G S.args.margin S.args.budget S.requires.margin S.requires.budget (rule-is L) (ends-are L) f N.reads_of-n.result S.args.leaves.now leaves (most-is N) S.requires.long c.search-f.ensures,
     )

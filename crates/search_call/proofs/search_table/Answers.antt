@@ -14,13 +14,12 @@ use Rattle.search_call.proofs.search_table.Goals as goal
 
 pub returns : goal.returns
 returns c =
-    let S = c in
     let W = c.search_within in
-    let text : List ℕ = S.args.text.now in
-    let came : List ℕ = S.args.leaves.now in
-    let m = to_z-of_z w64 S.args.margin S.ranges.margin in record {
-      answers = W.ensures.answers ∙ ap (λ (z : ℤ). within_call (read_text text) z (pos 1024) (length came)) m ∙ default-call text S.args.margin (length came);
+    let text : List ℕ = c.args.text.now in
+    let came : List ℕ = c.args.leaves.now in
+    let m = to_z-of_z w64 c.args.margin c.ranges.margin in record {
+      answers = W.ensures.answers ∙ ap (λ (z : ℤ). within_call (read_text text) z (pos 1024) (length came)) m ∙ default-call text c.args.margin (length came);
       lists = W.ensures.lists
           ∙ ap (λ (z : ℤ). laid (within_reads (read_text text) z (pos 1024) (length came)) came) m
-          ∙ ap (λ (l : List ℕ). laid l came) (default-reads text S.args.margin (length came));
+          ∙ ap (λ (l : List ℕ). laid l came) (default-reads text c.args.margin (length came));
     }

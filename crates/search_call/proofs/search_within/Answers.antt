@@ -70,8 +70,7 @@ refusing : (R : After-decode) (v : Verdict Sought) → sought_within (read_text 
 refusing R v e = (sym (ap search_answer e), sym (ap (λ (x : Verdict Sought). laid (search_list x) (list_of R)) e))
 
 pub returns-then-is_beyond : goal.returns-then-is_beyond
-returns-then-is_beyond c = let all = let K = c in
-    let R = read_of (goal.at.returns-then-is_beyond c).In-Accepted in
+returns-then-is_beyond c = let all = let R = read_of (goal.at.returns-then-is_beyond c).In-Accepted in
     refusing R (refused BadMargin) (bad-margin (taken (goal.at.returns-then-is_beyond c).In-Accepted) (margin-of R) (budget-of R) (length (list_of R)) (sym (tested (goal.at.returns-then-is_beyond c).After-is_beyond) ∙ c.if-is_beyond.true)) in record { answers = all.0; lists = all.1 }
 
 -- past the first refusal, and past the second
@@ -82,15 +81,11 @@ good-budget : (E : Else-is_beyond-2) → bad_budget (budget-of (goal.at.Else-is_
 good-budget E = sym (counted (goal.at.Else-is_beyond-2 E).After-is_beyond-in-Accepted) ∙ E.if-is_beyond-2.false
 
 pub returns-then-is_beyond-2 : goal.returns-then-is_beyond-2
-returns-then-is_beyond-2 c = let all = let E = c in
-    let K = c in
-    let R = read_of (goal.at.returns-then-is_beyond-2 c).In-Accepted in
+returns-then-is_beyond-2 c = let all = let R = read_of (goal.at.returns-then-is_beyond-2 c).In-Accepted in
     refusing R (refused BadBudget) (bad-budget (taken (goal.at.returns-then-is_beyond-2 c).In-Accepted) (margin-of R) (budget-of R) (length (list_of R)) (good-margin (goal.at.returns-then-is_beyond-2 c).Else-is_beyond) (sym (counted (goal.at.returns-then-is_beyond-2 c).After-is_beyond-in-Accepted) ∙ c.if-is_beyond-2.true)) in record { answers = all.0; lists = all.1 }
 
 pub returns-then-leaves-t : goal.returns-then-leaves-t
-returns-then-leaves-t c = let all = let E = c in
-    let K = c in
-    let R = read_of (goal.at.returns-then-leaves-t c).In-Accepted in
+returns-then-leaves-t c = let all = let R = read_of (goal.at.returns-then-leaves-t c).In-Accepted in
     refusing R (refused NoRoom)
     (no_room (taken (goal.at.returns-then-leaves-t c).In-Accepted) (margin-of R) (budget-of R) (length (list_of R)) (good-margin (goal.at.returns-then-leaves-t c).Else-is_beyond) (good-budget (goal.at.returns-then-leaves-t c).Else-is_beyond-2) c.if-leaves-t.true) in record { answers = all.0; lists = all.1 }
 
@@ -119,13 +114,11 @@ search_decoded-requires c =
 
 pub returns-in-Refused : goal.returns-in-Refused
 returns-in-Refused c = let all = let r = c.in-Refused in
-    let R = c in
     let v = refused-at (goal.at.returns-in-Refused c).After-decode r.r r.is in
     refusing (goal.at.returns-in-Refused c).After-decode (refused r.r) (ap (λ (v : Verdict Table). sought_within v (margin-of (goal.at.returns-in-Refused c).After-decode) (budget-of (goal.at.returns-in-Refused c).After-decode) (length (list_of (goal.at.returns-in-Refused c).After-decode))) v) in record { answers = all.0; lists = all.1 }
 
 pub returns-else-leaves-t : goal.returns-else-leaves-t
-returns-else-leaves-t c = let all = let W = c in
-    let K = known_of (goal.at.returns-else-leaves-t c).After-search_decoded-arg-1 in
+returns-else-leaves-t c = let all = let K = known_of (goal.at.returns-else-leaves-t c).After-search_decoded-arg-1 in
     let S = start_of (read_of K) in
     rw (to_z-of_z w64 S.args.margin S.ranges.margin, to_z-of_z w64 S.args.budget S.ranges.budget) at
-    (W.search_decoded.ensures (text_of (read_of K)) (taken K)) in record { answers = all.0; lists = all.1 }
+    (c.search_decoded.ensures (text_of (read_of K)) (taken K)) in record { answers = all.0; lists = all.1 }

@@ -28,5 +28,4 @@ grains_at-t-requires c = let h = there (goal.at.grains_at-t-requires c).Else-top
 
 pub returns : goal.returns
 returns c =
-    let E = c in
-    rw (ne_eqb _ 0 E.if-tops-eq0.false) (λ i. record { bottom = c.grains_at-b.ensures i; top = c.grains_at-t.ensures i })
+    rw (ne_eqb _ 0 c.if-tops-eq0.false) (λ i. record { bottom = c.grains_at-b.ensures i; top = c.grains_at-t.ensures i })

@@ -44,11 +44,8 @@ good-margin E = sym (E.is_beyond.ensures ∙ ap bad_margin (back (goal.at.Else-i
 -- it could be searched within any budget
 pub searches-requires : goal.searches-requires
 searches-requires c =
-    let L = c in
-    let S = c in
-    let K = c in
-    search-ready (taken (goal.at.searches-requires c).In-Accepted) (margin-of (goal.at.searches-requires c).In-Accepted) (pos 0) (good-margin (goal.at.searches-requires c).Else-is_beyond) refl (L.rule_of-g.ensures ∙ ap₂ rule_for S.scale_of-s.ensures (back (goal.at.searches-requires c).In-Accepted))
-    (L.ends_of-v.ensures ∙ ap ends_for S.scale_of-s.ensures)
+    search-ready (taken (goal.at.searches-requires c).In-Accepted) (margin-of (goal.at.searches-requires c).In-Accepted) (pos 0) (good-margin (goal.at.searches-requires c).Else-is_beyond) refl (c.rule_of-g.ensures ∙ ap₂ rule_for c.scale_of-s.ensures (back (goal.at.searches-requires c).In-Accepted))
+    (c.ends_of-v.ensures ∙ ap ends_for c.scale_of-s.ensures)
 
 pub scale_of-s-requires : goal.scale_of-s-requires
 scale_of-s-requires c = spread_at (taken (goal.at.scale_of-s-requires c).In-Accepted)

@@ -17,15 +17,13 @@ use Rattle.turn.proofs.turn.Goals as goal
 
 pub put_header-requires : goal.put_header-requires
 put_header-requires c =
-    let s = c in
-    (omega (arith, s.requires.1), s.requires.2, subst Ranged (sym c.turned_head.ensures) (ranged-turned s.args.h s.requires.3))
+    (omega (arith, c.requires.1), c.requires.2, subst Ranged (sym c.turned_head.ensures) (ranged-turned c.args.h c.requires.3))
 
 pub returns : goal.returns
 returns c =
-    let s = c in
-    let a = s.args in
+    let a = c.args in
     let d : List ℕ = a.buffer.now in
     let rows : List ℕ = turned_rows a.n (drop 25 a.text.now) in
     c.turn_lines.ensures
     ∙ ap (λ (l : List ℕ). sets l 25 rows) (c.put_header.ensures ∙ ap (λ (h : Head). sets d 0 (header_text h a.n)) c.turned_head.ensures)
-    ∙ sym (part-stored d (header_text (turn_head a.h) a.n) rows 0 25 25 (head-again (turn_head a.h) a.n (ranged-turned a.h s.requires.3) (omega (arith, s.requires.2))).2 refl)
+    ∙ sym (part-stored d (header_text (turn_head a.h) a.n) rows 0 25 25 (head-again (turn_head a.h) a.n (ranged-turned a.h c.requires.3) (omega (arith, c.requires.2))).2 refl)

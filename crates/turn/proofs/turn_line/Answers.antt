@@ -25,7 +25,7 @@ handed c =
     λ j. record { number = number j; letter = letter j; parent = parent j; weight = weight j; utility = utility j }
 
 pub put_entry-requires : goal.put_entry-requires
-put_entry-requires c = let s = c in (s.requires.1, subst Roomy (sym (handed c)) s.requires.2)
+put_entry-requires c = (c.requires.1, subst Roomy (sym (handed c)) c.requires.2)
 
 pub returns : goal.returns
 returns c =

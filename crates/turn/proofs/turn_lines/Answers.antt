@@ -6,9 +6,8 @@ use Rattle.turn.proofs.turn_lines.Goals as goal
 
 pub loop-i-init : goal.loop-i-init
 loop-i-init c =
-    let s = c in
-    let z : s.args.n - 0 ≡ s.args.n = omega arith in
-    rw z (omega arith, s.requires.2, s.requires.0, s.requires.1, refl, s.requires.3, refl)
+    let z : c.args.n - 0 ≡ c.args.n = omega arith in
+    rw z (omega arith, c.requires.2, c.requires.0, c.requires.1, refl, c.requires.3, refl)
 
 pub overflow_mul-at : goal.overflow_mul-at
 overflow_mul-at c = let v = c.loop-i.invariant in record { fits = omega (arith, v.0, v.1) }
@@ -24,11 +23,10 @@ slice_bounds-turn_line-count c = omega arith
 
 pub turn_line-requires : goal.turn_line-requires
 turn_line-requires c =
-    let l = c in
-    let a = l.args in
-    let v = l.loop-i.invariant in
+    let a = c.args in
+    let v = c.loop-i.invariant in
     let t = c.loop-i-test.true in
-    (part-long a.text.now l.loop-i.i (omega (arith, v.2, t)), omega (arith, v.3, v.4, t), row-roomy a.text.now a.n l.loop-i.i t v.5)
+    (part-long a.text.now c.loop-i.i (omega (arith, v.2, t)), omega (arith, v.3, v.4, t), row-roomy a.text.now a.n c.loop-i.i t v.5)
 
 pub overflow_add-i : goal.overflow_add-i
 overflow_add-i c = let v = c.loop-i.invariant in record { fits = omega (arith, v.0, v.1) }
@@ -38,9 +36,8 @@ loop-i-smaller c = omega (arith, c.loop-i-test.true)
 
 pub loop-i-preserved : goal.loop-i-preserved
 loop-i-preserved c =
-    let l = c in
-    let a = l.args in
-    let v = l.loop-i.invariant in
+    let a = c.args in
+    let v = c.loop-i.invariant in
     let t = c.loop-i-test.true in
     let k = c.turn_line in (
       omega arith,
@@ -48,8 +45,8 @@ loop-i-preserved c =
       v.2,
       v.3,
       k.auto.buffer ∙ v.4,
-      rows-after a.text.now a.n l.loop-i.i t v.5,
-      v.6 ∙ rows-stored a.text.now a.n l.loop-i.i t v.5 l.loop-i.buffer _ k.ensures,
+      rows-after a.text.now a.n c.loop-i.i t v.5,
+      v.6 ∙ rows-stored a.text.now a.n c.loop-i.i t v.5 c.loop-i.buffer _ k.ensures,
     )
 
 pub shape_of-buffer : goal.shape_of-buffer
@@ -57,6 +54,5 @@ shape_of-buffer c = c.loop-i.invariant.4
 
 pub returns : goal.returns
 returns c =
-    let l = c in
-    let a = l.args in
-    sym (l.loop-i.invariant.6 ∙ rows-done a.text.now a.n l.loop-i.i c.loop-i-test.false l.loop-i.buffer)
+    let a = c.args in
+    sym (c.loop-i.invariant.6 ∙ rows-done a.text.now a.n c.loop-i.i c.loop-i-test.false c.loop-i.buffer)

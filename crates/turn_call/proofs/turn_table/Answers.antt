@@ -65,15 +65,12 @@ returns-then-buffer-text c = let all = let R = read_of (goal.at.returns-then-buf
 
 pub turn-requires : goal.turn-requires
 turn-requires c =
-    let E = c in
-    turn-ready (taken (goal.at.turn-requires c).In-Accepted) (buffer-of (read_of (goal.at.turn-requires c).In-Accepted)) E.if-buffer-text.false (handed (goal.at.turn-requires c).In-Accepted)
+    turn-ready (taken (goal.at.turn-requires c).In-Accepted) (buffer-of (read_of (goal.at.turn-requires c).In-Accepted)) c.if-buffer-text.false (handed (goal.at.turn-requires c).In-Accepted)
 
 pub returns-in-Refused : goal.returns-in-Refused
 returns-in-Refused c = let all = let r = c.in-Refused in
-    let R = c in
     let v = refused-at (goal.at.returns-in-Refused c).After-decode r.r r.is in
     refusing (goal.at.returns-in-Refused c).After-decode (refused r.r) (ap (λ (v : Verdict Table). turn_of v (length (buffer-of (goal.at.returns-in-Refused c).After-decode))) v) in record { answers = all.0; writes = all.1 }
 
 pub returns-else-buffer-text : goal.returns-else-buffer-text
-returns-else-buffer-text c = let all = let E = c in
-    turned-at (taken (goal.at.returns-else-buffer-text c).In-Accepted) (buffer-of (read_of (goal.at.returns-else-buffer-text c).In-Accepted)) E.if-buffer-text.false (handed (goal.at.returns-else-buffer-text c).In-Accepted) c.turn.ensures in record { answers = all.0; writes = all.1 }
+returns-else-buffer-text c = let all = turned-at (taken (goal.at.returns-else-buffer-text c).In-Accepted) (buffer-of (read_of (goal.at.returns-else-buffer-text c).In-Accepted)) c.if-buffer-text.false (handed (goal.at.returns-else-buffer-text c).In-Accepted) c.turn.ensures in record { answers = all.0; writes = all.1 }

@@ -8,10 +8,6 @@ use Rattle.worth.proofs.Run.{Child, going_start, going-total, going_end, Next, n
 use Rattle.worth.proofs.+worth_under.Goals as goal
 use Rattle.worth.proofs.+worth_under.Goals.{then-kind-eq0, else-kind-eq0, After-node_at-s, In-loop-i, Joined-kind-eq0}
 
--- what the callees ask and tell
-pub before_any-a-requires : goal.before_any-a-requires
-before_any-a-requires t c = tt
-
 pub loop-i-init : goal.loop-i-init
 loop-i-init t c =
     let a = c.args in
@@ -30,9 +26,8 @@ worth-under-turn : (t : ℕ) (c : In-loop-i t)
     → let a = c.args in
     Turn (beside a.stop.now a.weight.now a.height.now) a.c a.e c.loop-i.i a.run.now
 worth-under-turn t c =
-    let p = c in
-    let a = p.args in
-    turn-of (beside a.stop.now a.weight.now a.height.now) a.g (kind_of a.k) a.c a.e a.run.now c.loop-i.a c.loop-i.total c.loop-i.i p.requires (worth-under-next t c p.requires)
+    let a = c.args in
+    turn-of (beside a.stop.now a.weight.now a.height.now) a.g (kind_of a.k) a.c a.e a.run.now c.loop-i.a c.loop-i.total c.loop-i.i c.requires (worth-under-next t c c.requires)
 
 pub overflow_sub-at : goal.overflow_sub-at
 overflow_sub-at t c = (worth-under-turn t c).from
@@ -131,42 +126,35 @@ weight_at-w-requires t c =
 
 pub take_child-a-requires : goal.take_child-a-requires
 take_child-a-requires t c =
-    let J = c in
-    let p = c in
-    let a = p.args in
-    let R = p.requires in
-    let l = J.loop-i in
-    turn-fits (beside a.stop.now a.weight.now a.height.now) a.g (kind_of a.k) a.c a.e a.run.now l.a l.total l.i R (worth-under-next t (goal.at.take_child-a-requires t c).In-loop-i R) J.if-kind-eq0.h c.weight_at-w.result (worth-under-joined t (goal.at.take_child-a-requires t c).Joined-kind-eq0 R) c.weight_at-w.ensures.0
+    let a = c.args in
+    let R = c.requires in
+    let l = c.loop-i in
+    turn-fits (beside a.stop.now a.weight.now a.height.now) a.g (kind_of a.k) a.c a.e a.run.now l.a l.total l.i R (worth-under-next t (goal.at.take_child-a-requires t c).In-loop-i R) c.if-kind-eq0.h c.weight_at-w.result (worth-under-joined t (goal.at.take_child-a-requires t c).Joined-kind-eq0 R) c.weight_at-w.ensures.0
 
 pub overflow_add-total : goal.overflow_add-total
 overflow_add-total t c =
-    let J = c in
-    let q = c in
     let n = worth-under-turn t (goal.at.overflow_add-total t c).In-loop-i in
-    let N = worth-under-next t (goal.at.overflow_add-total t c).In-loop-i q.requires in
+    let N = worth-under-next t (goal.at.overflow_add-total t c).In-loop-i c.requires in
     record { fits = omega (arith, N.0.light, n.here, n.upto, n.few, c.weight_at-w.ensures.1) }
 
 pub loop-i-smaller : goal.loop-i-smaller
 loop-i-smaller t c =
-    let J = c in
     let n = worth-under-turn t (goal.at.loop-i-smaller t c).In-loop-i in
-    omega (arith, n.here, n.upto, J.node_at-s.ensures)
+    omega (arith, n.here, n.upto, c.node_at-s.ensures)
 
 pub loop-i-preserved : goal.loop-i-preserved
 loop-i-preserved t c =
-    let J = c in
-    let a = J.args in
-    let l = J.loop-i in
-    let s = J.node_at-s in
+    let a = c.args in
+    let l = c.loop-i in
+    let s = c.node_at-s in
     let w = c.weight_at-w in
-    λ R. turn_on (beside a.stop.now a.weight.now a.height.now) a.g (kind_of a.k) a.c a.e a.run.now l.a l.total l.i R (worth-under-next t (goal.at.loop-i-preserved t c).In-loop-i R) J.if-kind-eq0.h w.result (worth-under-joined t (goal.at.loop-i-preserved t c).Joined-kind-eq0 R) w.ensures.0 c.take_child-a.result s.result s.ensures c.take_child-a.ensures w.ensures.1
+    λ R. turn_on (beside a.stop.now a.weight.now a.height.now) a.g (kind_of a.k) a.c a.e a.run.now l.a l.total l.i R (worth-under-next t (goal.at.loop-i-preserved t c).In-loop-i R) c.if-kind-eq0.h w.result (worth-under-joined t (goal.at.loop-i-preserved t c).Joined-kind-eq0 R) w.ensures.0 c.take_child-a.result s.result s.ensures c.take_child-a.ensures w.ensures.1
 
 pub seal-requires : goal.seal-requires
 seal-requires t c =
-    let p = c in
-    let a = p.args in
+    let a = c.args in
     let l = c.loop-i in
-    going-total (beside a.stop.now a.weight.now a.height.now) a.g (kind_of a.k) a.c a.e a.run.now l.a l.total l.i p.requires l.invariant c.loop-i-test.false
+    going-total (beside a.stop.now a.weight.now a.height.now) a.g (kind_of a.k) a.c a.e a.run.now l.a l.total l.i c.requires l.invariant c.loop-i-test.false
 
 pub returns : goal.returns
 returns t c =
@@ -176,7 +164,6 @@ returns t c =
 
 pub worth_under-h-requires : goal.worth_under-h-requires
 worth_under-h-requires t c =
-    let E = c in
     let n = worth-under-turn t (goal.at.worth_under-h-requires t c).In-loop-i in
-    let p = E.requires in
-    (omega (arith, E.decreases, n.from, n.here, n.upto, E.node_at-s.ensures), (worth-under-child t (goal.at.worth_under-h-requires t c).After-node_at-s p E.if-kind-eq0.false).ready)
+    let p = c.requires in
+    (omega (arith, c.decreases, n.from, n.here, n.upto, c.node_at-s.ensures), (worth-under-child t (goal.at.worth_under-h-requires t c).After-node_at-s p c.if-kind-eq0.false).ready)

@@ -32,27 +32,24 @@ pub slice_bounds-worth_of-start : goal.slice_bounds-worth_of-start
 slice_bounds-worth_of-start c = long (taken (goal.at.slice_bounds-worth_of-start c).In-Accepted)
 
 pub worth_of-h-requires : goal.worth_of-h-requires
-worth_of-h-requires c = let S = c in ready_at (taken (goal.at.worth_of-h-requires c).In-Accepted) S.scale_of-g.ensures
+worth_of-h-requires c = ready_at (taken (goal.at.worth_of-h-requires c).In-Accepted) c.scale_of-g.ensures
 
 worth-low : (W : After-worth_of-h) → W.worth_of-h.result ≤ 35184372088832
-worth-low W = let S = W in low-at (taken (goal.at.After-worth_of-h W).In-Accepted) S.scale_of-g.ensures W.worth_of-h.result W.worth_of-h.ensures
+worth-low W = low-at (taken (goal.at.After-worth_of-h W).In-Accepted) W.scale_of-g.ensures W.worth_of-h.result W.worth_of-h.ensures
 
 pub returns-in-Refused : goal.returns-in-Refused
 returns-in-Refused c =
     let r = c.in-Refused in
-    let R = c in
-    ap exact_call (sym (refused-by (text_of (goal.at.returns-in-Refused c).After-decode) R.decode.result r.r _ _ _ _ R.decode.ensures r.is))
+    ap exact_call (sym (refused-by (text_of (goal.at.returns-in-Refused c).After-decode) c.decode.result r.r _ _ _ _ c.decode.ensures r.is))
 
 pub returns-in-Accepted : goal.returns-in-Accepted
 returns-in-Accepted c =
-    let W = c in
-    let S = c in
     let G = taken (goal.at.returns-in-Accepted c).In-Accepted in
     ap (λ (z : ℤ). Grains z (summary-of (goal.at.returns-in-Accepted c).In-Accepted).grain) (grains-at G (worth-low (goal.at.returns-in-Accepted c).After-worth_of-h) c.in_grains.ensures)
-    ∙ answered-at G S.scale_of-g.ensures W.worth_of-h.result W.worth_of-h.ensures
+    ∙ answered-at G c.scale_of-g.ensures c.worth_of-h.result c.worth_of-h.ensures
 
 pub in_grains-requires : goal.in_grains-requires
-in_grains-requires c = let W = c in grains-ready (taken (goal.at.in_grains-requires c).In-Accepted) (worth-low (goal.at.in_grains-requires c).After-worth_of-h)
+in_grains-requires c = grains-ready (taken (goal.at.in_grains-requires c).In-Accepted) (worth-low (goal.at.in_grains-requires c).After-worth_of-h)
 
 pub scale_of-g-requires : goal.scale_of-g-requires
 scale_of-g-requires c = spread_at (taken c)

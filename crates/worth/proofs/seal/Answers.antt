@@ -12,8 +12,7 @@ returns-then-k-eq2 c = rw (kind-two c.args.k c.if-k-eq2.true) refl
 
 pub nonzero_div-result : goal.nonzero_div-result
 nonzero_div-result c =
-    let s = c in
-    omega (arith, s.requires (kind-else s.args.k c.if-k-eq1.false c.if-k-eq2.false))
+    omega (arith, c.requires (kind-else c.args.k c.if-k-eq1.false c.if-k-eq2.false))
 
 pub returns : goal.returns
 returns c = rw (kind-else c.args.k c.if-k-eq1.false c.if-k-eq2.false) refl

@@ -15,5 +15,4 @@ overflow_cast-result c = record { fits = omega (arith, c.shared_slice_known-1.gi
 
 pub returns : goal.returns
 returns c =
-    let s = c in
-    rw (kind-else s.args.k c.if-k-eq1.false c.if-k-eq2.false) (refl, omega (arith, c.shared_slice_known-1.given s.args.i))
+    rw (kind-else c.args.k c.if-k-eq1.false c.if-k-eq2.false) (refl, omega (arith, c.shared_slice_known-1.given c.args.i))

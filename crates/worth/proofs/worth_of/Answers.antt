@@ -7,9 +7,8 @@ use Rattle.worth.proofs.worth_of.Goals as goal
 
 pub overflow_add-c : goal.overflow_add-c
 overflow_add-c c =
-    let s = c in
-    let a = s.args in
-    let R = s.requires in
+    let a = c.args in
+    let R = c.requires in
     record { fits = omega (arith, R.few, lays-le (beside a.stop.now a.weight.now a.height.now) a.c a.e a.run.now R.nodes R.lays) }
 
 pub returns-then-c-e : goal.returns-then-c-e

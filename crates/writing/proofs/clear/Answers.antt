@@ -7,8 +7,7 @@ use Rattle.writing.proofs.clear.Goals as goal
 
 pub loop-i-init : goal.loop-i-init
 loop-i-init c =
-    let s = c in
-    (omega arith, refl, s.requires, blanks-first s.args.buffer.now s.args.at s.args.width)
+    (omega arith, refl, c.requires, blanks-first c.args.buffer.now c.args.at c.args.width)
 
 pub overflow_add-buffer : goal.overflow_add-buffer
 overflow_add-buffer c = omega arith

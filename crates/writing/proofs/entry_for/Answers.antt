@@ -15,14 +15,13 @@ filled false f g = refl
 
 pub returns : goal.returns
 returns c =
-    let s = c in
-    let l = s.args.l in
-    let number = ap Number (handed l.node (omega (arith, s.requires.node))) in
+    let l = c.args.l in
+    let number = ap Number (handed l.node (omega (arith, c.requires.node))) in
     let letter = c.letter_of-letter.ensures in
-    let parent = c.field_for-parent.ensures ∙ ap (λ (z : ℤ). cond (eqb l.node 0) Blank (Number z)) (handed l.parent s.requires.parent) in
-    let weight = c.field_for-weight.ensures ∙ ap (λ (z : ℤ). cond (eqb l.weight 0) Blank (Number z)) (handed l.weight s.requires.weight) in
+    let parent = c.field_for-parent.ensures ∙ ap (λ (z : ℤ). cond (eqb l.node 0) Blank (Number z)) (handed l.parent c.requires.parent) in
+    let weight = c.field_for-weight.ensures ∙ ap (λ (z : ℤ). cond (eqb l.weight 0) Blank (Number z)) (handed l.weight c.requires.weight) in
     let utility =
     c.field_for-utility.ensures
-    ∙ ap (λ (z : ℤ). cond (not (eqb l.kind 0)) Blank (Number z)) (whole-handed l.utility s.requires.utility)
+    ∙ ap (λ (z : ℤ). cond (not (eqb l.kind 0)) Blank (Number z)) (whole-handed l.utility c.requires.utility)
     ∙ filled (eqb l.kind 0) Blank (Number l.utility) in
     λ j. record { number = number j; letter = letter j; parent = parent j; weight = weight j; utility = utility j }

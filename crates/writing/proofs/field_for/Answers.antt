@@ -6,4 +6,4 @@ use Rattle.field.specs.declared.Field.TheVariants.{Number}
 use Rattle.writing.proofs.field_for.Goals as goal
 
 pub returns : goal.returns
-returns c = let s = c in rw c.if-empty.false (ap Number (to_z-of_z w64 s.args.z s.ranges.z))
+returns c = rw c.if-empty.false (ap Number (to_z-of_z w64 c.args.z c.ranges.z))

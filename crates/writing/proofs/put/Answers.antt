@@ -20,33 +20,27 @@ fitting width f z e h = subst (Fits width) e h
 
 pub write-requires : goal.write-requires
 write-requires c =
-    let s = c in
     let g = c.in-Number in
     let back : to_z w64 (of_z w64 g.z) ≡ g.z = search rules in
-    let h = fitting s.args.width s.args.f g.z g.is s.requires.1 in
+    let h = fitting c.args.width c.args.f g.z g.is c.requires.1 in
     rw back (search rules, h.0, h.1)
 
 pub returns-in-Blank : goal.returns-in-Blank
 returns-in-Blank c =
-    let k = c in
-    let t = c in
-    let a = t.args in
-    k.clear.ensures ∙ sym (ap (λ (f : Field). sets a.buffer.now a.at (shown a.width f)) t.in-Blank.is)
+    let a = c.args in
+    c.clear.ensures ∙ sym (ap (λ (f : Field). sets a.buffer.now a.at (shown a.width f)) c.in-Blank.is)
 
 pub returns-in-Ill : goal.returns-in-Ill
 returns-in-Ill c =
-    let s = c in
-    absurd (subst (Fits s.args.width) c.in-Ill.is s.requires.1)
+    absurd (subst (Fits c.args.width) c.in-Ill.is c.requires.1)
 
 pub returns-in-Number : goal.returns-in-Number
 returns-in-Number c =
-    let k = c in
-    let s = c in
-    let a = s.args in
-    let g = k.in-Number in
+    let a = c.args in
+    let g = c.in-Number in
     let back : to_z w64 (of_z w64 g.z) ≡ g.z = search rules in
-    let h = fitting a.width a.f g.z g.is s.requires.1 in
-    k.write.ensures
+    let h = fitting a.width a.f g.z g.is c.requires.1 in
+    c.write.ensures
     ∙ ap (written a.buffer.now a.at a.width) back
-    ∙ written-stored a.buffer.now a.at a.width g.z s.requires.0 h.0
+    ∙ written-stored a.buffer.now a.at a.width g.z c.requires.0 h.0
     ∙ sym (ap (λ (f : Field). sets a.buffer.now a.at (shown a.width f)) g.is)

@@ -13,32 +13,28 @@ use Rattle.writing.proofs.put_header.Goals as goal
 
 pub put-requires : goal.put-requires
 put-requires c =
-    let s = c in
-    (omega (arith, s.requires.0), fits-handed s.args.n 4 (lit< tt) (lit≤ tt) (omega (arith, s.requires.1)) (omega (arith, s.requires.1)))
+    (omega (arith, c.requires.0), fits-handed c.args.n 4 (lit< tt) (lit≤ tt) (omega (arith, c.requires.1)) (omega (arith, c.requires.1)))
 
 pub put-requires-2 : goal.put-requires-2
 put-requires-2 c =
-    let s = c in
-    let r = s.requires.2.lowest in
-    rw (whole-handed s.args.h.lowest (omega (arith, r))) (omega (arith, s.requires.0, c.put.auto.buffer, c.put_totals.auto.buffer), fits-end s.args.h.lowest r)
+    let r = c.requires.2.lowest in
+    rw (whole-handed c.args.h.lowest (omega (arith, r))) (omega (arith, c.requires.0, c.put.auto.buffer, c.put_totals.auto.buffer), fits-end c.args.h.lowest r)
 
 pub put-requires-3 : goal.put-requires-3
 put-requires-3 c =
-    let s = c in
-    let r = s.requires.2.highest in
-    rw (whole-handed s.args.h.highest (omega (arith, r))) (omega (arith, s.requires.0, c.put.auto.buffer, c.put_totals.auto.buffer, c.put-2.auto.buffer), fits-end s.args.h.highest r)
+    let r = c.requires.2.highest in
+    rw (whole-handed c.args.h.highest (omega (arith, r))) (omega (arith, c.requires.0, c.put.auto.buffer, c.put_totals.auto.buffer, c.put-2.auto.buffer), fits-end c.args.h.highest r)
 
 pub shape_of-buffer : goal.shape_of-buffer
 shape_of-buffer c = length-set c.put-3.new.buffer 24 10 ∙ c.put-3.auto.buffer ∙ c.put-2.auto.buffer ∙ c.put_totals.auto.buffer ∙ c.put.auto.buffer
 
 pub returns : goal.returns
 returns c =
-    let s = c in
-    let a = s.args in
+    let a = c.args in
     let d : List ℕ = a.buffer.now in
-    let r = s.requires.2 in
-    let d1 = c.put.ensures ∙ ap (λ (z : ℤ). sets d 0 (columns 4 z)) (handed a.n (omega (arith, s.requires.1))) in
+    let r = c.requires.2 in
+    let d1 = c.put.ensures ∙ ap (λ (z : ℤ). sets d 0 (columns 4 z)) (handed a.n (omega (arith, c.requires.1))) in
     let d2 = c.put_totals.ensures ∙ ap (λ (l : List ℕ). sets l 4 (totals_text a.h)) d1 in
     let d3 = c.put-2.ensures ∙ ap₂ (λ (l : List ℕ) (z : ℤ). sets l 8 (columns 8 z)) d2 (whole-handed a.h.lowest (omega (arith, r.lowest))) in
     let d4 = c.put-3.ensures ∙ ap₂ (λ (l : List ℕ) (z : ℤ). sets l 16 (columns 8 z)) d3 (whole-handed a.h.highest (omega (arith, r.highest))) in
-    ap (λ (l : List ℕ). set l 24 10) d4 ∙ header-stored d a.h a.n s.requires.1 r
+    ap (λ (l : List ℕ). set l 24 10) d4 ∙ header-stored d a.h a.n c.requires.1 r

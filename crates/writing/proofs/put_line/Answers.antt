@@ -8,7 +8,7 @@ use Rattle.writing.proofs.Again.{line-roomy}
 use Rattle.writing.proofs.put_line.Goals as goal
 
 pub put_entry-requires : goal.put_entry-requires
-put_entry-requires c = let s = c in (s.requires.0, subst Roomy (sym c.entry_for.ensures) (line-roomy s.args.l s.requires.1))
+put_entry-requires c = (c.requires.0, subst Roomy (sym c.entry_for.ensures) (line-roomy c.args.l c.requires.1))
 
 pub returns : goal.returns
 returns c =

@@ -13,36 +13,31 @@ use Rattle.writing.proofs.put_totals.Goals as goal
 
 pub put-requires : goal.put-requires
 put-requires c =
-    let s = c in
-    let r = s.requires.1.total in
-    (omega (arith, s.requires.0), fits-handed s.args.h.total 4 (lit< tt) (lit≤ tt) (omega (arith, r)) (omega (arith, r)))
+    let r = c.requires.1.total in
+    (omega (arith, c.requires.0), fits-handed c.args.h.total 4 (lit< tt) (lit≤ tt) (omega (arith, r)) (omega (arith, r)))
 
 pub returns-then-h-eq0 : goal.returns-then-h-eq0
 returns-then-h-eq0 c =
-    let s = c in
-    let a = s.args in
-    let r = s.requires.1.total in
+    let a = c.args in
+    let r = c.requires.1.total in
     c.put.ensures
     ∙ ap (λ (z : ℤ). sets a.buffer.now 4 (columns 4 z)) (handed a.h.total (omega (arith, r)))
     ∙ rw (eq-eqb a.h.second 0 c.if-h-eq0.true)
 
 pub put-requires-2 : goal.put-requires-2
 put-requires-2 c =
-    let s = c in
-    let r = s.requires.1.second in
-    (omega (arith, s.requires.0), fits-handed s.args.h.second 2 (lit< tt) (lit≤ tt) (omega (arith, r)) (omega (arith, r)))
+    let r = c.requires.1.second in
+    (omega (arith, c.requires.0), fits-handed c.args.h.second 2 (lit< tt) (lit≤ tt) (omega (arith, r)) (omega (arith, r)))
 
 pub put-requires-3 : goal.put-requires-3
 put-requires-3 c =
-    let s = c in
-    let r = s.requires.1.total in
-    (omega (arith, s.requires.0, c.put-2.auto.buffer), fits-handed s.args.h.total 2 (lit< tt) (lit≤ tt) (omega (arith, r)) (omega (arith, r)))
+    let r = c.requires.1.total in
+    (omega (arith, c.requires.0, c.put-2.auto.buffer), fits-handed c.args.h.total 2 (lit< tt) (lit≤ tt) (omega (arith, r)) (omega (arith, r)))
 
 pub returns : goal.returns
 returns c =
-    let s = c in
-    let a = s.args in
-    let r = s.requires.1 in
+    let a = c.args in
+    let r = c.requires.1 in
     c.put-3.ensures
     ∙ ap₂ (λ (l : List ℕ) (z : ℤ). sets l 6 (columns 2 z))
     (c.put-2.ensures ∙ ap (λ (z : ℤ). sets a.buffer.now 4 (columns 2 z)) (handed a.h.second (omega (arith, r.second))))
