@@ -1,4 +1,10 @@
--- What a call answers of any text is small enough for its code and numbers. Assumes nothing.
+-- What a call answers of any text is small enough for its code and numbers.
+use Rattle.std.proofs.Common.{Err, Ok, Result}
+use Rattle.line.specs.declared.Refusal.{Refusal}
+use Rattle.search_call.specs.declared.Bounds.{Bounds}
+use Rattle.rolled.specs.declared.RolledOut.{RolledOut}
+use Rattle.report.specs.declared.Totals.{Totals}
+use Rattle.report_call.specs.declared.Unreported.{Unreported}
 use Prim.Native.Nat.{ℕ, ◌<◌}
 use mathlib.Core.Path.{◌≡◌, refl, ap}
 use mathlib.Core.List.{List}
@@ -14,24 +20,16 @@ use Rattle.worth.specs.Call.{exact_call}
 use Rattle.judge.specs.Judge.{Judgement, judge}
 use Rattle.judge.specs.Call.{judge_answer, judge_call}
 use Rattle.judge.proofs.Judge.{judge-refused}
-use Rattle.turn_call.specs.declared.Turned
-use Rattle.turn_call.specs.declared.Turned.{Turned}
 use Rattle.turn_call.specs.Call.{turn_call}
 use Rattle.turn_call.proofs.Call.{turn-line}
 use Rattle.recipe_call.specs.Call.{recipe_of, made_of, recipe_call}
 use Rattle.recipe_call.proofs.Call.{recipe-line, written-long}
-use Rattle.search_call.specs.declared.Bounded
-use Rattle.search_call.specs.declared.Bounded.{Bounded}
 use Rattle.search_call.specs.Call.{within_call}
 use Rattle.search_call.proofs.Answered.{PlayBelow, within-line, within-sizes}
 use Rattle.index_call.specs.Call.{index_call, indexed_call}
 use Rattle.index_call.proofs.Answered.{index-cases, indexed-cases}
-use Rattle.rolled.specs.declared.Rolled
-use Rattle.rolled.specs.declared.Rolled.{Rolled}
 use Rattle.rolled.specs.Call.{roll_call}
 use Rattle.rolled.proofs.Answered.{RollSized, roll-sizes}
-use Rattle.report_call.specs.declared.Reported
-use Rattle.report_call.specs.declared.Reported.{Reported}
 use Rattle.report_call.specs.Call.{report_call}
 use Rattle.report_call.proofs.Answered.{report-refused, report-totals}
 use Rattle.table.specs.Root.{node_number}
@@ -41,9 +39,9 @@ node-small : (p : Play) → PlayBelow 1024 p → node_number p < 1024
 node-small (Child n) h = h
 node-small NoPlay h = omega arith
 
-rolled-sized : (r : Rolled) → RollSized r → SmallRolled r
-rolled-sized (Rolled.TheVariants.Done worth n) h = omega (arith, h)
-rolled-sized (Rolled.TheVariants.Refused r) h = h
+rolled-sized : (r : Result RolledOut Refusal) → RollSized r → SmallRolled r
+rolled-sized (Ok w) h = omega (arith, h)
+rolled-sized (Err r) h = h
 
 module _ (s : List ℕ) where
   pub reading_small : SmallReading (answer (read_text s))
@@ -82,9 +80,9 @@ module _ (s : List ℕ) where
   pub within-small : (m b : ℤ) (room : ℕ) → SmallBounded (within_call (read_text s) m b room)
   within-small m n room = go (within_call (read_text s) m n room) refl
     where
-      go : (b : Bounded) → within_call (read_text s) m n room ≡ b → SmallBounded b
-      go (Bounded.TheVariants.Refused r) e = within-line s m n room r e
-      go (Bounded.TheVariants.Found b) e =
+      go : (b : Result Bounds Refusal) → within_call (read_text s) m n room ≡ b → SmallBounded b
+      go (Err r) e = within-line s m n room r e
+      go (Ok b) e =
           let z = within-sizes s m n room b e in
           record { play = omega (arith, node-small b.play z.play); leaves = omega (arith, z.leaves); grain = omega (arith, z.grain) }
 
@@ -102,9 +100,9 @@ module _ (s : List ℕ) where
   pub turned-small : (room : ℕ) → SmallTurned (turn_call (read_text s) room)
   turned-small room = go (turn_call (read_text s) room) refl
     where
-      go : (t : Turned) → turn_call (read_text s) room ≡ t → SmallTurned t
-      go (Turned.TheVariants.Refused r) e = turn-line s room r e
-      go (Turned.TheVariants.Written n) e = tt
+      go : (t : Result ℕ Refusal) → turn_call (read_text s) room ≡ t → SmallTurned t
+      go (Err r) e = turn-line s room r e
+      go (Ok n) e = tt
 
 -- of any recipe
 pub made-small : (seed branching depth dice : ℤ) (room : ℕ) → SmallMade (recipe_call seed branching depth dice room)
@@ -118,6 +116,6 @@ made-small seed branching depth dice room = go (recipe_of seed branching depth d
 pub reported-small : (file : List ℕ) (scale : ℤ) (room : ℕ) → SmallReported (report_call file scale room)
 reported-small file scale room = go (report_call file scale room) refl
   where
-    go : (r : Reported) → report_call file scale room ≡ r → SmallReported r
-    go (Reported.TheVariants.Refused q k) e = let h = report-refused file room scale q k e in (h.2, h.0)
-    go (Reported.TheVariants.Done t) e = report-totals file room scale t e
+    go : (r : Result Totals Unreported) → report_call file scale room ≡ r → SmallReported r
+    go (Err u) e = let h = report-refused file room scale u.refusal u.position e in (h.2, h.0)
+    go (Ok t) e = report-totals file room scale t e

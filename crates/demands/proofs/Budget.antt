@@ -1,4 +1,5 @@
--- Document 02, Item 3, at the public calls. Assumes nothing.
+-- Document 02, Item 3, at the public calls.
+use Rattle.std.proofs.Common.{Err, Ok, Result}
 use Prim.Native.Nat.{ℕ, ◌<◌}
 use mathlib.Core.Path.{◌≡◌, refl, sym, ap, ap₂, subst, ◌∙◌}
 use mathlib.Core.Bool.{Bool, true, false}
@@ -25,7 +26,6 @@ use Rattle.search.specs.Search.{Seen, no_play, limited, node_of, begin, finish, 
 use Rattle.search.specs.Whole.{whole, rules, searched, searched_within, down_z, up_z, gain_z, loss_z, in_grains}
 use Rattle.search.proofs.Within.{spent-where, unspent-same, first_reads}
 use Rattle.search_call.specs.declared.Bounds.{Bounds}
-use Rattle.search_call.specs.declared.Bounded.TheVariants.{Found, Refused}
 use Rattle.search_call.specs.Call.{bad_margin, bad_budget, bounds_of, search_answer, within_call}
 use Rattle.search_call.proofs.Call.{inside_is, inside-small, part_length, default-budget, sought-margin, sought-budget, sought-room, sought-fine}
 use Rattle.search_call.proofs.Answered.{answered, answers, reads, answered-within, answers-within, reads-within, unspent-answer}
@@ -65,7 +65,7 @@ unspent-answers s m b room a e z =
     let found : searched_within t (to_nat m) (to_nat b) ≡ searched t (to_nat m) =
     unspent-same s t A.read (to_nat m) (to_nat b) (sym (ap (λ (x : Bounds). x.spent) A.bounds) ∙ z) in (
       answers s m room t A.read A.margin A.long
-          ∙ ap Found (ap (λ (x : Seen ℤ). bounds_of (record { table = t; seen = x })) (sym found) ∙ sym A.bounds),
+          ∙ ap Ok (ap (λ (x : Seen ℤ). bounds_of (record { table = t; seen = x })) (sym found) ∙ sym A.bounds),
       reads s m room t A.read A.margin A.long
           ∙ sym (ap (λ (x : Seen ℤ). x.read) found)
           ∙ sym (reads-within s m b room t A.read A.margin A.budget A.long),
@@ -114,17 +114,17 @@ root-unread s t m room a p e =
 
 -- ---- 17
 
-no-seventeen : {P : Type 0} (a : Bounds) → Found a ≡ Refused BadBudget → P
+no-seventeen : {P : Type 0} (a : Bounds) → ◌≡◌ {A = Result Bounds Refusal} (Ok a) (Err BadBudget) → P
 no-seventeen a e = let z : ◌≡◌ {A = ℕ} 0 1 = cc in absurd (omega arith)
 
-twelve : {P : Type 0} → Refused BadMargin ≡ Refused BadBudget → P
+twelve : {P : Type 0} → ◌≡◌ {A = Result Bounds Refusal} (Err BadMargin) (Err BadBudget) → P
 twelve e = let q : BadMargin ≡ BadBudget = cc in let z : ◌≡◌ {A = ℕ} 12 17 = ap number_of q in absurd (omega arith)
 
-eleven : {P : Type 0} → Refused NoRoom ≡ Refused BadBudget → P
+eleven : {P : Type 0} → ◌≡◌ {A = Result Bounds Refusal} (Err NoRoom) (Err BadBudget) → P
 eleven e = let q : NoRoom ≡ BadBudget = cc in let z : ◌≡◌ {A = ℕ} 11 17 = ap number_of q in absurd (omega arith)
 
 -- no table is refused 17
-table-seventeen : {P : Type 0} (s : List ℕ) (r : Refusal) → read_text s ≡ refused r → Refused r ≡ Refused BadBudget → P
+table-seventeen : {P : Type 0} (s : List ℕ) (r : Refusal) → read_text s ≡ refused r → ◌≡◌ {A = Result Bounds Refusal} (Err r) (Err BadBudget) → P
 table-seventeen s r p e = let q : r ≡ BadBudget = cc in let n : number_of r ≡ 17 = ap number_of q in absurd (omega (arith, refused-number s r p (omega arith)))
 
 pub seventeen : SeventeenIs
@@ -134,7 +134,7 @@ seventeen s m b room = (
 )
   where
     back : (t : Table) → read_text s ≡ fine t → (x y z : Bool) → bad_margin m ≡ x → bad_budget b ≡ y → ltb room (leaves (tree t)) ≡ z
-        → within_call (fine t) m b room ≡ Refused BadBudget → (t : Table) × (read_text s ≡ fine t) × (bad_margin m ≡ false) × (bad_budget b ≡ true)
+        → within_call (fine t) m b room ≡ Err BadBudget → (t : Table) × (read_text s ≡ fine t) × (bad_margin m ≡ false) × (bad_budget b ≡ true)
     back t p true y z bad over short e = twelve (sym (ap search_answer (sought-margin t m b room bad)) ∙ e)
     back t p false true z bad over short e = (t, p, bad, over)
     back t p false false true bad over short e =
@@ -142,7 +142,7 @@ seventeen s m b room = (
     back t p false false false bad over short e =
         no-seventeen _ (sym (ap search_answer (sought-fine t m b room bad over (ltb-false room (leaves (tree t)) short))) ∙ e)
 
-    at : (v : Verdict Table) → read_text s ≡ v → within_call v m b room ≡ Refused BadBudget
+    at : (v : Verdict Table) → read_text s ≡ v → within_call v m b room ≡ Err BadBudget
         → (t : Table) × (read_text s ≡ fine t) × (bad_margin m ≡ false) × (bad_budget b ≡ true)
     at (refused r) p e = table-seventeen s r p e
     at (fine t) p e = back t p (bad_margin m) (bad_budget b) (ltb room (leaves (tree t))) refl refl refl e

@@ -1,4 +1,5 @@
--- Forced plays, at the public calls. Assumes nothing.
+-- Forced plays, at the public calls.
+use Rattle.std.proofs.Common.{Err}
 use Prim.Native.Nat.{ℕ, ◌<◌}
 use mathlib.Core.Path.{◌≡◌, refl, sym, ap, ap₂, ◌∙◌}
 use mathlib.Core.Bool.{Bool, true, false, cond}
@@ -18,7 +19,6 @@ use Rattle.table.specs.Table.{Table, tree, read_text, grain}
 use Rattle.table.specs.Root.{AtM, AtN, children, nodes, play_of}
 use Rattle.table.proofs.Places.{refused-number}
 use Rattle.worth.specs.Worth.{value, shares}
-use Rattle.judge.specs.declared.Opinion.TheVariants.{Refused}
 use Rattle.judge.specs.Judge.{Judgement, judge}
 use Rattle.judge.specs.Call.{judge_answer, judge_call}
 use Rattle.judge.proofs.Judge.{forced-judged, choice-judged, missing-refused, refused-choice}
@@ -52,14 +52,14 @@ choice-as-before s t i p h = ap (λ (v : Verdict Table). judge_call v i) p ∙ a
 not-fourteen : {P : Type 0} (r : Refusal) → (10 < number_of r → number_of r ≡ 18) → r ≡ NoChild → P
 not-fourteen r h e = let n : number_of r ≡ 14 = ap number_of e in absurd (omega (arith, h (omega arith)))
 
-answer-refused : (v : Verdict Judgement) (r : Refusal) → judge_answer v ≡ Refused r → v ≡ refused r
+answer-refused : (v : Verdict Judgement) (r : Refusal) → judge_answer v ≡ Err r → v ≡ refused r
 answer-refused (refused q) r e = cc
 answer-refused (fine j) r e = let z : ◌≡◌ {A = ℕ} 0 1 = cc in absurd (omega arith)
 
-judged-fourteen : (s : List ℕ) (i : ℤ) → judge_call (read_text s) i ≡ Refused NoChild → Fourteen s i
+judged-fourteen : (s : List ℕ) (i : ℤ) → judge_call (read_text s) i ≡ Err NoChild → Fourteen s i
 judged-fourteen s i = go (read_text s) refl
   where
-    go : (v : Verdict Table) → read_text s ≡ v → judge_call v i ≡ Refused NoChild → Fourteen s i
+    go : (v : Verdict Table) → read_text s ≡ v → judge_call v i ≡ Err NoChild → Fourteen s i
     go (refused r) p e = not-fourteen r (refused-number s r p) cc
     go (fine t) p e =
         let (side, root, several, missing) = refused-choice s t p i NoChild (answer-refused (judge t i) NoChild e) in
@@ -72,14 +72,14 @@ fourteen-needs s i = (
 )
 
 -- what a position is refused with by judging
-scored-judged : (i : ℤ) (text : List ℕ) → scored i text ≡ refused NoChild → judge_call (read_text text) i ≡ Refused NoChild
+scored-judged : (i : ℤ) (text : List ℕ) → scored i text ≡ refused NoChild → judge_call (read_text text) i ≡ Err NoChild
 scored-judged i text = go (read_text text)
   where
-    at : (t : Table) (v : Verdict Judgement) → next v (λ (j : Judgement). fine (row_of t j)) ≡ refused NoChild → judge_answer v ≡ Refused NoChild
+    at : (t : Table) (v : Verdict Judgement) → next v (λ (j : Judgement). fine (row_of t j)) ≡ refused NoChild → judge_answer v ≡ Err NoChild
     at t (refused r) e = cc
     at t (fine j) e = let z : ◌≡◌ {A = ℕ} 0 1 = cc in absurd (omega arith)
 
-    go : (v : Verdict Table) → next v (λ (t : Table). next (judge t i) (λ (j : Judgement). fine (row_of t j))) ≡ refused NoChild → judge_call v i ≡ Refused NoChild
+    go : (v : Verdict Table) → next v (λ (t : Table). next (judge t i) (λ (j : Judgement). fine (row_of t j))) ≡ refused NoChild → judge_call v i ≡ Err NoChild
     go (refused r) e = cc
     go (fine t) e = at t (judge t i) e
 

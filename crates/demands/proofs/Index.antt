@@ -1,4 +1,4 @@
--- What the index of an accepted table is, by its lines, and when two lists are its own. Document 02, Item 14. Assumes nothing.
+-- What the index of an accepted table is, by its lines, and when two lists are its own. Document 02, Item 14.
 use Prim.Native.Nat.{ℕ, suc, ◌+◌, ◌≤◌, ◌<◌}
 use mathlib.Core.Path.{◌≡◌, refl, sym, ap, ap₂, subst, ◌∙◌}
 use mathlib.Core.Bool.{Bool, true, false, not, ◌&&◌, ◌||◌, cond}
@@ -6,7 +6,6 @@ use mathlib.Core.List.{List, [], ◌∷◌, ◌++◌, Memᴰ, map, append_assoc,
 use mathlib.Core.Option.{Option, none, some}
 use native.Mathlib.Omega.{arith}
 use borrow.Author.Tests.{leb-true, leb-false, le-leb, eqb-true, eq-eqb}
-use lib.Dec.{eqb}
 use lib.ListN.{length}
 use lib.IntN.{ℤ, pos, negsuc}
 use lib.Signed.{le_z}
@@ -15,13 +14,15 @@ use Rattle.numbers.proofs.Signs.{plus, minus, parts, is-unique, is_eq, is_le}
 use Rattle.line.specs.declared.Line.{Line}
 use Rattle.line.specs.Refusal.{fine}
 use Rattle.line.proofs.Signs.{true-ne-false}
-use Rattle.table.specs.Tree.{Kind, Forest, end, leaf, inner, code_of, run, is_end}
+use Rattle.table.specs.Tree.{Kind, Forest, end, leaf, inner, line_kind, run, is_end}
 use Rattle.table.specs.Table.{Table, tree, read_text, count}
 use Rattle.table.specs.Accepted.{flat, one, Filled, Rooted}
 use Rattle.table.proofs.Runs.{size, Numbered, code-inner, Outside, outside-more, flat-outside, run-under}
 use Rattle.table.proofs.Known.{read_length, read-numbered}
 use Rattle.table.proofs.Accepted.{checked, accepted-size, accepted-flat, accepted-rooted, accepted-filled}
 use Rattle.index.specs.Index.{values_of, lowest_of, highest_of, Ends, ends_under, entries, index_of, of_entry, lows_of, highs_of, written, agrees, not_own}
+use Rattle.line.specs.Line.{is_leaf}
+use Rattle.line.specs.declared.Kind.TheVariants.{Leaf}
 use Rattle.demands.specs.Indexed.{utilities_of, Lowest, Highest, Indexes, indexes-none, indexes-leaf, indexes-line, OneEnd, IndexIs, Fills, fills-behind, fills-leaf, fills-line, Owns, owns-behind, owns-leaf, owns-line, OwnIndex, SameLists, lists-short, lists-leaf, lists-line}
 
 -- ---- the order of the integers
@@ -151,7 +152,7 @@ one_end = (one-lowest, one-highest)
 utilities-append : (a b : List Line) → utilities_of (a ++ b) ≡ utilities_of a ++ utilities_of b
 unfolding utilities_of
 utilities-append [] b = refl
-utilities-append (l ∷ a) b = go (utilities-append a b) (eqb l.kind 0)
+utilities-append (l ∷ a) b = go (utilities-append a b) (is_leaf l.kind)
   where
     go : utilities_of (a ++ b) ≡ utilities_of a ++ utilities_of b → (c : Bool)
         → cond c (l.utility ∷ utilities_of (a ++ b)) (utilities_of (a ++ b)) ≡ cond c (l.utility ∷ utilities_of a) (utilities_of a) ++ utilities_of b
@@ -173,10 +174,10 @@ values-some (leaf n w v rest) i z e = let x : ◌≡◌ {A = ℕ} 0 1 = cc in om
 values-some (inner n w k under rest) i z e = values-some under i.1 i.0 (append-eq-nil_iff.0 e).0
 
 abbrev line_of : (n w p c : ℕ) → Kind → Line
-line_of n w p c k = record { node = n; kind = code_of k; parent = p; weight = w; utility = pos 0; chances = c }
+line_of n w p c k = record { node = n; kind = line_kind k; parent = p; weight = w; utility = pos 0; chances = c }
 
-inner_code : (k : Kind) → code_of k ≡ 0 → ⊥
-inner_code k e = true-ne-false (sym (eq-eqb (code_of k) 0 e) ∙ code-inner k)
+inner_code : (k : Kind) → line_kind k ≡ Leaf → ⊥
+inner_code k e = true-ne-false (sym (ap is_leaf e) ∙ code-inner k)
 
 -- a line with the lines under it and those behind them
 line-indexed : (i n w p c : ℕ) (k : Kind) (under : Forest ℤ) (more : List Line) (es : List (Option Ends)) → n ≡ i → Numbered (suc i) under → Outside i more
@@ -246,8 +247,8 @@ index_is s t p = (lines-indexed s t p, indexes-long (lines-indexed s t p))
 -- the same of one end, P
 data Each (P : List ℤ → ℤ → Type 0) : ℕ → List Line → List (Option ℤ) → Type 0 where
   each_none : {i : ℕ} → Each P i [] []
-  each-leaf : {i : ℕ} {l : Line} {ls : List Line} {xs : List (Option ℤ)} → l.node ≡ i → l.kind ≡ 0 → Each P (suc i) ls xs → Each P i (l ∷ ls) (none ∷ xs)
-  each_line : {i : ℕ} {l : Line} {ls : List Line} {x : ℤ} {xs : List (Option ℤ)} → l.node ≡ i → (l.kind ≡ 0 → ⊥) → P (utilities_of (run i ls)) x
+  each-leaf : {i : ℕ} {l : Line} {ls : List Line} {xs : List (Option ℤ)} → l.node ≡ i → l.kind ≡ Leaf → Each P (suc i) ls xs → Each P i (l ∷ ls) (none ∷ xs)
+  each_line : {i : ℕ} {l : Line} {ls : List Line} {x : ℤ} {xs : List (Option ℤ)} → l.node ≡ i → (l.kind ≡ Leaf → ⊥) → P (utilities_of (run i ls)) x
       → Each P (suc i) ls xs → Each P i (l ∷ ls) (some x ∷ xs)
 
 each-low : {i : ℕ} {ls : List Line} {es : List (Option Ends)} → Indexes i ls es → Each Lowest i ls (map (of_entry (λ (e : Ends). e.low)) es)

@@ -1,4 +1,5 @@
--- Document 02, Item 14, at the public calls. Assumes nothing.
+-- Document 02, Item 14, at the public calls.
+use Rattle.std.proofs.Common.{Err, Ok, Result}
 use Prim.Native.Nat.{ℕ, ◌≤◌, ◌<◌}
 use mathlib.Core.Path.{◌≡◌, refl, sym, ap, ap₂, subst, ◌∙◌}
 use mathlib.Core.Bool.{Bool, true, false, not, ◌||◌}
@@ -23,7 +24,6 @@ use Rattle.table.specs.Root.{play_of}
 use Rattle.table.proofs.Places.{refused-number}
 use Rattle.index.specs.Index.{Ends, index_of, of_entry, lows_of, highs_of, written, agrees, not_own}
 use Rattle.worth.specs.Worth.{worth_of}
-use Rattle.worth.specs.declared.Exact.TheVariants.{Grains}
 use Rattle.worth.specs.Call.{exact_call}
 use Rattle.turn.specs.Turn.{turn_table}
 use Rattle.turn.proofs.Tree.{tree-turned}
@@ -33,12 +33,8 @@ use Rattle.search.specs.Search.{Seen, unlimited, node_of}
 use Rattle.search.specs.Whole.{searched_own}
 use Rattle.search.proofs.Own.{own-unspent, own-no-remainder}
 use Rattle.search_call.specs.declared.Bounds.{Bounds}
-use Rattle.search_call.specs.declared.Bounded.{Bounded}
-use Rattle.search_call.specs.declared.Bounded.TheVariants.{Found, Refused}
 use Rattle.search_call.specs.Call.{Sought, bad_margin, bounds_of, search_answer, search_list, search_line}
 use Rattle.search_call.proofs.Call.{inside_is}
-use Rattle.index_call.specs.declared.Indexed
-use Rattle.index_call.specs.declared.Indexed.{Indexed}
 use Rattle.index_call.specs.Call.{room_in, indexed, index_answer, index_call, index_line, index_entries, sought_indexed, indexed_call, indexed_reads}
 use Rattle.promise.specs.Unread.{Alike, ReadBy}
 use Rattle.promise.specs.Turned.{Turns, turn_entry}
@@ -62,7 +58,7 @@ module _ (t : Table) (room : ℕ) where
   unfolding unless
   build-fine h = rw (le-ltb room (length t.lines) h) refl
 
-no-build : {P : Type 0} (r : Refusal) → Indexed.TheVariants.Refused r ≡ Indexed.TheVariants.Built → P
+no-build : {P : Type 0} (r : Refusal) → ◌≡◌ {A = Result (Unit {0}) Refusal} (Err r) (Ok tt) → P
 no-build r e = let z : ◌≡◌ {A = ℕ} 0 1 = cc in absurd (omega arith)
 
 module _ (s : List ℕ) (lows highs : List ℤ) where
@@ -87,7 +83,7 @@ module _ (s : List ℕ) (lows highs : List ℤ) where
   build-at (fine t) p = build-of t p (ltb (length lows) (length t.lines)) (ltb (length highs) (length t.lines)) refl refl
 
   -- a call that was not refused
-  built-long : (a : Indexed) → a ≡ Indexed.TheVariants.Built → BuildAnswer s lows highs a
+  built-long : (a : Result Unit Refusal) → a ≡ (Ok tt) → BuildAnswer s lows highs a
       → (t : Table) × (read_text s ≡ fine t) × (length t.lines ≤ length lows) × (length t.lines ≤ length highs)
   built-long a e (build-table {r} p) = no-build r e
   built-long a e (build-lows p h) = no-build NoRoom e
@@ -97,10 +93,10 @@ module _ (s : List ℕ) (lows highs : List ℤ) where
 pub build-answers : BuildAnswers
 build-answers s lows highs = build-at s lows highs (read_text s) refl
 
-same-built : (r x : Refusal) → Indexed.TheVariants.Refused r ≡ Indexed.TheVariants.Refused x → r ≡ x
+same-built : (r x : Refusal) → ◌≡◌ {A = Result Unit Refusal} (Err r) (Err x) → r ≡ x
 same-built r x e = cc
 
-not-room : Indexed.TheVariants.Built ≡ Indexed.TheVariants.Refused NoRoom → ⊥
+not-room : ◌≡◌ {A = Result (Unit {0}) Refusal} (Ok tt) (Err NoRoom) → ⊥
 not-room e = let z : ◌≡◌ {A = ℕ} 0 1 = cc in omega arith
 
 pub eleven : ElevenIs
@@ -109,7 +105,7 @@ eleven s lows highs = (
   λ e. back (index_call (read_text s) (room_in lows highs)) e (build-answers s lows highs),
 )
   where
-    back : (a : Indexed) → a ≡ Indexed.TheVariants.Refused NoRoom → BuildAnswer s lows highs a
+    back : (a : Result Unit Refusal) → a ≡ Err NoRoom → BuildAnswer s lows highs a
         → (t : Table) × (read_text s ≡ fine t) × (room_in lows highs < length t.lines)
     back a e (build-table {r} p) =
         let n : number_of r ≡ 11 = ap number_of (same-built r NoRoom e) in
@@ -150,7 +146,7 @@ module _ (t : Table) (m : ℤ) (lows highs : List ℤ) (room : ℕ) where
   sought-fine x y l = rw (x, y, le-ltb room (leaves (tree t)) l) refl
 
 module _ (s : List ℕ) (m : ℤ) (lows highs : List ℤ) (room : ℕ) where
-  abbrev Answer : Bounded → Type 0
+  abbrev Answer : Result Bounds Refusal → Type 0
   Answer = IndexedAnswer s m lows highs room
 
   answer-of : (t : Table) → read_text s ≡ fine t → (c d e : Bool) → not_own t lows highs ≡ c → bad_margin m ≡ d → ltb room (leaves (tree t)) ≡ e
@@ -176,18 +172,18 @@ indexed-answers s m lows highs room = answer_at s m lows highs room (read_text s
 
 -- ---- 22
 
-same-refusal : (r x : Refusal) → Refused r ≡ Refused x → r ≡ x
+same-refusal : (r x : Refusal) → ◌≡◌ {A = Result Bounds Refusal} (Err r) (Err x) → r ≡ x
 same-refusal r x e = cc
 
 -- its number is that of no other refusal here
-other-number : {P : Type 0} (r : Refusal) → (number_of r ≡ 22 → ⊥) → Refused r ≡ Refused BadIndex → P
+other-number : {P : Type 0} (r : Refusal) → (number_of r ≡ 22 → ⊥) → ◌≡◌ {A = Result Bounds Refusal} (Err r) (Err BadIndex) → P
 other-number r h e = absurd (h (ap number_of (same-refusal r BadIndex e)))
 
-no-bounds : {P : Type 0} (r : Refusal) (b : Bounds) → Found b ≡ Refused r → P
+no-bounds : {P : Type 0} (r : Refusal) (b : Bounds) → ◌≡◌ {A = Result Bounds Refusal} (Ok b) (Err r) → P
 no-bounds r b e = let z : ◌≡◌ {A = ℕ} 0 1 = cc in absurd (omega arith)
 
 module _ (s : List ℕ) (m : ℤ) (lows highs : List ℤ) (room : ℕ) where
-  index-refused : (a : Bounded) → a ≡ Refused BadIndex → IndexedAnswer s m lows highs room a → (t : Table) × (read_text s ≡ fine t) × (OwnIndex t lows highs → ⊥)
+  index-refused : (a : Result Bounds Refusal) → a ≡ Err BadIndex → IndexedAnswer s m lows highs room a → (t : Table) × (read_text s ≡ fine t) × (OwnIndex t lows highs → ⊥)
   index-refused a e (of-table {r} p) = other-number r (λ n. omega (arith, n, refused-number s r p (omega arith))) e
   index-refused a e (of-index {t} p own) = (t, p, own)
   index-refused a e (of-margin p own x) = other-number BadMargin (λ n. omega arith) e
@@ -244,7 +240,7 @@ module _ (s : List ℕ) (t : Table) (p : read_text s ≡ fine t) where
       refused-fine : {P : Type 0} (r : Refusal) → refused r ≡ fine t → P
       refused-fine r e = let z : ◌≡◌ {A = ℕ} 0 1 = cc in absurd (omega arith)
 
-  search-line : (m : ℤ) (lows highs : List ℤ) (room : ℕ) (a : Bounded) → IndexedAnswer s m lows highs room a → search_line a ≡ 0
+  search-line : (m : ℤ) (lows highs : List ℤ) (room : ℕ) (a : Result Bounds Refusal) → IndexedAnswer s m lows highs room a → search_line a ≡ 0
   search-line m lows highs room a (of-table {r} q) = no_table r q
   search-line m lows highs room a (of-index q own) = refl
   search-line m lows highs room a (of-margin q own x) = refl
@@ -275,14 +271,14 @@ record Answered (s : List ℕ) (m : ℤ) (lows highs : List ℤ) (room : ℕ) (b
   long : leaves (tree table) ≤ room
   bounds : b ≡ bounds_of (record { table = table; seen = searched_own table (to_nat m) })
 
-no_answer : {P : Type 0} (r : Refusal) (b : Bounds) → Refused r ≡ Found b → P
+no_answer : {P : Type 0} (r : Refusal) (b : Bounds) → ◌≡◌ {A = Result Bounds Refusal} (Err r) (Ok b) → P
 no_answer r b e = let z : ◌≡◌ {A = ℕ} 0 1 = cc in absurd (omega arith)
 
-same-bounds : (a b : Bounds) → Found a ≡ Found b → b ≡ a
+same-bounds : (a b : Bounds) → ◌≡◌ {A = Result Bounds Refusal} (Ok a) (Ok b) → b ≡ a
 same-bounds a b e = cc
 
 module _ (s : List ℕ) (m : ℤ) (lows highs : List ℤ) (room : ℕ) where
-  answered-of : (b : Bounds) (a : Bounded) → a ≡ Found b → IndexedAnswer s m lows highs room a → Answered s m lows highs room b
+  answered-of : (b : Bounds) (a : Result Bounds Refusal) → a ≡ Ok b → IndexedAnswer s m lows highs room a → Answered s m lows highs room b
   answered-of b a e (of-table {r} p) = no_answer r b e
   answered-of b a e (of-index p own) = no_answer BadIndex b e
   answered-of b a e (of-margin p own x) = no_answer BadMargin b e
@@ -290,7 +286,7 @@ module _ (s : List ℕ) (m : ℤ) (lows highs : List ℤ) (room : ℕ) where
   answered-of b a e (of-search {t} p own x h) =
       record { table = t; read = p; own = own; margin = x; long = h; bounds = same-bounds (bounds_of (record { table = t; seen = searched_own t (to_nat m) })) b e }
 
-  answered : (b : Bounds) → indexed_call (read_text s) m lows highs room ≡ Found b → Answered s m lows highs room b
+  answered : (b : Bounds) → indexed_call (read_text s) m lows highs room ≡ Ok b → Answered s m lows highs room b
   answered b e = answered-of b (indexed_call (read_text s) m lows highs room) e (indexed-answers s m lows highs room)
 
   -- the same from the other side
@@ -299,7 +295,7 @@ module _ (s : List ℕ) (m : ℤ) (lows highs : List ℤ) (room : ℕ) where
     sought-found =
         ap (λ (v : Verdict Table). sought_indexed v m lows highs room) p ∙ sought-fine t m lows highs room (own-accepted s t p lows highs own) good long
 
-    answers : indexed_call (read_text s) m lows highs room ≡ Found (bounds_of (record { table = t; seen = searched_own t (to_nat m) }))
+    answers : indexed_call (read_text s) m lows highs room ≡ Ok (bounds_of (record { table = t; seen = searched_own t (to_nat m) }))
     answers = ap search_answer sought-found
 
     reads : indexed_reads (read_text s) m lows highs room ≡ (searched_own t (to_nat m)).read
@@ -338,7 +334,7 @@ indexed-sentence1 s m lows highs room b e =
     subst (Promised s m) (sym A.bounds) (promised-of s A.table m A.read A.margin)
 
 -- what an answer is, of the table that was read
-found_of : (s : List ℕ) (t : Table) (m : ℤ) (lows highs : List ℤ) (room : ℕ) (b : Bounds) → read_text s ≡ fine t → indexed_call (read_text s) m lows highs room ≡ Found b
+found_of : (s : List ℕ) (t : Table) (m : ℤ) (lows highs : List ℤ) (room : ℕ) (b : Bounds) → read_text s ≡ fine t → indexed_call (read_text s) m lows highs room ≡ Ok b
     → (bounds_of (record { table = t; seen = searched_own t (to_nat m) }) ≡ b) × (indexed_reads (read_text s) m lows highs room ≡ (searched_own t (to_nat m)).read)
 found_of s t m lows highs room b p e =
     let A = answered s m lows highs room b e in
@@ -436,7 +432,7 @@ indexed-sentence2 s m lows highs room b e u D index other long =
     let found : searched_own v ε ≡ searched_own t ε = changed.own-same-answer s u t v p q ε D.head alike index in
     let again : bounds_of (record { table = v; seen = searched_own v ε }) ≡ b =
     same-sought t v (searched_own t ε) (searched_own v ε) (changed.own-same-grain s u t v p q ε D.head alike index) found ∙ bounds in (
-      answers u m lows highs other v q own A.margin (long v q) ∙ ap Found again,
+      answers u m lows highs other v q own A.margin (long v q) ∙ ap Ok again,
       reads u m lows highs other v q own A.margin (long v q) ∙ ap (λ (x : Seen ℤ). x.read) found ∙ sym listed,
       subst (Promised u m) again (promised-of u v m q A.margin),
     )
@@ -477,7 +473,7 @@ indexed-sentence3 s m lows highs room b e size u w lows2 highs2 own other long =
       (λ z x.
           let is : z ≡ worth_of t = same-grains z (worth_of t) b.grain (grain t) (sym x ∙ ap exact_call p) in
           ap exact_call q
-          ∙ ap₂ Grains (mirror.turned-worth s u t v p q (turns t) ∙ ap neg_ℤ (sym is)) (grains ∙ sym (ap (λ (y : Bounds). y.grain) A.bounds))),
+          ∙ ap₂ (λ (z : ℤ) (g : ℕ). Ok (record { grains = z; grain = g })) (mirror.turned-worth s u t v p q (turns t) ∙ ap neg_ℤ (sym is)) (grains ∙ sym (ap (λ (y : Bounds). y.grain) A.bounds))),
       promised-of u v m q A.margin,
     )
 

@@ -1,4 +1,5 @@
--- Level plays, at the public call. Assumes nothing.
+-- Level plays, at the public call.
+use Rattle.std.proofs.Common.{Ok, Some}
 use Prim.Native.Nat.{ℕ, suc, ◌+◌, ◌≤◌}
 use mathlib.Core.Path.{◌≡◌, refl, sym, ap, ap₂, ◌∙◌}
 use mathlib.Core.Bool.{Bool, cond}
@@ -15,8 +16,6 @@ use Rattle.line.specs.Line.{to_nat}
 use Rattle.table.specs.Table.{Table, tree, read_text}
 use Rattle.table.specs.Root.{Side, AtM, AtN, to_play, root_of, numbered, child_count}
 use Rattle.worth.specs.Worth.{Share, worth_of}
-use Rattle.judge.specs.declared.Judged.TheVariants.{Loss}
-use Rattle.judge.specs.declared.Opinion.TheVariants.{Given}
 use Rattle.judge.specs.Judge.{child_worths, loss_at, levels, Judgement, judge_child, judged, judge}
 use Rattle.judge.specs.Call.{judge_answer, judge_call}
 use Rattle.judge.proofs.Judge.{judged-says, judged-sound, decided-judged, loss-heights, worths-count}
@@ -38,7 +37,7 @@ levels-worth s exact (x ∷ xs) = ap₂ (λ (b : Bool) (n : ℕ). cond b 1 0 + n
 -- ---- the judgement that was answered
 
 module _ (s : List ℕ) (t : Table) (p : read_text s ≡ fine t) where
-  answered : (i : ℤ) (loss level : ℕ) → judge_call (read_text s) i ≡ Given (Loss loss level)
+  answered : (i : ℤ) (loss level : ℕ) → judge_call (read_text s) i ≡ Ok (Some (record { loss = loss; level = level }))
       → (z : ℤ) × (judge t i ≡ fine (judged z level)) × (to_nat z ≡ loss)
   answered i loss level e = answer-loss (judge t i) loss level (sym (ap (λ (v : Verdict Table). judge_call v i) p) ∙ e)
 

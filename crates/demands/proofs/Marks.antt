@@ -1,4 +1,6 @@
--- The marking scales, over losses and at the public call. Assumes nothing.
+-- The marking scales, over losses and at the public call.
+use Rattle.std.proofs.Common.{None, Option, Result, Some}
+use Rattle.line.specs.declared.Refusal.{Refusal}
 use Prim.Native.Nat.{ℕ, ◌≤◌}
 use mathlib.Core.Path.{◌≡◌, refl, sym, ap, ap₂, ◌∙◌}
 use mathlib.Core.List.{List, [], ◌∷◌, map}
@@ -6,14 +8,11 @@ use native.Mathlib.Omega.{arith}
 use lib.ListN.{get_elem?}
 use lib.IntN.{ℤ, pos, negsuc}
 use Rattle.judge.proofs.Shift.{mapped, entry-map}
-use Rattle.report.specs.declared.Loss.{Loss}
-use Rattle.report.specs.declared.Loss.TheVariants.{NoDecision, Thousandths}
 use Rattle.report.specs.declared.Row.{Row}
 use Rattle.report.specs.Report.{loss_code, losses_in}
 use Rattle.mark.specs.declared.Mark.TheVariants.{NoMark, Doubtful, Error, Blunder}
 use Rattle.mark.specs.declared.Marking.{Marking}
 use Rattle.mark.specs.declared.Marking.TheVariants.{Printed, New}
-use Rattle.mark.specs.declared.Choice.{Choice}
 use Rattle.mark.specs.Marks.{steps, printed_mark, new_mark, mark_by, mark_code, marks_in}
 use Rattle.mark.proofs.Marks.{from-doubtful, from-error, from-blunder, below-doubtful, below-error, below-blunder, earlier-steps, choice-none}
 use Rattle.report_call.specs.Call.{by_scale, filled, reported, report_answer, report_losses}
@@ -44,9 +43,9 @@ new-known = refl
 
 -- ---- at the call
 
-mark-listed : (s : Marking) (l : Loss) → mark_code s l ≡ mark_for (mark_by s) (loss_code l)
-mark-listed s NoDecision = refl
-mark-listed s (Thousandths n) = refl
+mark-listed : (s : Marking) (l : Option ℕ) → mark_code s l ≡ mark_for (mark_by s) (loss_code l)
+mark-listed s None = refl
+mark-listed s (Some n) = refl
 
 marks-listed : (s : Marking) (rs : List Row) → marks_in s rs ≡ map (mark_for (mark_by s)) (losses_in rs)
 marks-listed s [] = refl
@@ -75,6 +74,6 @@ never-milder a b m n i j z p q = (
 
 pub twenty-is : TwentyIs
 twenty-is file scale room = (
-  λ o. ap (λ (c : Choice). report_answer (by_scale c (reported file (pos 1) room))) (sym (choice-none scale o.0 o.1)),
+  λ o. ap (λ (c : Result Marking Refusal). report_answer (by_scale c (reported file (pos 1) room))) (sym (choice-none scale o.0 o.1)),
   λ k e. let h = report-twenty file room scale k e in ((h.0, h.1), h.2),
 )

@@ -1,4 +1,5 @@
--- What holds of every match report, at the public call. Assumes nothing.
+-- What holds of every match report, at the public call.
+use Rattle.std.proofs.Common.{Err, Ok, Result}
 use Prim.Native.Nat.{ℕ, suc, ◌+◌, ◌≤◌}
 use mathlib.Core.Path.{◌≡◌, refl, sym, ap, ap₂, ◌∙◌}
 use mathlib.Core.Bool.{Bool, true, false, cond}
@@ -17,11 +18,7 @@ use Rattle.report.specs.Files.{listed_total}
 use Rattle.report.proofs.Rows.{totals-listed}
 use Rattle.report.proofs.Files.{judged-alone, two-files, position-more, stops_at, too_many}
 use Rattle.mark.specs.declared.Marking.{Marking}
-use Rattle.mark.specs.declared.Choice
-use Rattle.mark.specs.declared.Choice.{Choice}
-use Rattle.mark.specs.declared.Choice.TheVariants.{Known}
 use Rattle.mark.specs.Marks.{choice_of, marks_in}
-use Rattle.report_call.specs.declared.Reported.TheVariants.{Done, Refused}
 use Rattle.report_call.specs.Call.{by_scale, fit, reported, report_answer, report_call, filled, report_kinds, report_losses, marks_by, report_marks}
 use Rattle.report_call.proofs.Going.{kind-of, loss-of, mark_of}
 use Rattle.report_call.proofs.Answered.{report-refused}
@@ -35,17 +32,17 @@ never-one file scale room r k e z = omega (arith, z, (report-refused file room s
 -- what the file gives, by which scale, and that there was room for it
 record Given (file : List ℕ) (scale : ℤ) (room : ℕ) (t : Totals) : Type 0 where
   marking : Marking
-  known : choice_of scale ≡ Known marking
+  known : choice_of scale ≡ Ok marking
   all : List Row
   is : match_of file ≡ rows all
   fits : fit room (match_of file) ≡ rows all
   totals : totals_of all ≡ t
 
-given : (file : List ℕ) (scale : ℤ) (room : ℕ) (t : Totals) → report_call file scale room ≡ Done t → Given file scale room t
+given : (file : List ℕ) (scale : ℤ) (room : ℕ) (t : Totals) → report_call file scale room ≡ Ok t → Given file scale room t
 given file scale room t = chosen (choice_of scale) refl
   where
-    short : (s : Marking) → choice_of scale ≡ Known s → (rs : List Row) → match_of file ≡ rows rs → (b : Bool) → ltb room (length rs) ≡ b
-        → report_answer (cond b (stopped NoRoom 0) (rows rs)) ≡ Done t → Given file scale room t
+    short : (s : Marking) → choice_of scale ≡ Ok s → (rs : List Row) → match_of file ≡ rows rs → (b : Bool) → ltb room (length rs) ≡ b
+        → report_answer (cond b (stopped NoRoom 0) (rows rs)) ≡ Ok t → Given file scale room t
     short s k rs e true h d = let z : ◌≡◌ {A = ℕ} 0 1 = cc in absurd (omega arith)
     short s k rs e false h d =
         record {
@@ -57,17 +54,17 @@ given file scale room t = chosen (choice_of scale) refl
           totals = cc;
         }
 
-    go : (s : Marking) → choice_of scale ≡ Known s → (o : Outcome) → match_of file ≡ o → report_answer (fit room o) ≡ Done t → Given file scale room t
+    go : (s : Marking) → choice_of scale ≡ Ok s → (o : Outcome) → match_of file ≡ o → report_answer (fit room o) ≡ Ok t → Given file scale room t
     go s k (stopped r n) e d = let z : ◌≡◌ {A = ℕ} 0 1 = cc in absurd (omega arith)
     go s k (rows rs) e d = short s k rs e (ltb room (length rs)) refl d
 
-    chosen : (c : Choice) → choice_of scale ≡ c → report_answer (by_scale c (fit room (match_of file))) ≡ Done t → Given file scale room t
-    chosen (Choice.TheVariants.Refused r) k d = let z : ◌≡◌ {A = ℕ} 0 1 = cc in absurd (omega arith)
-    chosen (Choice.TheVariants.Known s) k d = go s k (match_of file) refl d
+    chosen : (c : Result Marking Refusal) → choice_of scale ≡ c → report_answer (by_scale c (fit room (match_of file))) ≡ Ok t → Given file scale room t
+    chosen (Err r) k d = let z : ◌≡◌ {A = ℕ} 0 1 = cc in absurd (omega arith)
+    chosen (Ok s) k d = go s k (match_of file) refl d
 
 -- by a scale that is known the file's own outcome stands
-reported-as : (file : List ℕ) (scale : ℤ) (room : ℕ) (s : Marking) → choice_of scale ≡ Known s → reported file scale room ≡ fit room (match_of file)
-reported-as file scale room s k = ap (λ (c : Choice). by_scale c (fit room (match_of file))) k
+reported-as : (file : List ℕ) (scale : ℤ) (room : ℕ) (s : Marking) → choice_of scale ≡ Ok s → reported file scale room ≡ fit room (match_of file)
+reported-as file scale room s k = ap (λ (c : Result Marking Refusal). by_scale c (fit room (match_of file))) k
 
 module _ (file : List ℕ) (scale : ℤ) (room : ℕ) (t : Totals) (G : Given file scale room t) where
   all-reported : reported file scale room ≡ rows G.all
@@ -80,7 +77,7 @@ module _ (file : List ℕ) (scale : ℤ) (room : ℕ) (t : Totals) (G : Given fi
   listed-losses = ap (λ (o : Outcome). losses_in (filled o)) all-reported
 
   listed-marks : report_marks file scale room ≡ marks_in G.marking G.all
-  listed-marks = ap₂ (λ (c : Choice) (o : Outcome). marks_by c (filled o)) G.known all-reported
+  listed-marks = ap₂ (λ (c : Result Marking Refusal) (o : Outcome). marks_by c (filled o)) G.known all-reported
 
   count-is : t.positions ≡ length G.all
   count-is = ap (λ (x : Totals). x.positions) (sym G.totals)
@@ -117,7 +114,7 @@ fits_all : (room : ℕ) (rs : List Row) → length rs ≤ room → fit room (row
 fits_all room rs p = ap (λ (b : Bool). cond b (stopped NoRoom 0) (rows rs)) (le-ltb room (length rs) p)
 
 -- both reports are by one scale
-same-marking : (s u : Marking) (c : Choice) → c ≡ Known s → c ≡ Known u → u ≡ s
+same-marking : (s u : Marking) (c : Result Marking Refusal) → c ≡ Ok s → c ≡ Ok u → u ≡ s
 same-marking s u c p q = cc
 
 pub two-reports : TwoFiles
@@ -142,14 +139,14 @@ two-reports a b scale room t u e f n p =
       ap (λ (o : Outcome). losses_in (filled o)) z
           ∙ map-append loss-of G.all H.all
           ∙ (λ i. sym (listed-losses a scale room t G) i ++ sym (listed-losses b scale room u H) i),
-      ap₂ (λ (c : Choice) (o : Outcome). marks_by c (filled o)) G.known z
+      ap₂ (λ (c : Result Marking Refusal) (o : Outcome). marks_by c (filled o)) G.known z
           ∙ map-append (mark_of s) G.all H.all
           ∙ (λ i. sym (listed-marks a scale room t G) i ++ sym marks-b i),
     )
 
 -- what the file a ++ s gives, for any room
-module _ (a : List ℕ) (scale : ℤ) (room room' : ℕ) (t : Totals) (e : report_call a scale room ≡ Done t) where
-  stops : (s : List ℕ) (r : Refusal) (k : ℕ) → match_of (a ++ s) ≡ stopped r k → report_call (a ++ s) scale room' ≡ Refused r k
+module _ (a : List ℕ) (scale : ℤ) (room room' : ℕ) (t : Totals) (e : report_call a scale room ≡ Ok t) where
+  stops : (s : List ℕ) (r : Refusal) (k : ℕ) → match_of (a ++ s) ≡ stopped r k → report_call (a ++ s) scale room' ≡ Err (record { refusal = r; position = k })
   stops s r k p =
       let G = given a scale room t e in
       ap report_answer (reported-as (a ++ s) scale room' G.marking G.known ∙ ap (fit room') p)
@@ -159,7 +156,7 @@ refused-stops a s scale room room' t r e n h p =
     let G = given a scale room t e in
     let c = count-is a scale room t G in
     stops a scale room room' t e s r (suc (length G.all)) (stops_at a s G.all G.is (omega (arith, c, n)) h r p)
-    ∙ ap (λ (m : ℕ). Refused r (suc m)) (sym c)
+    ∙ ap (λ (m : ℕ). Err (record { refusal = r; position = suc m })) (sym c)
 
 pub own-bytes : OwnBytes
 own-bytes s x w = position-more s x w

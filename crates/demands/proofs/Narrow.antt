@@ -1,4 +1,6 @@
--- A table with a C whose own ends are narrower than the table's: its index, and its searches, by computation. Document 02, Item 14. Assumes nothing.
+-- A table with a C whose own ends are narrower than the table's: its index, and its searches, by computation. Document 02, Item 14.
+use Rattle.std.proofs.Common.{Err, Ok, Result}
+use Rattle.search_call.specs.declared.Bounds.{Bounds}
 use Prim.Native.Nat.{ℕ}
 use mathlib.Core.Path.{◌≡◌, refl}
 use mathlib.Core.Bool.{false}
@@ -19,10 +21,7 @@ use Rattle.turn_call.specs.Call.{turn_bytes}
 use Rattle.index.specs.Index.{values_of, lowest_of, highest_of, entries, written, agrees}
 use Rattle.search.specs.Search.{begin, finish, cut, point, met_spent, lower, upper, safer, update, stop, scan, search, search_root}
 use Rattle.search.specs.Whole.{down_z, up_z, gain_z, loss_z, down_own, up_own, in_grains}
-use Rattle.search_call.specs.declared.Bounded.{Bounded}
-use Rattle.search_call.specs.declared.Bounded.TheVariants.{Found, Refused}
 use Rattle.search_call.specs.Call.{search_call, search_reads}
-use Rattle.index_call.specs.declared.Indexed
 use Rattle.index_call.specs.Call.{index_call, index_lows, index_highs, indexed_call, indexed_reads}
 
 -- "   7   4       0     100"
@@ -85,25 +84,25 @@ highs = pos 9 ∷ pos 81 ∷ pos 6 ∷ pos 83 ∷ pos 84 ∷ pos 85 ∷ pos 86 �
 abbrev ends : (root under : ℤ) → List ℤ
 ends root under = root ∷ pos 0 ∷ under ∷ pos 0 ∷ pos 0 ∷ pos 0 ∷ pos 0 ∷ []
 
-built : (index_call (read_text narrow) 8 ≡ Indexed.TheVariants.Built)
+built : (index_call (read_text narrow) 8 ≡ (Ok tt))
     × (written (index_lows (read_text narrow) 8) lent-lows ≡ lows)
     × (written (index_highs (read_text narrow) 8) lent-highs ≡ highs)
-    × (index_call (read_text narrow) 7 ≡ Indexed.TheVariants.Built)
-    × (index_call (read_text narrow) 6 ≡ Indexed.TheVariants.Refused NoRoom)
+    × (index_call (read_text narrow) 7 ≡ (Ok tt))
+    × (index_call (read_text narrow) 6 ≡ Err NoRoom)
 unfolding strip digits whole_field signed leading lines_text unless unless_at climb run after_run forest weigh nodes_where leaves node_lines complete read_text greatest among uses powers max_z min_z floor_z ceil_z values_of lowest_of highest_of entries written agrees begin finish cut point met_spent lower upper safer update stop scan search search_root down_z up_z gain_z loss_z down_own up_own in_grains
 built = (refl, refl, refl, refl, refl)
 
 -- an answer, and the leaves that were read
 record Answer : Type 0 where
-  answer : Bounded
+  answer : Result Bounds Refusal
   read : List ℕ
 
 abbrev found : (z : ℤ) (count : ℕ) (read : List ℕ) → Answer
 found z count read =
-    record { answer = Found (record { low = z; high = z; difference = pos 0; play = Child 6; leaves = count; spent = false; grain = 4 }); read = read }
+    record { answer = Ok (record { low = z; high = z; difference = pos 0; play = Child 6; leaves = count; spent = false; grain = 4 }); read = read }
 
 abbrev refusal : Refusal → Answer
-refusal r = record { answer = Refused r; read = [] }
+refusal r = record { answer = Err r; read = [] }
 
 abbrev plain : (text : List ℕ) → Answer
 plain text = record { answer = search_call (read_text text) (pos 0) 5; read = search_reads (read_text text) (pos 0) 5 }

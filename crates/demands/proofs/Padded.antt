@@ -1,4 +1,4 @@
--- The theorems of specs/Padded.antt. Assumes nothing.
+-- The theorems of specs/Padded.antt.
 use mathlib.Core.Path.{◌≡◌, ap}
 use Rattle.field.proofs.Padding.{pads-read, minus-zeros as minus-zeros-ill}
 use Rattle.field.proofs.Inverse.{number-pads}

@@ -1,4 +1,5 @@
--- What holds of every table that is written by a recipe. Assumes nothing.
+-- What holds of every table that is written by a recipe.
+use Rattle.std.proofs.Common.{Ok}
 use Prim.Native.Nat.{ℕ, ◌≤◌}
 use mathlib.Core.Path.{◌≡◌, refl, sym, ap, ◌∙◌}
 use mathlib.Core.List.{List}
@@ -10,7 +11,6 @@ use lib.IntN.{pos}
 use Rattle.line.specs.Refusal.{Verdict, fine}
 use Rattle.line.specs.Line.{to_nat, totals}
 use Rattle.table.specs.Tree.{grain_of}
-use Rattle.table.specs.declared.Reading.TheVariants.{Accepted}
 use Rattle.table.specs.Table.{answer}
 use Rattle.table.specs.Slices.{laid}
 use Rattle.writing.proofs.Reread.{again-tree}
@@ -63,7 +63,7 @@ recipe-numbers seed branching depth dice room s e =
     let grain = ap (grain_of (totals (recipe_head b with))) (again-tree (recipe_head b with) F (sound b with R.least R.most (to_nat seed) (to_nat depth) few)) ∙ recipe-grain b with some (to_nat seed) (to_nat depth) in
     let leaves = recipe-leaves b with (to_nat seed) (to_nat depth) in
     ap answer (accepted seed branching depth dice room s e)
-    ∙ (λ j. Accepted (record {
+    ∙ (λ j. Ok (record {
       nodes = count j;
       total = (recipe_head b with).total;
       lowest = pos 0;

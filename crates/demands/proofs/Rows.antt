@@ -1,4 +1,4 @@
--- The starred positions of document 01, all rows by computation. Assumes nothing.
+-- The starred positions of document 01, all rows by computation.
 use mathlib.Core.Path.{refl}
 use Rattle.field.specs.Field.{strip, digits, whole as whole_field, signed, leading}
 use Rattle.numbers.specs.Integers.{max_z, min_z, floor_z, ceil_z}

@@ -1,4 +1,5 @@
--- Document 02, Item 6, at the public calls. Assumes nothing.
+-- Document 02, Item 6, at the public calls.
+use Rattle.std.proofs.Common.{Ok}
 use Prim.Native.Nat.{ℕ}
 use mathlib.Core.Path.{◌≡◌, refl, sym, ap, subst, ◌∙◌}
 use mathlib.Core.Bool.{Bool, true, false}
@@ -20,7 +21,6 @@ use Rattle.search.specs.Whole.{searched, searched_until, searched_within, down_z
 use Rattle.search.specs.Former.{formerly, former_until}
 use Rattle.search.proofs.Former.{as_before}
 use Rattle.search_call.specs.declared.Bounds.{Bounds}
-use Rattle.search_call.specs.declared.Bounded.TheVariants.{Found}
 use Rattle.search_call.specs.Call.{bounds_of, search_call, within_call}
 use Rattle.search_call.proofs.Call.{inside_is}
 use Rattle.search_call.proofs.Answered.{answered, reads, answered-within, reads-within}
@@ -64,12 +64,12 @@ some_left b n e h = lt-leb n 0 (ltb-true 0 n (ap (lt_z (pos 0)) e ∙ h))
 
 -- what an answer is, of the table that was read
 module _ (s : List ℕ) (t : Table) (m : ℤ) (room : ℕ) (a : Bounds) (p : read_text s ≡ fine t) where
-  plain-found : (e : search_call (read_text s) m room ≡ Found a) → a ≡ found t (to_nat m) unlimited
+  plain-found : (e : search_call (read_text s) m room ≡ Ok a) → a ≡ found t (to_nat m) unlimited
   plain-found e =
       let A = answered s m room a e in
       A.bounds ∙ ap (λ (x : Table). bounds_of (record { table = x; seen = searched x (to_nat m) })) (fine-same A.table t (sym A.read ∙ p))
 
-  within-found : (b : ℤ) → within_call (read_text s) m b room ≡ Found a → a ≡ found t (to_nat m) (limited (to_nat b))
+  within-found : (b : ℤ) → within_call (read_text s) m b room ≡ Ok a → a ≡ found t (to_nat m) (limited (to_nat b))
   within-found b e =
       let A = answered-within s m b room a e in
       A.bounds ∙ ap (λ (x : Table). bounds_of (record { table = x; seen = searched_within x (to_nat m) (to_nat b) })) (fine-same A.table t (sym A.read ∙ p))

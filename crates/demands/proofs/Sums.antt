@@ -1,4 +1,4 @@
--- The running sums of chance lines, of every accepted text. Assumes nothing.
+-- The running sums of chance lines, of every accepted text.
 use Rattle.search.proofs.Summed.{summed, sums-before}
 use Rattle.demands.specs.Sums.{SumsAreTimes, ResultsAsBefore}
 

@@ -1,4 +1,4 @@
--- The theorems of specs/Totals.antt. Assumes nothing.
+-- The theorems of specs/Totals.antt.
 use Prim.Native.Nat.{ℕ, zero, suc, ◌<◌}
 use mathlib.Core.Path.{◌≡◌, refl, sym, ap, ◌∙◌}
 use mathlib.Core.Bool.{Bool, false, not, ◌||◌, cond, or-false}

@@ -1,4 +1,8 @@
--- Demand 1: what a refused call was lent is as it was. Assumes nothing.
+-- Demand 1: what a refused call was lent is as it was.
+use Rattle.std.proofs.Common.{Err, Ok, Result, Option}
+use Rattle.worth.specs.declared.Exact.{Exact}
+use Rattle.judge.specs.declared.Decision.{Decision}
+use Rattle.mark.specs.declared.Marking.{Marking}
 use Prim.Native.Nat.{ℕ}
 use mathlib.Core.Path.{◌≡◌, refl, sym, ap, ◌∙◌}
 use mathlib.Core.List.{List, [], ◌∷◌}
@@ -11,11 +15,7 @@ use Rattle.line.proofs.Numbers.{number-some}
 use Rattle.table.specs.Table.{Table, read_text, answer}
 use Rattle.table.specs.Slices.{laid, fitted, kinds_of, stops_of, weights_of, heights_of, decoded}
 use Rattle.table.proofs.Top.{unchanged}
-use Rattle.worth.specs.declared.Exact.{Exact}
-use Rattle.worth.specs.declared.Exact.TheVariants.{Grains, Refused}
 use Rattle.worth.specs.Call.{exact_call}
-use Rattle.judge.specs.declared.Opinion
-use Rattle.judge.specs.declared.Opinion.{Opinion}
 use Rattle.judge.specs.Call.{judge_call}
 use Rattle.turn_call.specs.Call.{turn_of, turn_answer, turn_written}
 use Rattle.recipe_call.specs.Call.{recipe_of, made_of, bytes_of}
@@ -26,8 +26,6 @@ use Rattle.rollout_call.specs.declared.Record.{Record}
 use Rattle.rolled.specs.Call.{rolls, roll_answer, roll_list, roll_records}
 use Rattle.rollout_call.specs.Records.{recorded}
 use Rattle.report.specs.Report.{Outcome, stopped, rows, kinds_in, losses_in}
-use Rattle.mark.specs.declared.Choice
-use Rattle.mark.specs.declared.Choice.{Choice}
 use Rattle.mark.specs.Marks.{choice_of}
 use Rattle.report_call.specs.Call.{room_in, reported, report_answer, filled, marks_by}
 use Rattle.codes.specs.Numbers.{read_code, numbers_of, worth_code, worth_numbers, judge_code, judge_numbers, search_code, search_numbers, roll_code, roll_numbers, turned_code, recipe_code, recipe_numbers, index_code, report_code, report_numbers, put}
@@ -51,13 +49,13 @@ read-code : (v : Verdict Table) (numbers : List ℤ) (kind stop weight height : 
 read-code (refused r) numbers kind stop weight height c = (refl, slices-kept r kind stop weight height)
 read-code (fine t) numbers kind stop weight height c = absurd (c refl)
 
-worth-code : (e : Exact) (numbers : List ℤ) → Refuses (worth_code e) → put 0 (worth_numbers e) numbers ≡ numbers
-worth-code (Grains z g) numbers c = absurd (c refl)
-worth-code (Refused r) numbers c = refl
+worth-code : (e : Result Exact Refusal) (numbers : List ℤ) → Refuses (worth_code e) → put 0 (worth_numbers e) numbers ≡ numbers
+worth-code (Ok w) numbers c = absurd (c refl)
+worth-code (Err r) numbers c = refl
 
-judge-code : (o : Opinion) (numbers : List ℕ) → Refuses (judge_code o) → put 0 (judge_numbers o) numbers ≡ numbers
-judge-code (Opinion.TheVariants.Given j) numbers c = absurd (c refl)
-judge-code (Opinion.TheVariants.Refused r) numbers c = refl
+judge-code : (o : Result (Option Decision) Refusal) (numbers : List ℕ) → Refuses (judge_code o) → put 0 (judge_numbers o) numbers ≡ numbers
+judge-code (Ok j) numbers c = absurd (c refl)
+judge-code (Err r) numbers c = refl
 
 search-code : (v : Verdict Sought) (list : List ℕ) (numbers : List ℤ) → Refuses (search_code (search_answer v))
     → (put 0 (search_numbers (search_answer v)) numbers ≡ numbers) × (laid (search_list v) list ≡ list)
@@ -88,11 +86,11 @@ roll-code : (p : List ℕ) (v : Verdict Table) (list : List ℕ) (store : List R
 roll-code p (refused r) list store numbers c = (refl, refl, refl)
 roll-code p (fine t) list store numbers c = absurd (c refl)
 
-report-code : (s : Choice) (o : Outcome) (kinds : List ℕ) (losses : List ℤ) (marks : List ℕ) (numbers : List ℤ) → Refuses (report_code (report_answer o))
+report-code : (s : Result Marking Refusal) (o : Outcome) (kinds : List ℕ) (losses : List ℤ) (marks : List ℕ) (numbers : List ℤ) → Refuses (report_code (report_answer o))
     → (put 0 (report_numbers (report_answer o)) numbers ≡ numbers)
     × ((laid (kinds_in (filled o)) kinds ≡ kinds) × (laid (losses_in (filled o)) losses ≡ losses) × (laid (marks_by s (filled o)) marks ≡ marks))
-report-code (Choice.TheVariants.Refused q) (stopped r k) kinds losses marks numbers c = (refl, (refl, refl, refl))
-report-code (Choice.TheVariants.Known s) (stopped r k) kinds losses marks numbers c = (refl, (refl, refl, refl))
+report-code (Err q) (stopped r k) kinds losses marks numbers c = (refl, (refl, refl, refl))
+report-code (Ok s) (stopped r k) kinds losses marks numbers c = (refl, (refl, refl, refl))
 report-code s (rows rs) kinds losses marks numbers c = absurd (c refl)
 
 pub c-read-untouched : CReadUntouched

@@ -1,9 +1,9 @@
--- Lines with other utilities: their tree, and that their text is accepted. Assumes nothing.
+-- Lines with other utilities: their tree, and that their text is accepted.
 use Prim.Native.Nat.{ℕ, zero, suc, ◌+◌}
 use mathlib.Core.Path.{◌≡◌, refl, sym, ap, ap₂, subst, ◌∙◌}
 use mathlib.Core.Bool.{Bool, true, false, cond}
 use mathlib.Core.List.{List, [], ◌∷◌, ◌++◌, Memᴰ}
-use lib.Dec.{eqb, leb}
+use lib.Dec.{leb}
 use lib.ListN.{length}
 use lib.IntN.{ℤ}
 use Rattle.line.specs.declared.Head.{Head}
@@ -19,6 +19,7 @@ use Rattle.writing.specs.Text.{table_text}
 use Rattle.writing.proofs.Reread.{read_back, accepted-sound}
 use Rattle.writing.proofs.Shaped.{Shaped, shaped-end, shaped-leaf, shaped-inner, sound-shaped}
 use Rattle.promise.specs.Unread.{Alike, alike_end, alike-leaf, alike-inner}
+use Rattle.line.specs.Line.{code, is_leaf}
 use Rattle.demands.specs.Demands.{with_utility, SameLines, same_none, same_more, Given, given-none, given-kept, given-new}
 
 -- ---- the tree
@@ -46,12 +47,12 @@ module _ (read : List ℕ) where
 
   grown : (l : Line) (z : ℤ) {u u2 r r2 : Forest ℤ} → (Read l.node → l.utility ≡ z) → Alike Read u u2 → Alike Read r r2
       → Alike Read (grow l.utility l u r) (grow z (with_utility z l) u2 r2)
-  grown l z {u} {u2} {r} {r2} q a b = go (eqb l.kind 0)
+  grown l z {u} {u2} {r} {r2} q a b = go (is_leaf l.kind)
     where
       go : (c : Bool)
           → Alike Read
-          (cond c (leaf l.node l.weight l.utility r) (inner l.node l.weight (kind_of l.kind) u r))
-          (cond c (leaf l.node l.weight z r2) (inner l.node l.weight (kind_of l.kind) u2 r2))
+          (cond c (leaf l.node l.weight l.utility r) (inner l.node l.weight (kind_of (code l.kind)) u r))
+          (cond c (leaf l.node l.weight z r2) (inner l.node l.weight (kind_of (code l.kind)) u2 r2))
       go true = alike-leaf q b
       go false = alike-inner a b
 
@@ -107,7 +108,7 @@ module _ (h : Head) where
       let r = given-tree read p c rest s.4 in
       (inner n w k u.0 r.0, ap (λ (ms : List Line). l ∷ ms) (ap₂ ◌++◌ u.1 r.1 ∙ s.2), shaped-inner refl u.2 r.2)
   given-tree read p c (inner n w k under rest) (given-new kind unread inside g) =
-      absurd (true-ne-false (sym (ap (λ (m : ℕ). eqb m 0) kind) ∙ code-inner k))
+      absurd (true-ne-false (sym (ap is_leaf kind) ∙ code-inner k))
 
 -- ---- the text
 

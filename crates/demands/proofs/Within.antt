@@ -1,4 +1,5 @@
--- Demand 3 of the search within a budget, at its call: the steps from which the theorems with a budget and without follow. Assumes nothing.
+-- Demand 3 of the search within a budget, at its call: the steps from which the theorems with a budget and without follow.
+use Rattle.std.proofs.Common.{Ok, Result}
 use Prim.Native.Nat.{ℕ, ◌≤◌}
 use mathlib.Core.Path.{◌≡◌, refl, sym, ap, ap₂, subst, ◌∙◌}
 use mathlib.Core.Bool.{Bool, true, false, cond}
@@ -17,8 +18,8 @@ use Rattle.table.specs.Tree.{leaves}
 use Rattle.table.specs.Table.{Table, tree, read_text, grain}
 use Rattle.table.specs.Root.{root_of, play_of}
 use Rattle.table.specs.declared.Play.TheVariants.{Child}
+use Rattle.worth.specs.declared.Exact.{Exact}
 use Rattle.worth.specs.Worth.{worth_of}
-use Rattle.worth.specs.declared.Exact.TheVariants.{Grains}
 use Rattle.worth.specs.Call.{exact_call}
 use Rattle.turn.specs.Turn.{turn_table, turned_text}
 use Rattle.turn.proofs.Tree.{tree-turned}
@@ -28,7 +29,6 @@ use Rattle.search.specs.Search.{Seen, unlimited, limited, node_of}
 use Rattle.search.specs.Whole.{searched, searched_within}
 use Rattle.search.proofs.Within.{unspent-same}
 use Rattle.search_call.specs.declared.Bounds.{Bounds}
-use Rattle.search_call.specs.declared.Bounded.TheVariants.{Found}
 use Rattle.search_call.specs.Call.{bad_margin, bounds_of, within_reads}
 use Rattle.search_call.proofs.Call.{inside_is}
 use Rattle.search_call.proofs.Answered.{answered-within, answers-within, reads-within}
@@ -136,7 +136,7 @@ within_same s m b room a e u D other long =
     let found : searched_within v ε n ≡ searched_within t ε n = changed.same_answer s u t v D.is-old D.is-new ε full D.head alike in
     let again : bounds_of (record { table = v; seen = searched_within v ε n }) ≡ a =
     same-sought t v (searched_within t ε n) (searched_within v ε n) (changed.same-grain s u t v D.is-old D.is-new ε full D.head alike) found ∙ sym bounds in (
-      answers-within u m b other v D.is-new A.margin A.budget (long v D.is-new) ∙ ap Found again,
+      answers-within u m b other v D.is-new A.margin A.budget (long v D.is-new) ∙ ap Ok again,
       reads-within u m b other v D.is-new A.margin A.budget (long v D.is-new) ∙ ap (λ (x : Seen ℤ). x.read) found ∙ sym listed,
       subst (KeptWithin u m) again (kept-within u v m b D.is-new A.margin),
     )
@@ -158,8 +158,10 @@ written t size u e = go (ltb size (length (turned_text t))) e
     go true e = no_text NoRoom u e
     go false e = text_same (turned_text t) u e
 
-pub same-grains : (y z : ℤ) (g h : ℕ) → Grains y g ≡ Grains z h → y ≡ z
-same-grains y z g h e = cc
+pub same-grains : (y z : ℤ) (g h : ℕ) → ◌≡◌ {A = Result Exact Refusal} (Ok (record { grains = y; grain = g })) (Ok (record { grains = z; grain = h })) → y ≡ z
+same-grains y z g h e =
+    let same : ◌≡◌ {A = Exact} (record { grains = y; grain = g }) (record { grains = z; grain = h }) = cc in
+    ap (λ (w : Exact). w.grains) same
 
 pub within-turned : Within3
 within-turned s m b room a e size u w other long =
@@ -193,6 +195,6 @@ within-turned s m b room a e size u w other long =
       (λ z x.
           let is : z ≡ worth_of t = same-grains z (worth_of t) a.grain (grain t) (sym x ∙ ap exact_call p) in
           ap exact_call q
-          ∙ ap₂ Grains (mirror.turned-worth s u t v p q turns ∙ ap neg_ℤ (sym is)) (grains ∙ sym (ap (λ (y : Bounds). y.grain) A.bounds))),
+          ∙ ap₂ (λ (z : ℤ) (g : ℕ). Ok (record { grains = z; grain = g })) (mirror.turned-worth s u t v p q turns ∙ ap neg_ℤ (sym is)) (grains ∙ sym (ap (λ (y : Bounds). y.grain) A.bounds))),
       kept-within u v m b q A.margin,
     )

@@ -1,4 +1,7 @@
--- Match files of document 01's tables and others, reported by computation. Assumes nothing.
+-- Match files of document 01's tables and others, reported by computation.
+use Rattle.std.proofs.Common.{Err, Ok, Result, Some}
+use Rattle.report.specs.declared.Totals.{Totals}
+use Rattle.report_call.specs.declared.Unreported.{Unreported}
 use Prim.Native.Nat.{ℕ}
 use mathlib.Core.Path.{◌≡◌, refl}
 use mathlib.Core.List.{List, [], ◌∷◌, ◌++◌}
@@ -14,13 +17,9 @@ use Rattle.table.specs.Root.{nodes}
 use Rattle.table.specs.Table.{node_lines, complete, read_text, greatest}
 use Rattle.numbers.specs.Integers.{max_z, min_z, floor_z}
 use Rattle.worth.specs.Worth.{largest, smallest, weighted, total, value, shares}
-use Rattle.judge.specs.declared.Judged.TheVariants.{Loss}
-use Rattle.judge.specs.declared.Opinion.TheVariants.{Given}
 use Rattle.judge.specs.Judge.{levels}
 use Rattle.judge.specs.Call.{judge_call}
 use Rattle.report.specs.Report.{position_of, match_from, total_of}
-use Rattle.report_call.specs.declared.Reported.{Reported}
-use Rattle.report_call.specs.declared.Reported.TheVariants.{Done, Refused}
 use Rattle.report_call.specs.Call.{report_call, report_kinds, report_losses, report_marks}
 
 -- a position: the byte of a digit as the play number, and a table
@@ -55,7 +54,7 @@ match =
 
 -- the answer and the lists, by the scale of this number and for lists of so many entries
 record Answer : Type 0 where
-  answer : Reported
+  answer : Result Totals Unreported
   kinds : List ℕ
   losses : List ℤ
   marks : List ℕ
@@ -69,7 +68,7 @@ answered file scale room =
       marks = report_marks file scale room;
     }
 
-refusal : Reported → Answer
+refusal : Result Totals Unreported → Answer
 refusal r = record { answer = r; kinds = []; losses = []; marks = [] }
 
 -- an empty file; the match; the match with a list too short; the same by a scale that there is none of, which is refused first; table B twice, the
@@ -81,17 +80,17 @@ known : (answered [] (pos 1) 0
     ∷ answered (position 50 table-b ++ position 51 table-b) (pos 2) 4
     ∷ answered (take 270 match) (pos 1) 4
     ∷ [])
-    ≡ record { answer = Done (record { positions = 0; max = record { decisions = 0; sum = 0 }; min = record { decisions = 0; sum = 0 } }); kinds = []; losses = []; marks = [] }
+    ≡ record { answer = Ok (record { positions = 0; max = record { decisions = 0; sum = 0 }; min = record { decisions = 0; sum = 0 } }); kinds = []; losses = []; marks = [] }
     ∷ record {
-      answer = Done (record { positions = 7; max = record { decisions = 3; sum = 3166 }; min = record { decisions = 1; sum = 1500 } });
+      answer = Ok (record { positions = 7; max = record { decisions = 3; sum = 3166 }; min = record { decisions = 1; sum = 1500 } });
       kinds = 1 ∷ 1 ∷ 2 ∷ 1 ∷ 1 ∷ 3 ∷ 0 ∷ [];
       losses = pos 1000 ∷ pos 1500 ∷ pos 1500 ∷ pos 666 ∷ negsuc 0 ∷ negsuc 0 ∷ negsuc 0 ∷ [];
       marks = 4 ∷ 4 ∷ 4 ∷ 4 ∷ 0 ∷ 0 ∷ 0 ∷ [];
     }
-    ∷ refusal (Refused NoRoom 0)
-    ∷ refusal (Refused BadScale 0)
-    ∷ refusal (Refused NoChild 2)
-    ∷ refusal (Refused NoPosition 2)
+    ∷ refusal (Err (record { refusal = NoRoom; position = 0 }))
+    ∷ refusal (Err (record { refusal = BadScale; position = 0 }))
+    ∷ refusal (Err (record { refusal = NoChild; position = 2 }))
+    ∷ refusal (Err (record { refusal = NoPosition; position = 2 }))
     ∷ []
 unfolding refusal position thirds-head thirds1 thirds3 thirds4 thirds match answered max_z min_z floor_z largest smallest weighted total value shares levels strip digits whole signed unless unless_at climb run after forest weigh nodes_where node_lines complete read_text greatest among uses powers position_of match_from total_of nodes
 known = refl
@@ -125,10 +124,10 @@ grain-off : List ℕ
 grain-off = grain-head ++ (max-root ++ (grain1 ++ (chance ++ (grain3 ++ (grain4 ++ (grain5 ++ grain6))))))
 
 -- Document 02, Item 8: the play is not level, and "Losses in the report stay in thousandths", where it is listed with 0
-listed-not-level : (judge_call (read_text grain-off) (pos 1) ≡ Given (Loss 1 1))
+listed-not-level : (judge_call (read_text grain-off) (pos 1) ≡ Ok (Some (record { loss = 1; level = 1 })))
     × (answered (position 49 grain-off) (pos 2) 1
     ≡ record {
-      answer = Done (record { positions = 1; max = record { decisions = 1; sum = 0 }; min = record { decisions = 0; sum = 0 } });
+      answer = Ok (record { positions = 1; max = record { decisions = 1; sum = 0 }; min = record { decisions = 0; sum = 0 } });
       kinds = 1 ∷ [];
       losses = pos 0 ∷ [];
       marks = 1 ∷ [];

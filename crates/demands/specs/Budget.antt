@@ -1,6 +1,6 @@
 -- Document 02, Item 3, at the public calls: the search within a budget of leaf reads against document 01's search, and what of demand 3 it keeps. What is
 -- quoted is the item, where no other paper is named. proofs/Budget.antt has the theorems.
-use Rattle.std.specs.Prelude.{ℕ, ◌≤◌, ◌≡◌, Bool, true, false, List, [], ◌∷◌, length, take, ℤ, pos, neg_ℤ, ◌-ℤ◌, ◌*ℤ◌}
+use Rattle.std.specs.Prelude.{ℕ, ◌≤◌, ◌≡◌, Bool, true, false, List, [], ◌∷◌, length, take, ℤ, pos, neg_ℤ, ◌-ℤ◌, ◌*ℤ◌, Err, Ok}
 use Rattle.std.proofs.Math.Option.{some}
 use Rattle.std.specs.Int.Signed.{lt_z, le_z}
 use Rattle.line.specs.declared.Refusal.TheVariants.{BadBudget}
@@ -10,11 +10,9 @@ use Rattle.table.specs.Root.{AtM, AtN, to_play, root_of}
 use Rattle.table.specs.Examples.{table-a, table-b}
 use Rattle.table.specs.declared.Play.{Play}
 use Rattle.table.specs.declared.Play.TheVariants.{Child, NoPlay}
-use Rattle.worth.specs.declared.Exact.TheVariants.{Grains}
 use Rattle.worth.specs.Call.{exact_call}
 use Rattle.turn_call.specs.Call.{turn_of}
 use Rattle.search_call.specs.declared.Bounds.{Bounds}
-use Rattle.search_call.specs.declared.Bounded.TheVariants.{Found, Refused}
 use Rattle.search_call.specs.Call.{bad_margin, bad_budget, sought, sought_within, search_call, search_reads, within_call, within_reads}
 use Rattle.demands.specs.Demands.{child_worth, Promised, LongEnough, Differ, Mirrors}
 
@@ -27,25 +25,25 @@ DefaultBudget = (s : List ℕ) (m : ℤ) (room : ℕ) → sought (read_text s) m
 
 -- and it is never spent
 abbrev pub NeverSpent : Type 0
-NeverSpent = (s : List ℕ) (m : ℤ) (room : ℕ) (a : Bounds) → search_call (read_text s) m room ≡ Found a → a.spent ≡ false
+NeverSpent = (s : List ℕ) (m : ℤ) (room : ℕ) (a : Bounds) → search_call (read_text s) m room ≡ Ok a → a.spent ≡ false
 
 -- "whether the budget was spent: yes exactly when the search of document 01 reads more leaves than the budget", c being that search's answer
 abbrev pub SpentWhere : Type 0
 SpentWhere =
-    (s : List ℕ) (m b : ℤ) (room other : ℕ) (a c : Bounds) → within_call (read_text s) m b room ≡ Found a → search_call (read_text s) m other ≡ Found c
+    (s : List ℕ) (m b : ℤ) (room other : ℕ) (a c : Bounds) → within_call (read_text s) m b room ≡ Ok a → search_call (read_text s) m other ≡ Ok c
     → a.spent ≡ lt_z b (pos c.leaves)
 
 -- "A search not spent gives the answer it gives without a budget"
 abbrev pub UnspentSame : Type 0
 UnspentSame =
-    (s : List ℕ) (m b : ℤ) (room : ℕ) (a : Bounds) → within_call (read_text s) m b room ≡ Found a → a.spent ≡ false
-    → (search_call (read_text s) m room ≡ Found a)
+    (s : List ℕ) (m b : ℤ) (room : ℕ) (a : Bounds) → within_call (read_text s) m b room ≡ Ok a → a.spent ≡ false
+    → (search_call (read_text s) m room ≡ Ok a)
     × (search_reads (read_text s) m room ≡ within_reads (read_text s) m b room)
 
 -- "a spent one lists the first leaves of that search's sequence, as many as the budget"
 abbrev pub SpentFirst : Type 0
 SpentFirst =
-    (s : List ℕ) (m b : ℤ) (room : ℕ) (a : Bounds) → within_call (read_text s) m b room ≡ Found a → a.spent ≡ true
+    (s : List ℕ) (m b : ℤ) (room : ℕ) (a : Bounds) → within_call (read_text s) m b room ≡ Ok a → a.spent ≡ true
     → (within_reads (read_text s) m b room ≡ take a.leaves (search_reads (read_text s) m room)) × (pos a.leaves ≡ b)
 
 -- "A node first met when the budget is spent gives the table's two ends as its bounds and reads nothing", of the root, which is so met with a budget of 0:
@@ -59,7 +57,7 @@ pub record Unread (t : Table) (a : Bounds) : Type 0 where
 
 abbrev pub RootUnread : Type 0
 RootUnread =
-    (s : List ℕ) (t : Table) (m : ℤ) (room : ℕ) (a : Bounds) → read_text s ≡ fine t → within_call (read_text s) m (pos 0) room ≡ Found a → Unread t a
+    (s : List ℕ) (t : Table) (m : ℤ) (room : ℕ) (a : Bounds) → read_text s ≡ fine t → within_call (read_text s) m (pos 0) room ≡ Ok a → Unread t a
 
 -- ---- 17
 
@@ -67,8 +65,8 @@ RootUnread =
 abbrev pub SeventeenIs : Type 0
 SeventeenIs =
     (s : List ℕ) (m b : ℤ) (room : ℕ)
-    → ((t : Table) → read_text s ≡ fine t → bad_margin m ≡ false → bad_budget b ≡ true → within_call (read_text s) m b room ≡ Refused BadBudget)
-    × (within_call (read_text s) m b room ≡ Refused BadBudget → (t : Table) × (read_text s ≡ fine t) × (bad_margin m ≡ false) × (bad_budget b ≡ true))
+    → ((t : Table) → read_text s ≡ fine t → bad_margin m ≡ false → bad_budget b ≡ true → within_call (read_text s) m b room ≡ Err BadBudget)
+    × (within_call (read_text s) m b room ≡ Err BadBudget → (t : Table) × (read_text s ≡ fine t) × (bad_margin m ≡ false) × (bad_budget b ≡ true))
 
 -- "a number of leaf reads, 0 to 1,024"
 abbrev pub Budgets : Type 0
@@ -80,7 +78,7 @@ Budgets = ((n : ℕ) → n ≤ 1024 → bad_budget (pos n) ≡ false) × ((b : �
 -- at N."
 pub record Kept (s : List ℕ) (a : Bounds) : Type 0 where
   pub worth : ℤ
-  pub exact : exact_call (read_text s) ≡ Grains worth a.grain
+  pub exact : exact_call (read_text s) ≡ Ok (record { grains = worth; grain = a.grain })
   pub above : le_z a.low worth ≡ true
   pub below : le_z worth a.high ≡ true
   pub side : (n : ℕ) → a.play ≡ Child n → (v : ℤ) × (child_worth (read_text s) n ≡ some v) × ((t : Table) → read_text s ≡ fine t
@@ -95,33 +93,33 @@ pub record KeptWithin (s : List ℕ) (m : ℤ) (a : Bounds) : Type 0 where
 abbrev pub AnswersWithin : Type 0
 AnswersWithin =
     (s : List ℕ) (t : Table) (m b : ℤ) (room : ℕ) → read_text s ≡ fine t → bad_margin m ≡ false → bad_budget b ≡ false → LongEnough s room
-    → (a : Bounds) × (within_call (read_text s) m b room ≡ Found a)
+    → (a : Bounds) × (within_call (read_text s) m b room ≡ Ok a)
 
 -- demand 3's first sentence
 abbrev pub Within1 : Type 0
-Within1 = (s : List ℕ) (m b : ℤ) (room : ℕ) (a : Bounds) → within_call (read_text s) m b room ≡ Found a → KeptWithin s m a
+Within1 = (s : List ℕ) (m b : ℤ) (room : ℕ) (a : Bounds) → within_call (read_text s) m b room ≡ Ok a → KeptWithin s m a
 
 -- "The rest of demand 3 holds for it too, at the same budget.": its second sentence, on other utilities of unread leaves
 abbrev pub Within2 : Type 0
 Within2 =
-    (s : List ℕ) (m b : ℤ) (room : ℕ) (a : Bounds) → within_call (read_text s) m b room ≡ Found a
+    (s : List ℕ) (m b : ℤ) (room : ℕ) (a : Bounds) → within_call (read_text s) m b room ≡ Ok a
     → (u : List ℕ) → Differ (within_reads (read_text s) m b room) s u
     → (other : ℕ) → LongEnough u other
-    → (within_call (read_text u) m b other ≡ Found a)
+    → (within_call (read_text u) m b other ≡ Ok a)
     × (within_reads (read_text u) m b other ≡ within_reads (read_text s) m b room)
     × KeptWithin u m a
 
 -- and its third, on the turned table u
 abbrev pub Within3 : Type 0
 Within3 =
-    (s : List ℕ) (m b : ℤ) (room : ℕ) (a : Bounds) → within_call (read_text s) m b room ≡ Found a
+    (s : List ℕ) (m b : ℤ) (room : ℕ) (a : Bounds) → within_call (read_text s) m b room ≡ Ok a
     → (size : ℕ) (u : List ℕ) → turn_of (read_text s) size ≡ fine u
     → (other : ℕ) → LongEnough u other
     → (c : Bounds)
-    × (within_call (read_text u) m b other ≡ Found c)
+    × (within_call (read_text u) m b other ≡ Ok c)
     × Mirrors a c
     × (within_reads (read_text u) m b other ≡ within_reads (read_text s) m b room)
-    × ((z : ℤ) → exact_call (read_text s) ≡ Grains z a.grain → exact_call (read_text u) ≡ Grains (neg_ℤ z) a.grain)
+    × ((z : ℤ) → exact_call (read_text s) ≡ Ok (record { grains = z; grain = a.grain }) → exact_call (read_text u) ≡ Ok (record { grains = neg_ℤ z; grain = a.grain }))
     × KeptWithin u m c
 
 -- ---- tables A and B of document 01 at a margin and every budget, up to one more than document 01's search reads
@@ -164,6 +162,6 @@ budgets =
 abbrev pub AllKnown : List Known → Type 0
 AllKnown [] = Unit {0}
 AllKnown (k ∷ ks) =
-    (within_call (read_text k.text) k.margin k.budget 1024 ≡ Found k.answer)
+    (within_call (read_text k.text) k.margin k.budget 1024 ≡ Ok k.answer)
     × (within_reads (read_text k.text) k.margin k.budget 1024 ≡ k.read)
     × AllKnown ks

@@ -1,6 +1,6 @@
 -- Demand 3 at the public calls, and demand 2's sentence on rollouts, stated over texts. Document 01, 'The search', third paragraph, says what the words of
 -- demand 3 mean; what is quoted over the sentences is the demand itself. proofs/Demands.antt has the theorems; demand 1 is in Untouched.antt.
-use Rattle.std.specs.Prelude.{ℕ, ◌≤◌, ◌≡◌, true, false, length, ℤ, neg_ℤ, ◌+ℤ◌}
+use Rattle.std.specs.Prelude.{ℕ, ◌≤◌, ◌≡◌, true, false, length, ℤ, neg_ℤ, ◌+ℤ◌, Ok}
 use mathlib.Core.List.{List, [], ◌∷◌, Memᴰ}
 use Rattle.std.proofs.Math.Option.{Option, none, some}
 use Rattle.std.specs.Int.Signed.{le_z}
@@ -13,16 +13,14 @@ use Rattle.table.specs.Table.{Table, tree, read_text}
 use Rattle.table.specs.Leaves.{Distinct}
 use Rattle.table.specs.Padding.{SameText}
 use Rattle.table.specs.declared.Play.TheVariants.{Child}
-use Rattle.worth.specs.declared.Exact.TheVariants.{Grains}
 use Rattle.worth.specs.Call.{exact_call}
 use Rattle.writing.specs.Text.{table_text}
 use Rattle.turn_call.specs.Call.{turn_of}
 use Rattle.search_call.specs.declared.Bounds.{Bounds}
-use Rattle.search_call.specs.declared.Bounded.TheVariants.{Found}
 use Rattle.search_call.specs.Call.{bad_margin, search_call, search_reads}
 use Rattle.promise.specs.Play.{play_worth}
 use Rattle.rollout.specs.Whole.{has_chance}
-use Rattle.rolled.specs.declared.Rolled.TheVariants.{Done}
+use Rattle.line.specs.declared.Kind.TheVariants.{Leaf}
 use Rattle.rolled.specs.Call.{roll_call, roll_reads}
 
 -- ---- the bounds and the play
@@ -36,7 +34,7 @@ child_worth (fine t) n = play_worth t n
 -- most the margin, and the play named, if any, is worth within the margin of the exact worth". Both worths are the text's own.
 pub record Promised (s : List ℕ) (m : ℤ) (b : Bounds) : Type 0 where
   pub worth : ℤ
-  pub exact : exact_call (read_text s) ≡ Grains worth b.grain
+  pub exact : exact_call (read_text s) ≡ Ok (record { grains = worth; grain = b.grain })
   pub above : le_z b.low worth ≡ true
   pub below : le_z worth b.high ≡ true
   pub narrow : le_z b.high (b.low +ℤ m) ≡ true
@@ -62,7 +60,7 @@ pub data SameLines (read : List ℕ) : List Line → List Line → Type 0 where
 pub data Given (h : Head) (read : List ℕ) : List Line → List Line → Type 0 where
   given-none : Given h read [] []
   given-kept : {l : Line} {ls ms : List Line} → Given h read ls ms → Given h read (l ∷ ls) (l ∷ ms)
-  given-new : {l : Line} {z : ℤ} {ls ms : List Line} → l.kind ≡ 0 → (Memᴰ l.node read → ⊥) → Within h z → Given h read ls ms → Given h read (l ∷ ls) (with_utility z l ∷ ms)
+  given-new : {l : Line} {z : ℤ} {ls ms : List Line} → l.kind ≡ Leaf → (Memᴰ l.node read → ⊥) → Within h z → Given h read ls ms → Given h read (l ∷ ls) (with_utility z l ∷ ms)
 
 -- two accepted texts that differ in utilities of unread leaves alone
 pub record Differ (read : List ℕ) (s u : List ℕ) : Type 0 where
@@ -91,21 +89,21 @@ pub record Mirrors (b c : Bounds) : Type 0 where
 abbrev pub Answers : Type 0
 Answers =
     (s : List ℕ) (t : Table) (m : ℤ) (room : ℕ) → read_text s ≡ fine t → bad_margin m ≡ false → LongEnough s room
-    → (b : Bounds) × (search_call (read_text s) m room ≡ Found b)
+    → (b : Bounds) × (search_call (read_text s) m room ≡ Ok b)
 
 -- "the exact worth lies between the two bounds or on one of them, they differ by at most the margin, and the play named, if any, is worth within the
 -- margin of the exact worth"
 abbrev pub Sentence1 : Type 0
-Sentence1 = (s : List ℕ) (m : ℤ) (room : ℕ) (b : Bounds) → search_call (read_text s) m room ≡ Found b → Promised s m b
+Sentence1 = (s : List ℕ) (m : ℤ) (room : ℕ) (b : Bounds) → search_call (read_text s) m room ≡ Ok b → Promised s m b
 
 -- "if any unread leaves are then given other utilities within the table's ends, the same answer and the same leaves in the same sequence come back, and
 -- all of this is still true of the new worths"
 abbrev pub Sentence2 : Type 0
 Sentence2 =
-    (s : List ℕ) (m : ℤ) (room : ℕ) (b : Bounds) → search_call (read_text s) m room ≡ Found b
+    (s : List ℕ) (m : ℤ) (room : ℕ) (b : Bounds) → search_call (read_text s) m room ≡ Ok b
     → (u : List ℕ) → Differ (search_reads (read_text s) m room) s u
     → (other : ℕ) → LongEnough u other
-    → (search_call (read_text u) m other ≡ Found b)
+    → (search_call (read_text u) m other ≡ Ok b)
     × (search_reads (read_text u) m other ≡ search_reads (read_text s) m room)
     × Promised u m b
 
@@ -120,14 +118,14 @@ GivenText =
 -- and exchanged": u is the text that turning writes, for some buffer
 abbrev pub Sentence3 : Type 0
 Sentence3 =
-    (s : List ℕ) (m : ℤ) (room : ℕ) (b : Bounds) → search_call (read_text s) m room ≡ Found b
+    (s : List ℕ) (m : ℤ) (room : ℕ) (b : Bounds) → search_call (read_text s) m room ≡ Ok b
     → (size : ℕ) (u : List ℕ) → turn_of (read_text s) size ≡ fine u
     → (other : ℕ) → LongEnough u other
     → (c : Bounds)
-    × (search_call (read_text u) m other ≡ Found c)
+    × (search_call (read_text u) m other ≡ Ok c)
     × Mirrors b c
     × (search_reads (read_text u) m other ≡ search_reads (read_text s) m room)
-    × ((z : ℤ) → exact_call (read_text s) ≡ Grains z b.grain → exact_call (read_text u) ≡ Grains (neg_ℤ z) b.grain)
+    × ((z : ℤ) → exact_call (read_text s) ≡ Ok (record { grains = z; grain = b.grain }) → exact_call (read_text u) ≡ Ok (record { grains = neg_ℤ z; grain = b.grain }))
     × Promised u m c
 
 -- Turning needs no more than an accepted text and a buffer as long as it, and writes a text of that length.
@@ -153,12 +151,12 @@ TurningTwice =
 -- p is the policy list; the leaf list has `list` entries and the store `room` records
 abbrev pub RolloutsEnd : Type 0
 RolloutsEnd =
-    (s p : List ℕ) (list room : ℕ) (worth : ℤ) (count : ℕ) → roll_call (read_text s) p list room ≡ Done worth count
-    → ((G : ℕ) × (exact_call (read_text s) ≡ Grains worth G)) × Distinct (roll_reads (read_text s) p list room)
+    (s p : List ℕ) (list room : ℕ) (worth : ℤ) (count : ℕ) → roll_call (read_text s) p list room ≡ Ok (record { worth = worth; leaves = count })
+    → ((G : ℕ) × (exact_call (read_text s) ≡ Ok (record { grains = worth; grain = G }))) × Distinct (roll_reads (read_text s) p list room)
 
 -- every accepted table without C is rolled out, under every policy list, with a list and a store that are long enough
 abbrev pub RollAnswers : Type 0
 RollAnswers =
     (s : List ℕ) (t : Table) (p : List ℕ) (list room : ℕ) → read_text s ≡ fine t → has_chance t ≡ false
     → leaves (tree t) ≤ list → length t.lines ≤ room
-    → (worth : ℤ) × (count : ℕ) × (roll_call (read_text s) p list room ≡ Done worth count)
+    → (worth : ℤ) × (count : ℕ) × (roll_call (read_text s) p list room ≡ Ok (record { worth = worth; leaves = count }))

@@ -1,12 +1,11 @@
 -- The marking scales. Document 02, Item 11; over losses, and over files at the public call. proofs/Marks.antt has the theorems.
-use Rattle.std.specs.Prelude.{ℕ, ◌≤◌, ◌<◌, ◌≡◌, List, map, ℤ, pos, negsuc}
+use Rattle.std.specs.Prelude.{ℕ, ◌≤◌, ◌<◌, ◌≡◌, List, map, ℤ, pos, negsuc, Err}
 use Rattle.std.proofs.Math.Option.{some}
 use Rattle.std.proofs.Math.ListN.{get_elem?}
 use Rattle.line.specs.declared.Refusal.TheVariants.{BadScale}
 use Rattle.mark.specs.declared.Mark.{Mark}
 use Rattle.mark.specs.declared.Mark.TheVariants.{Doubtful, Error, Blunder}
 use Rattle.mark.specs.Marks.{printed_mark, new_mark, mark_number}
-use Rattle.report_call.specs.declared.Reported.TheVariants.{Refused}
 use Rattle.report_call.specs.Call.{report_call, report_kinds, report_losses, report_marks}
 
 -- ---- where the marks of a scale begin
@@ -63,5 +62,5 @@ OtherScale scale = (scale ≡ pos 1 → ⊥) × (scale ≡ pos 2 → ⊥)
 abbrev pub TwentyIs : Type 0
 TwentyIs =
     (file : List ℕ) (scale : ℤ) (room : ℕ)
-    → (OtherScale scale → report_call file scale room ≡ Refused BadScale 0)
-    × ((k : ℕ) → report_call file scale room ≡ Refused BadScale k → OtherScale scale × (k ≡ 0))
+    → (OtherScale scale → report_call file scale room ≡ Err (record { refusal = BadScale; position = 0 }))
+    × ((k : ℕ) → report_call file scale room ≡ Err (record { refusal = BadScale; position = k }) → OtherScale scale × (k ≡ 0))

@@ -1,6 +1,6 @@
 -- What holds of every match report. Document 02, Item 1; over files, at the public call, for any number of a scale. Marks.antt has what Item 11
 -- says of it. proofs/Matches.antt has the theorems.
-use Rattle.std.specs.Prelude.{ℕ, suc, ◌+◌, ◌≤◌, ◌<◌, ◌≡◌, List, ◌++◌, length, ℤ}
+use Rattle.std.specs.Prelude.{ℕ, suc, ◌+◌, ◌≤◌, ◌<◌, ◌≡◌, List, ◌++◌, length, ℤ, Err, Ok}
 use Rattle.line.specs.declared.Refusal.{Refusal}
 use Rattle.line.specs.declared.Refusal.TheVariants.{TooMany}
 use Rattle.line.specs.Refusal.{refused, number_of}
@@ -8,12 +8,11 @@ use Rattle.report.specs.declared.Row.{Row}
 use Rattle.report.specs.declared.Totals.{Totals}
 use Rattle.report.specs.Report.{position_of, kinds_in, losses_in}
 use Rattle.report.specs.Files.{EachAlone, Whole, listed_total}
-use Rattle.report_call.specs.declared.Reported.TheVariants.{Done, Refused}
 use Rattle.report_call.specs.Call.{report_call, report_kinds, report_losses, report_marks}
 
 -- "1 is not given here"
 abbrev pub NeverOne : Type 0
-NeverOne = (file : List ℕ) (scale : ℤ) (room : ℕ) (r : Refusal) (k : ℕ) → report_call file scale room ≡ Refused r k → number_of r ≡ 1 → ⊥
+NeverOne = (file : List ℕ) (scale : ℤ) (room : ℕ) (r : Refusal) (k : ℕ) → report_call file scale room ≡ Err (record { refusal = r; position = k }) → number_of r ≡ 1 → ⊥
 
 -- The entries are as many as the positions, and each is what `judge_play` says of that position alone.
 pub record Entries (file : List ℕ) (scale : ℤ) (room : ℕ) (t : Totals) : Type 0 where
@@ -24,12 +23,12 @@ pub record Entries (file : List ℕ) (scale : ℤ) (room : ℕ) (t : Totals) : T
   pub in-losses : report_losses file scale room ≡ losses_in rows
 
 abbrev pub EntriesAlone : Type 0
-EntriesAlone = (file : List ℕ) (scale : ℤ) (room : ℕ) (t : Totals) → report_call file scale room ≡ Done t → Entries file scale room t
+EntriesAlone = (file : List ℕ) (scale : ℤ) (room : ℕ) (t : Totals) → report_call file scale room ≡ Ok t → Entries file scale room t
 
 -- "for M and N the number of decisions and the sum of the listed losses": by what stands in the lists
 abbrev pub ListsSum : Type 0
 ListsSum =
-    (file : List ℕ) (scale : ℤ) (room : ℕ) (t : Totals) → report_call file scale room ≡ Done t
+    (file : List ℕ) (scale : ℤ) (room : ℕ) (t : Totals) → report_call file scale room ≡ Ok t
     → let K = report_kinds file scale room in
     let L = report_losses file scale room in
     (t.max.decisions ≡ listed_total 1 (λ x. 1) K L)
@@ -40,10 +39,10 @@ ListsSum =
 -- A file made of two has the entries of both, where neither is refused, they are at most 500 together, and there is room for them.
 abbrev pub TwoFiles : Type 0
 TwoFiles =
-    (a b : List ℕ) (scale : ℤ) (room : ℕ) (t u : Totals) → report_call a scale room ≡ Done t → report_call b scale room ≡ Done u
+    (a b : List ℕ) (scale : ℤ) (room : ℕ) (t u : Totals) → report_call a scale room ≡ Ok t → report_call b scale room ≡ Ok u
     → t.positions + u.positions ≤ 500 → t.positions + u.positions ≤ room
     → (v : Totals)
-    × (report_call (a ++ b) scale room ≡ Done v)
+    × (report_call (a ++ b) scale room ≡ Ok v)
     × (v.positions ≡ t.positions + u.positions)
     × (report_kinds (a ++ b) scale room ≡ report_kinds a scale room ++ report_kinds b scale room)
     × (report_losses (a ++ b) scale room ≡ report_losses a scale room ++ report_losses b scale room)
@@ -53,8 +52,8 @@ TwoFiles =
 -- 500 positions, and then s, where a refused position begins; for any room, as 11 "comes last"
 abbrev pub RefusedStops : Type 0
 RefusedStops =
-    (a s : List ℕ) (scale : ℤ) (room room' : ℕ) (t : Totals) (r : Refusal) → report_call a scale room ≡ Done t → t.positions < 500 → 0 < length s
-    → position_of s ≡ refused r → report_call (a ++ s) scale room' ≡ Refused r (suc t.positions)
+    (a s : List ℕ) (scale : ℤ) (room room' : ℕ) (t : Totals) (r : Refusal) → report_call a scale room ≡ Ok t → t.positions < 500 → 0 < length s
+    → position_of s ≡ refused r → report_call (a ++ s) scale room' ≡ Err (record { refusal = r; position = suc t.positions })
 
 -- whatever follows it: what comes after a position of which no byte is missing does not matter to it
 abbrev pub OwnBytes : Type 0
@@ -63,5 +62,5 @@ OwnBytes = (s x : List ℕ) → Whole s → position_of (s ++ x) ≡ position_of
 -- "15, more than 500 positions, found when the next one begins", "and 15 has position 501"
 abbrev pub TooManyStops : Type 0
 TooManyStops =
-    (a s : List ℕ) (scale : ℤ) (room room' : ℕ) (t : Totals) → report_call a scale room ≡ Done t → t.positions ≡ 500 → 0 < length s
-    → report_call (a ++ s) scale room' ≡ Refused TooMany 501
+    (a s : List ℕ) (scale : ℤ) (room room' : ℕ) (t : Totals) → report_call a scale room ≡ Ok t → t.positions ≡ 500 → 0 < length s
+    → report_call (a ++ s) scale room' ≡ Err (record { refusal = TooMany; position = 501 })

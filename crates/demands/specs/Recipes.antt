@@ -1,11 +1,10 @@
 -- Test positions by recipe. Document 02, Item 7, which is quoted: what holds of every table that the call writes, and what of any four numbers. A seed, a
 -- branching number, a depth and 1 or 0 for dice are given, and a buffer of so many bytes; `recipe_call/Call.recipe_of` says which are refused.
 -- proofs/Recipes.antt has the theorems.
-use Rattle.std.specs.Prelude.{ℕ, ◌+◌, ◌*◌, ◌^◌, ◌≤◌, ◌≡◌, cond, List, length, take, ℤ, pos}
+use Rattle.std.specs.Prelude.{ℕ, ◌+◌, ◌*◌, ◌^◌, ◌≤◌, ◌≡◌, cond, List, length, take, ℤ, pos, Ok}
 use Rattle.line.specs.Refusal.{fine}
 use Rattle.line.specs.Line.{to_nat}
 use Rattle.table.specs.declared.Summary.{Summary}
-use Rattle.table.specs.declared.Reading.TheVariants.{Accepted}
 use Rattle.table.specs.Table.{read_text, answer}
 use Rattle.table.specs.Slices.{laid}
 use Rattle.recipe.specs.Recipe.{levels, nodes, recipe_head, worths, leaf_worths}
@@ -59,7 +58,7 @@ recipe_summary branching depth dice =
 abbrev pub RecipeNumbers : Type 0
 RecipeNumbers =
     (seed branching depth dice : ℤ) (room : ℕ) (s : List ℕ) → recipe_of seed branching depth dice room ≡ fine s
-    → answer (read_text s) ≡ Accepted (recipe_summary branching depth dice)
+    → answer (read_text s) ≡ Ok (recipe_summary branching depth dice)
 
 -- "Leaves take the next state .., in line order": the utilities of the leaves, line by line, are the worths of the states after the seed
 abbrev pub LeavesInOrder : Type 0

@@ -1,6 +1,6 @@
 -- Document 02, Item 6, at the public calls: which of equal plays is named, by the search without a budget and with one, and that all else in the answer
 -- is as before. What is quoted is the item. proofs/Safer.antt has the theorems.
-use Rattle.std.specs.Prelude.{ℕ, ◌≡◌, Bool, true, false, List, [], ◌∷◌, ◌++◌, ℤ, pos, negsuc}
+use Rattle.std.specs.Prelude.{ℕ, ◌≡◌, Bool, true, false, List, [], ◌∷◌, ◌++◌, ℤ, pos, negsuc, Ok}
 use Rattle.std.proofs.Math.Option.{Option, none, some}
 use Rattle.std.specs.Int.Signed.{lt_z}
 use Rattle.line.specs.Refusal.{Verdict, refused, fine}
@@ -14,7 +14,6 @@ use Rattle.turn_call.specs.Call.{turn_bytes}
 use Rattle.search.specs.Search.{unlimited, limited, node_of}
 use Rattle.search.specs.Former.{former_until}
 use Rattle.search_call.specs.declared.Bounds.{Bounds}
-use Rattle.search_call.specs.declared.Bounded.TheVariants.{Found}
 use Rattle.search_call.specs.Call.{bounds_of, search_call, search_reads, within_call, within_reads}
 use Rattle.promise.specs.Entered.{Entered, worse, FirstBest, entered_of}
 use Rattle.demands.specs.Budget.{Known, known}
@@ -34,13 +33,13 @@ OneBest =
 abbrev pub SaferNamed : Type 0
 SaferNamed =
     (s : List ℕ) (t : Table) (m : ℤ) (room : ℕ) (a : Bounds) (side : Side) → read_text s ≡ fine t → root_of (tree t) ≡ to_play side
-    → search_call (read_text s) m room ≡ Found a → NamesBest t (to_nat m) unlimited side a.play
+    → search_call (read_text s) m room ≡ Ok a → NamesBest t (to_nat m) unlimited side a.play
 
 -- "Item 3's too, where a play met unread counts as entered": with a budget, but for the root met unread, which a budget of 0 gives
 abbrev pub SaferWithin : Type 0
 SaferWithin =
     (s : List ℕ) (t : Table) (m b : ℤ) (room : ℕ) (a : Bounds) (side : Side) → read_text s ≡ fine t → root_of (tree t) ≡ to_play side
-    → lt_z (pos 0) b ≡ true → within_call (read_text s) m b room ≡ Found a → NamesBest t (to_nat m) (limited (to_nat b)) side a.play
+    → lt_z (pos 0) b ≡ true → within_call (read_text s) m b room ≡ Ok a → NamesBest t (to_nat m) (limited (to_nat b)) side a.play
 
 -- ---- "Bounds and leaves are compared as before"
 
@@ -56,13 +55,13 @@ pub record SameButPlay (a c : Bounds) : Type 0 where
 -- but for the play the answer, and the leaves in their sequence, are those of the search with document 01's play
 abbrev pub AsBefore : Type 0
 AsBefore =
-    (s : List ℕ) (t : Table) (m : ℤ) (room : ℕ) (a : Bounds) → read_text s ≡ fine t → search_call (read_text s) m room ≡ Found a
+    (s : List ℕ) (t : Table) (m : ℤ) (room : ℕ) (a : Bounds) → read_text s ≡ fine t → search_call (read_text s) m room ≡ Ok a
     → SameButPlay a (bounds_of (record { table = t; seen = former_until t (to_nat m) unlimited }))
     × (search_reads (read_text s) m room ≡ (former_until t (to_nat m) unlimited).read)
 
 abbrev pub AsBeforeWithin : Type 0
 AsBeforeWithin =
-    (s : List ℕ) (t : Table) (m b : ℤ) (room : ℕ) (a : Bounds) → read_text s ≡ fine t → within_call (read_text s) m b room ≡ Found a
+    (s : List ℕ) (t : Table) (m b : ℤ) (room : ℕ) (a : Bounds) → read_text s ≡ fine t → within_call (read_text s) m b room ≡ Ok a
     → SameButPlay a (bounds_of (record { table = t; seen = former_until t (to_nat m) (limited (to_nat b)) }))
     × (within_reads (read_text s) m b room ≡ (former_until t (to_nat m) (limited (to_nat b))).read)
 

@@ -1,27 +1,20 @@
 -- Demand 1: "A refused call changes no byte of the lists and stores it was lent." Each call's promise says what then stands in everything that it was
 -- lent; this is that it is as it was, where the call is refused. A text is lent for reading alone. proofs/Untouched.antt has the theorems.
-use Rattle.std.specs.Prelude.{ℕ, ◌+◌, ◌*◌, ◌≡◌, List, length, ℤ}
+use Rattle.std.specs.Prelude.{ℕ, ◌+◌, ◌*◌, ◌≡◌, List, length, ℤ, Err}
 use Rattle.line.specs.declared.Refusal.{Refusal}
 use Rattle.line.specs.Refusal.{Verdict, number_of, line_of}
-use Rattle.table.specs.declared.Reading
 use Rattle.table.specs.Table.{Table, read_text, answer}
 use Rattle.table.specs.Slices.{laid, fitted, kinds_of, stops_of, weights_of, heights_of, decoded}
 use Rattle.worth.specs.Call.{exact_call}
 use Rattle.judge.specs.Call.{judge_call}
-use Rattle.turn_call.specs.declared.Turned
 use Rattle.turn_call.specs.Call.{turn_call, turn_bytes}
-use Rattle.recipe_call.specs.declared.Made
 use Rattle.recipe_call.specs.Call.{recipe_call, recipe_bytes}
-use Rattle.search_call.specs.declared.Bounded
 use Rattle.search_call.specs.Call.{search_call, search_reads, within_call, within_reads}
-use Rattle.index_call.specs.declared.Indexed
 use Rattle.index_call.specs.Call.{index_call, index_lows, index_highs, indexed_call, indexed_reads, room_in as room_for_index}
 use Rattle.index.specs.Index.{written}
 use Rattle.rollout_call.specs.declared.Record.{Record}
-use Rattle.rolled.specs.declared.Rolled
 use Rattle.rolled.specs.Call.{roll_call, roll_reads, roll_store}
 use Rattle.rollout_call.specs.Records.{recorded}
-use Rattle.report_call.specs.declared.Reported
 use Rattle.report_call.specs.Call.{room_in, report_call, report_kinds, report_losses, report_marks}
 use Rattle.codes.specs.Numbers.{read_code, numbers_of, worth_code, worth_numbers, judge_code, judge_numbers, search_code, search_numbers, roll_code, roll_numbers, turned_code, recipe_code, recipe_numbers, index_code, report_code, report_numbers, put}
 
@@ -37,34 +30,34 @@ SlicesKept v kind stop weight height =
 
 abbrev pub ReadUntouched : Type 0
 ReadUntouched =
-    (s kind stop weight height : List ℕ) (r : Refusal) → answer (read_text s) ≡ Reading.TheVariants.Refused r
+    (s kind stop weight height : List ℕ) (r : Refusal) → answer (read_text s) ≡ Err r
     → SlicesKept (read_text s) kind stop weight height
 
 abbrev pub SearchUntouched : Type 0
 SearchUntouched =
-    (s : List ℕ) (m : ℤ) (list : List ℕ) (r : Refusal) → search_call (read_text s) m (length list) ≡ Bounded.TheVariants.Refused r
+    (s : List ℕ) (m : ℤ) (list : List ℕ) (r : Refusal) → search_call (read_text s) m (length list) ≡ Err r
     → laid (search_reads (read_text s) m (length list)) list ≡ list
 
 -- the same within a budget (document 02, Item 3)
 abbrev pub WithinUntouched : Type 0
 WithinUntouched =
-    (s : List ℕ) (m b : ℤ) (list : List ℕ) (r : Refusal) → within_call (read_text s) m b (length list) ≡ Bounded.TheVariants.Refused r
+    (s : List ℕ) (m b : ℤ) (list : List ℕ) (r : Refusal) → within_call (read_text s) m b (length list) ≡ Err r
     → laid (within_reads (read_text s) m b (length list)) list ≡ list
 
 abbrev pub TurnUntouched : Type 0
 TurnUntouched =
-    (s : List ℕ) (buffer : List ℕ) (r : Refusal) → turn_call (read_text s) (length buffer) ≡ Turned.TheVariants.Refused r
+    (s : List ℕ) (buffer : List ℕ) (r : Refusal) → turn_call (read_text s) (length buffer) ≡ Err r
     → laid (turn_bytes (read_text s) (length buffer)) buffer ≡ buffer
 
 -- a recipe takes numbers alone (document 02, Item 7)
 abbrev pub RecipeUntouched : Type 0
 RecipeUntouched =
-    (seed branching depth dice : ℤ) (buffer : List ℕ) (r : Refusal) → recipe_call seed branching depth dice (length buffer) ≡ Made.TheVariants.Refused r
+    (seed branching depth dice : ℤ) (buffer : List ℕ) (r : Refusal) → recipe_call seed branching depth dice (length buffer) ≡ Err r
     → laid (recipe_bytes seed branching depth dice (length buffer)) buffer ≡ buffer
 
 abbrev pub RollUntouched : Type 0
 RollUntouched =
-    (s p list : List ℕ) (store : List Record) (r : Refusal) → roll_call (read_text s) p (length list) (length store) ≡ Rolled.TheVariants.Refused r
+    (s p list : List ℕ) (store : List Record) (r : Refusal) → roll_call (read_text s) p (length list) (length store) ≡ Err r
     → (laid (roll_reads (read_text s) p (length list) (length store)) list ≡ list)
     × (recorded (roll_store (read_text s) p (length list) (length store)) store ≡ store)
 
@@ -76,13 +69,13 @@ IndexKept s lows highs =
 
 abbrev pub IndexUntouched : Type 0
 IndexUntouched =
-    (s : List ℕ) (lows highs : List ℤ) (r : Refusal) → index_call (read_text s) (room_for_index lows highs) ≡ Indexed.TheVariants.Refused r → IndexKept s lows highs
+    (s : List ℕ) (lows highs : List ℤ) (r : Refusal) → index_call (read_text s) (room_for_index lows highs) ≡ Err r → IndexKept s lows highs
 
 -- the search with an index, which is lent for reading alone
 abbrev pub IndexedUntouched : Type 0
 IndexedUntouched =
     (s : List ℕ) (m : ℤ) (lows highs : List ℤ) (list : List ℕ) (r : Refusal)
-    → indexed_call (read_text s) m lows highs (length list) ≡ Bounded.TheVariants.Refused r
+    → indexed_call (read_text s) m lows highs (length list) ≡ Err r
     → laid (indexed_reads (read_text s) m lows highs (length list)) list ≡ list
 
 -- the three lists of a match report (document 02, Items 1 and 11)
@@ -94,7 +87,7 @@ ListsKept file scale kinds losses marks =
 abbrev pub ReportUntouched : Type 0
 ReportUntouched =
     (file : List ℕ) (scale : ℤ) (kinds : List ℕ) (losses : List ℤ) (marks : List ℕ) (r : Refusal) (k : ℕ)
-    → report_call file scale (room_in kinds losses marks) ≡ Reported.TheVariants.Refused r k → ListsKept file scale kinds losses marks
+    → report_call file scale (room_in kinds losses marks) ≡ Err (record { refusal = r; position = k }) → ListsKept file scale kinds losses marks
 
 -- ---- the calls of the C interface, where the number that is returned is not 0
 
@@ -108,7 +101,7 @@ CodesRefuse = (r : Refusal) → Refuses (100 * line_of r + number_of r)
 
 -- and the report this
 abbrev pub ReportCodesRefuse : Type 0
-ReportCodesRefuse = (r : Refusal) (k : ℕ) → Refuses (report_code (Reported.TheVariants.Refused r k))
+ReportCodesRefuse = (r : Refusal) (k : ℕ) → Refuses (report_code (Err (record { refusal = r; position = k })))
 
 abbrev pub CReadUntouched : Type 0
 CReadUntouched =

@@ -1,13 +1,10 @@
--- Signed numbers of 64 bits: what fits is read back from its bits, and so is its negative. Assumes nothing.
-use Prim.Native.Nat.{ℕ, zero, suc, ◌+◌, ◌^◌, ◌≤◌, ◌<◌}
+-- Signed numbers of 64 bits: what fits is read back from its bits, and so is its negative.
+use Prim.Native.Nat.{zero, suc, ◌+◌, ◌^◌, ◌≤◌, ◌<◌}
 use mathlib.Core.Path.{◌≡◌, refl}
-use mathlib.Core.Bool.{Bool, true, false}
 use native.Mathlib.Omega.{arith}
-use lib.Dec.{T as Holds}
 use lib.IntN.{ℤ, pos, negsuc, neg_ℤ, nat_abs, ◌-ℤ◌, +ℤ_idl}
-use lib.Signed.{mag, lt_z, non_neg}
+use lib.Signed.{mag}
 use borrow.Author.Rules.{sfits_of}
-use borrow.Author.Tests.{ltb-true}
 use mir.Syntax.{w64}
 use mir.Val.{SFits, to_z, of_z}
 use mir.ValLaws.{to_z-of_z}
@@ -43,12 +40,3 @@ module _ (z : ℤ) (h : nat_abs z < 2 ^ 63) where
 
   pub neg-back : to_z w64 (of_z w64 (pos 0 -ℤ to_z w64 (of_z w64 z))) ≡ neg_ℤ z
   neg-back = rw neg_is (to_z-of_z w64 (neg_ℤ z) neg-room)
-
--- below zero its negative is a magnitude, and else it is one itself
-pub below : (z : ℤ) → lt_z z (pos 0) ≡ true → Holds (non_neg (neg_ℤ z))
-below (pos n) t = let l : n < 0 = ltb-true n 0 t in absurd (omega arith)
-below (negsuc n) t = tt
-
-pub above : (z : ℤ) → lt_z z (pos 0) ≡ false → Holds (non_neg z)
-above (pos n) t = tt
-above (negsuc n) t = let e : ◌≡◌ {A = Bool} true false = t in let o : ◌≡◌ {A = ℕ} 0 1 = cc in absurd (omega arith)

@@ -1,4 +1,4 @@
--- The columns of which a number was read hold it in some padding. Assumes nothing.
+-- The columns of which a number was read hold it in some padding.
 use Prim.Native.Nat.{ℕ, zero, suc, ◌+◌, ◌-◌, ◌*◌, ◌/◌, ◌^◌, ◌≤◌, ◌<◌}
 use mathlib.Core.Path.{◌≡◌, refl, sym, ap, ap₂, subst, ◌∙◌}
 use mathlib.Core.Bool.{Bool, true, false, cond}
@@ -9,17 +9,16 @@ use lib.Dec.{eqb, ltb}
 use lib.ListN.{length, take, drop, replicate, length-replicate, length-take, length-drop}
 use lib.Seq.{length-take-le}
 use lib.IntN.{ℤ, pos, negsuc, neg_ℤ, nat_abs}
+use Rattle.std.specs.Prelude.{Option, Some, None}
 use Rattle.field.specs.Field.{strip, digits, whole, plain, minus, signed, field_of, digit, leading, decimal}
 use Rattle.field.specs.Padding.{sign_of, Pads}
-use Rattle.field.specs.declared.Whole.{Whole}
-use Rattle.field.specs.declared.Whole.TheVariants.{Digits, Wrong}
 use Rattle.field.specs.declared.Field.TheVariants.{Blank, Ill, Number}
 use Rattle.field.proofs.Small.{more-digits, wider, strip-shorter, small}
 use Rattle.field.proofs.Writing.{leading-all}
 
 -- ---- digits
 
-wrong-digits : {A : Type 0} (m : ℕ) → Wrong ≡ Digits m → A
+wrong-digits : {A : Type 0} (m : ℕ) → None ≡ Some m → A
 wrong-digits m e = let z : ◌≡◌ {A = ℕ} 0 1 = cc in absurd (omega arith)
 
 ill-number : {A : Type 0} (z : ℤ) → Ill ≡ Number z → A
@@ -29,13 +28,13 @@ ill-number z e = let z : ◌≡◌ {A = ℕ} 0 1 = cc in absurd (omega arith)
 record Goes (n b : ℕ) (s : List ℕ) (m : ℕ) : Type 0 where
   low : 48 ≤ b
   high : b ≤ 57
-  on : digits (n * 10 + (b - 48)) s ≡ Digits m
+  on : digits (n * 10 + (b - 48)) s ≡ Some m
 
-goes : (n b : ℕ) (s : List ℕ) (m : ℕ) → digits n (b ∷ s) ≡ Digits m → Goes n b s m
+goes : (n b : ℕ) (s : List ℕ) (m : ℕ) → digits n (b ∷ s) ≡ Some m → Goes n b s m
 unfolding digits
 goes n b s m e = go (ltb b 48) (ltb 57 b) refl refl e
   where
-    go : (t u : Bool) → ltb b 48 ≡ t → ltb 57 b ≡ u → cond t Wrong (cond u Wrong (digits (n * 10 + (b - 48)) s)) ≡ Digits m → Goes n b s m
+    go : (t u : Bool) → ltb b 48 ≡ t → ltb 57 b ≡ u → cond t None (cond u None (digits (n * 10 + (b - 48)) s)) ≡ Some m → Goes n b s m
     go true u x y e = wrong-digits m e
     go false true x y e = wrong-digits m e
     go false false x y e = record { low = ltb-false b 48 x; high = ltb-false 57 b y; on = e }
@@ -49,7 +48,7 @@ digit-more n b p h l u =
     rw (ne_eqb (n * 10 + (b - 48)) 0 (omega arith), q, d, leading-all 14 n h) refl
 
 -- the digits s after the number n, which has at most j of them
-digits-text : (s : List ℕ) (n j m : ℕ) → 0 < n → n < 10 ^ j → j + length s ≤ 15 → digits n s ≡ Digits m
+digits-text : (s : List ℕ) (n j m : ℕ) → 0 < n → n < 10 ^ j → j + length s ≤ 15 → digits n s ≡ Some m
     → (0 < m) × (leading 15 n ++ s ≡ leading 15 m)
 unfolding digits
 digits-text [] n j m p h g e = let q : n ≡ m = cc in (omega arith, append-nil (leading 15 n) ∙ ap (leading 15) q)
@@ -70,7 +69,7 @@ record Zeroed (s : List ℕ) (m : ℕ) : Type 0 where
   zeros : ℕ
   is : s ≡ replicate zeros 48 ++ decimal m
 
-digits-zeroed : (b : ℕ) (s : List ℕ) (m : ℕ) → length (b ∷ s) ≤ 15 → digits 0 (b ∷ s) ≡ Digits m → Zeroed (b ∷ s) m
+digits-zeroed : (b : ℕ) (s : List ℕ) (m : ℕ) → length (b ∷ s) ≤ 15 → digits 0 (b ∷ s) ≡ Some m → Zeroed (b ∷ s) m
 unfolding digits leading
 digits-zeroed b [] m h e =
     let c = goes 0 b [] m e in
@@ -83,7 +82,7 @@ digits-zeroed b (c ∷ s) m h e = go (eqb b 48) refl (λ d. digits-zeroed c s m 
     g : Goes 0 b (c ∷ s) m
     g = goes 0 b (c ∷ s) m e
 
-    go : (t : Bool) → eqb b 48 ≡ t → (digits 0 (c ∷ s) ≡ Digits m → Zeroed (c ∷ s) m) → Zeroed (b ∷ c ∷ s) m
+    go : (t : Bool) → eqb b 48 ≡ t → (digits 0 (c ∷ s) ≡ Some m → Zeroed (c ∷ s) m) → Zeroed (b ∷ c ∷ s) m
     go true x rest =
         let q : b ≡ 48 = eqb-true b 48 x in
         let z : 0 * 10 + (b - 48) ≡ 0 = omega arith in
@@ -100,7 +99,7 @@ digits-zeroed b (c ∷ s) m h e = go (eqb b 48) refl (λ d. digits-zeroed c s m 
         let first : leading 15 n ≡ b ∷ [] = decimal-all n p ∙ rw (q, d) in
         record { zeros = 0; is = ap (λ (x : List ℕ). x ++ (c ∷ s)) (sym first) ∙ r.1 ∙ decimal-all m r.0 }
 
-whole-zeroed : (s : List ℕ) (m : ℕ) → length s ≤ 15 → whole s ≡ Digits m → Zeroed s m
+whole-zeroed : (s : List ℕ) (m : ℕ) → length s ≤ 15 → whole s ≡ Some m → Zeroed s m
 unfolding whole
 whole-zeroed [] m h e = wrong-digits m e
 whole-zeroed (b ∷ s) m h e = digits-zeroed b s m h e
@@ -112,17 +111,17 @@ record Signed (s : List ℕ) (z : ℤ) : Type 0 where
   zeros : ℕ
   is : s ≡ sign_of z ++ (replicate zeros 48 ++ decimal (nat_abs z))
 
-plain-signed : (w : Whole) (z : ℤ) (s : List ℕ) → plain w ≡ Number z → ((m : ℕ) → w ≡ Digits m → Zeroed s m) → Signed s z
-plain-signed Wrong z s e f = ill-number z e
-plain-signed (Digits n) z s e f =
+plain-signed : (w : Option ℕ) (z : ℤ) (s : List ℕ) → plain w ≡ Number z → ((m : ℕ) → w ≡ Some m → Zeroed s m) → Signed s z
+plain-signed None z s e f = ill-number z e
+plain-signed (Some n) z s e f =
     let q : pos n ≡ z = cc in
     let r = f n refl in
     subst (Signed s) q (record { zeros = r.zeros; is = r.is })
 
-minus-signed : (w : Whole) (z : ℤ) (s : List ℕ) → minus w ≡ Number z → ((m : ℕ) → w ≡ Digits m → Zeroed s m) → Signed (45 ∷ s) z
-minus-signed Wrong z s e f = ill-number z e
-minus-signed (Digits zero) z s e f = ill-number z e
-minus-signed (Digits (suc n)) z s e f = go (eqb (suc n) 0) refl e
+minus-signed : (w : Option ℕ) (z : ℤ) (s : List ℕ) → minus w ≡ Number z → ((m : ℕ) → w ≡ Some m → Zeroed s m) → Signed (45 ∷ s) z
+minus-signed None z s e f = ill-number z e
+minus-signed (Some zero) z s e f = ill-number z e
+minus-signed (Some (suc n)) z s e f = go (eqb (suc n) 0) refl e
   where
     go : (t : Bool) → eqb (suc n) 0 ≡ t → cond t Ill (Number (negsuc n)) ≡ Number z → Signed (45 ∷ s) z
     go true x e = ill-number z e
@@ -141,13 +140,13 @@ signed-text (b ∷ s) z h e = go (eqb b 45) refl e
         subst (λ (c : ℕ). Signed (c ∷ s) z) (sym (eqb-true b 45 x)) (minus-signed (whole s) z s e (λ m. whole-zeroed s m (omega arith)))
     go false x e = plain-signed (whole (b ∷ s)) z (b ∷ s) e (λ m. whole-zeroed (b ∷ s) m h)
 
-plain-filled : {A : Type 0} (w : Whole) → plain w ≡ Blank → A
-plain-filled Wrong e = let z : ◌≡◌ {A = ℕ} 0 1 = cc in absurd (omega arith)
-plain-filled (Digits n) e = let z : ◌≡◌ {A = ℕ} 0 1 = cc in absurd (omega arith)
+plain-filled : {A : Type 0} (w : Option ℕ) → plain w ≡ Blank → A
+plain-filled None e = let z : ◌≡◌ {A = ℕ} 0 1 = cc in absurd (omega arith)
+plain-filled (Some n) e = let z : ◌≡◌ {A = ℕ} 0 1 = cc in absurd (omega arith)
 
-minus-filled : {A : Type 0} (w : Whole) → minus w ≡ Blank → A
-minus-filled Wrong e = let z : ◌≡◌ {A = ℕ} 0 1 = cc in absurd (omega arith)
-minus-filled {A} (Digits n) e = go (eqb n 0) e
+minus-filled : {A : Type 0} (w : Option ℕ) → minus w ≡ Blank → A
+minus-filled None e = let z : ◌≡◌ {A = ℕ} 0 1 = cc in absurd (omega arith)
+minus-filled {A} (Some n) e = go (eqb n 0) e
   where
     go : (t : Bool) → cond t Ill (Number (neg_ℤ (pos n))) ≡ Blank → A
     go true e = let z : ◌≡◌ {A = ℕ} 0 1 = cc in absurd (omega arith)

@@ -1,12 +1,12 @@
--- One number in any padding is read as that number. Document 02, Item 9. Assumes nothing.
+-- One number in any padding is read as that number. Document 02, Item 9.
 use Prim.Native.Nat.{ℕ, zero, suc}
 use mathlib.Core.Path.{◌≡◌, refl, sym, ap, ◌∙◌}
 use mathlib.Core.List.{List, ◌∷◌, ◌++◌}
 use lib.ListN.{replicate}
 use lib.IntN.{ℤ}
+use Rattle.std.specs.Prelude.{Some}
 use Rattle.field.specs.Field.{strip, digits, whole, minus, signed}
 use Rattle.field.specs.Padding.{Pads, Repadded, kept, padding}
-use Rattle.field.specs.declared.Whole.TheVariants.{Digits}
 use Rattle.field.specs.declared.Field.TheVariants.{Ill, Number}
 use Rattle.field.proofs.RoundTrip.{strip-blanks, padded-read}
 
@@ -18,7 +18,7 @@ pub repadded-read : (c d : List ℕ) → Repadded c d → signed (strip c) ≡ s
 repadded-read c d (kept e) = ap (λ (x : List ℕ). signed (strip x)) e
 repadded-read c d (padding z P Q) = pads-read z c P ∙ sym (pads-read z d Q)
 
-zeros-mean : (j : ℕ) → digits 0 (replicate j 48) ≡ Digits 0
+zeros-mean : (j : ℕ) → digits 0 (replicate j 48) ≡ Some 0
 unfolding digits
 zeros-mean zero = refl
 zeros-mean (suc j) = zeros-mean j

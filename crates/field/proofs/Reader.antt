@@ -1,213 +1,199 @@
--- What the code that reads a field from its end asks, and what the field then is. Assumes nothing.
-use Prim.Native.Nat.{ℕ, zero, suc, ◌+◌, ◌-◌, ◌*◌, ◌≤◌, ◌<◌}
+-- What the code that reads a field from its end knows, and what the field then is.
+use Prim.Native.Nat.{ℕ, suc, ◌+◌, ◌-◌, ◌*◌, ◌≤◌, ◌<◌, ◌^◌}
 use mathlib.Core.Path.{◌≡◌, refl, ap, sym, ◌∙◌}
-use mathlib.Core.Bool.{Bool, true, false, cond, ◌||◌}
-use mathlib.Core.List.{List, [], ◌∷◌}
+use mathlib.Core.Bool.{Bool, true, false, cond}
+use mathlib.Core.List.{List, [], ◌∷◌, ◌++◌, append_assoc, append-nil}
+use native.Mathlib.Nat.{pow-suc}
 use native.Mathlib.Omega.{arith}
-use borrow.Author.Tests.{ne_eqb, eqb-true, eqb-false, ltb-true, ltb-false}
-use lib.Dec.{eqb, ltb, eqb-suc-zero}
-use lib.ListN.{length, get_or, take, drop, length-drop, drop_of_length-le}
-use lib.Seq.{drop-cons, get_or-drop}
+use borrow.Author.Tests.{eqb-true}
+use lib.Dec.{eqb}
+use lib.ListN.{length, get_or, take, drop, take-append-drop, length-drop}
+use lib.Seq.{drop-cons}
+use Rattle.std.specs.Prelude.{Some, None}
+use Rattle.std.specs.Char.{is_ascii_digit}
+use Rattle.std.specs.List.{list_all, IsLastAndRest}
+use Rattle.std.proofs.Math.Seq.{take-suc}
+use Rattle.std.proofs.lemmas.List.{take_all, drop_all, length-take-le}
+use Rattle.std.proofs.lemmas.Bool.Decides.{nat_tests}
+use Rattle.std.proofs.lemmas.Grind.{common_steps}
 use Rattle.field.specs.Field.{strip, digits, whole, plain, minus, signed}
-use Rattle.field.specs.Inside.{strange, before_of, Blanks, AllDigits, Starts, off, with_sign}
-use Rattle.field.specs.declared.Whole.TheVariants.{Digits, Wrong}
+use Rattle.field.specs.Inside.{off, with_sign}
+use Rattle.field.specs.declared.Field.{Field}
 use Rattle.field.specs.declared.Field.TheVariants.{Blank, Ill, Number}
-use Rattle.field.proofs.Reading.{from_on}
 
 pub by_cases : {P : Type 0} (b : Bool) → (b ≡ true → P) → (b ≡ false → P) → P
 by_cases true f g = f refl
 by_cases false f g = g refl
 
-either : {A : Type 0} (b : Bool) (x : A) → cond b x x ≡ x
-either true x = refl
-either false x = refl
+-- ---- digits
 
-near : (a b : ℕ) → a ≤ b → (a ≡ b → ⊥) → a < b
-near a b h n = omega arith
+is-digit : (b n m : ℕ) (s : List ℕ) → digits n (b ∷ s) ≡ Some m → is_ascii_digit b ≡ true
+unfolding digits
+is-digit b n m s e = grind (arith, nat_tests)
+
+on : (b n m : ℕ) (s : List ℕ) → digits n (b ∷ s) ≡ Some m → digits (n * 10 + (b - 48)) s ≡ Some m
+unfolding digits
+on b n m s e = grind (arith, nat_tests)
+
+step : (b n : ℕ) (s : List ℕ) → is_ascii_digit b ≡ true → digits n (b ∷ s) ≡ digits (n * 10 + (b - 48)) s
+unfolding digits
+step b n s h = grind (arith, nat_tests)
+
+none-more : (n m : ℕ) → digits n [] ≡ Some m → n ≡ m
+unfolding digits
+none-more n m e = cc
+
+pub no-digits : (t : List ℕ) → digits 0 (drop (length t) t) ≡ Some 0
+unfolding digits
+no-digits t = rw (drop_all (length t) t (omega arith))
+
+-- what stands before digits counts as many times as they have columns
+more-left : (s : List ℕ) (a m v : ℕ) → digits a s ≡ Some v → digits (a + m) s ≡ Some (v + 10 ^ length s * m)
+unfolding digits
+more-left [] a m v e = let r : a + m ≡ v + 1 * m = omega (arith, none-more a v e) in ap Some r
+more-left (b ∷ s) a m v e =
+    let n : (a + m) * 10 + (b - 48) ≡ a * 10 + (b - 48) + m * 10 = omega arith in
+    let p : 10 ^ length s * (m * 10) ≡ 10 ^ suc (length s) * m = rw pow-suc (omega arith) in
+    step b (a + m) s (is-digit b a v s e) ∙ rw n (more-left s (a * 10 + (b - 48)) (m * 10) v (on b a v s e) ∙ rw p)
+
+pub left-digit
+    : (t : List ℕ) (i n : ℕ)
+    → 0 < i
+    → i ≤ length t
+    → is_ascii_digit (get_or t (i - 1) 0) ≡ true
+    → digits 0 (drop i t) ≡ Some n
+    → digits 0 (drop (i - 1) t) ≡ Some (n + 10 ^ (length t - i) * (get_or t (i - 1) 0 - 48))
+left-digit t i n p l d e =
+    let k : suc (i - 1) ≡ i = omega arith in
+    rw (drop-cons t (i - 1) 0 (omega arith), k, step (get_or t (i - 1) 0) 0 (drop i t) d)
+    (rw (length-drop i t) at (more-left (drop i t) 0 (get_or t (i - 1) 0 - 48) n e))
 
 -- ---- a byte that is no digit
 
-strange-wrong : (b n : ℕ) (s : List ℕ) → strange b ≡ true → digits n (b ∷ s) ≡ Wrong
+other-none : (b n : ℕ) (s : List ℕ) → is_ascii_digit b ≡ false → digits n (b ∷ s) ≡ None
 unfolding digits
-strange-wrong b n s h = go (ltb b 48) (ltb 57 b) h
-  where
-    go : (x y : Bool) → x || y ≡ true → cond x Wrong (cond y Wrong (digits (n * 10 + (b - 48)) s)) ≡ Wrong
-    go true y h = refl
-    go false y h = rw h
+other-none b n s h = grind (arith, nat_tests)
 
-wrong-at : (s : List ℕ) (i n : ℕ) → i < length s → strange (get_or s i 0) ≡ true → digits n s ≡ Wrong
+none-in : (p : List ℕ) (c n : ℕ) (s : List ℕ) → is_ascii_digit c ≡ false → digits n (p ++ (c ∷ s)) ≡ None
 unfolding digits
-wrong-at [] i n h g = absurd (omega arith)
-wrong-at (b ∷ s) zero n h g = strange-wrong b n s g
-wrong-at (b ∷ s) (suc i) n h g =
-    rw (wrong-at s i (n * 10 + (b - 48)) (omega arith) g, either (ltb 57 b) Wrong) (either (ltb b 48) Wrong)
+none-in [] c n s h = other-none c n s h
+none-in (b ∷ p) c n s h = grind (arith, none-in p c (n * 10 + (b - 48)) s h)
 
-whole-wrong : (s : List ℕ) (i : ℕ) → i < length s → strange (get_or s i 0) ≡ true → whole s ≡ Wrong
+whole-none : (p : List ℕ) (c : ℕ) (s : List ℕ) → is_ascii_digit c ≡ false → whole (p ++ (c ∷ s)) ≡ None
 unfolding whole
-whole-wrong [] i h g = refl
-whole-wrong (b ∷ s) i h g = wrong-at (b ∷ s) i 0 h g
+whole-none [] c s h = none-in [] c 0 s h
+whole-none (b ∷ p) c s h = none-in (b ∷ p) c 0 s h
 
 -- after any byte, and alone
-later-ill : (b : ℕ) (s : List ℕ) (i : ℕ) → i < length s → strange (get_or s i 0) ≡ true → signed (b ∷ s) ≡ Ill
+later-ill : (b : ℕ) (p : List ℕ) (c : ℕ) (s : List ℕ) → is_ascii_digit c ≡ false → signed (b ∷ (p ++ (c ∷ s))) ≡ Ill
 unfolding signed
-later-ill b s i h g = rw (whole-wrong s i h g, whole-wrong (b ∷ s) (suc i) (omega arith) g) (either (eqb b 45) Ill)
+later-ill b p c s h = grind (arith, whole-none p c s h, whole-none (b ∷ p) c s h)
 
-sole-ill : (b : ℕ) → strange b ≡ true → signed (b ∷ []) ≡ Ill
-unfolding signed whole
-sole-ill b g = rw (strange-wrong b 0 [] g) (either (eqb b 45) Ill)
+sole-ill : (c : ℕ) → eqb c 32 ≡ false → is_ascii_digit c ≡ false → signed (strip (c ∷ [])) ≡ Ill
+unfolding strip signed whole
+sole-ill c h g = grind (arith, other-none c 0 [] g)
 
--- ---- in the columns t
+-- ---- blanks
 
-module _ (t : List ℕ) where
-  before_at : (k : ℕ) → 0 < k → strange (before_of t k) ≡ true → strange (get_or t (k - 1) 0) ≡ true
-  before_at k h g = simp (ne_eqb k 0 (λ e. omega arith)) at g
+abbrev blank : List ℕ → Bool
+blank f = list_all (λ b. eqb b 32) f
 
-  later-at : (j i : ℕ) → j < i → i < length t → strange (get_or t i 0) ≡ true → signed (drop j t) ≡ Ill
-  later-at j i h k g =
-      let e : suc j + (i - suc j) ≡ i = omega arith in
-      rw (drop-cons t j 0 (omega arith))
-      (later-ill (get_or t j 0) (drop (suc j) t) (i - suc j) (omega (arith, length-drop (suc j) t)) (rw (get_or-drop, e) g))
+cleared : (f s : List ℕ) → blank f ≡ true → strip (f ++ s) ≡ strip s
+unfolding strip
+cleared [] s h = refl
+cleared (b ∷ f) s h = grind (arith, cleared f s)
 
-  -- the columns end with no digit
-  last-at : (j : ℕ) → j < length t → strange (before_of t (length t)) ≡ true → signed (drop j t) ≡ Ill
-  last-at j h g =
-      by_cases (ltb (suc j) (length t))
-      (λ l. later-at j (length t - 1) (omega (arith, ltb-true (suc j) (length t) l)) (omega arith) (before_at (length t) (omega arith) g))
-      (λ l.
-      let e : length t - 1 ≡ j = omega (arith, ltb-false (suc j) (length t) l) in
-      let past : length t ≤ suc j = ltb-false (suc j) (length t) l in
-      rw (drop-cons t j 0 h, drop_of_length-le t past) (sole-ill (get_or t j 0) (rw e at (before_at (length t) (omega arith) g))))
+unclear : (f : List ℕ) (c : ℕ) (s : List ℕ) → blank f ≡ false → is_ascii_digit c ≡ false → signed (strip (f ++ (c ∷ s))) ≡ Ill
+unfolding strip
+unclear [] c s h g = absurd (grind arith)
+unclear (b ∷ f) c s h g = grind (arith, unclear f c s, later-ill b f c s)
 
-  pub clear-by
-      : (k r : ℕ)
-      → 1 < k
-      → k ≤ length t
-      → strange (before_of t k) ≡ true
-      → Blanks t (k - 1) r
-      → signed (strip t) ≡ cond (eqb r (k - 1)) (signed (strip (drop (k - 1) t))) Ill
-  clear-by k r h l g b =
-      by_cases (eqb r (k - 1))
-      (λ q. rw q (ap signed b.1 ∙ ap (λ x. signed (strip (drop x t))) (eqb-true r (k - 1) q)))
-      (λ q.
-      let less : r < k - 1 = near r (k - 1) b.0 (eqb-false r (k - 1) q) in
-      rw q (ap signed (b.2 less) ∙ later-at r (k - 1) less (omega arith) (before_at k (omega arith) g)))
+unclear-last : (f : List ℕ) (c : ℕ) → blank (f ++ (c ∷ [])) ≡ false → is_ascii_digit c ≡ false → signed (strip (f ++ (c ∷ []))) ≡ Ill
+unclear-last f c h g =
+    by_cases (blank f)
+    (λ q. rw (cleared f (c ∷ []) q) (sole-ill c (grind (arith, common_steps)) g))
+    (λ q. unclear f c [] q g)
 
-  pub joined : (k : ℕ) → k ≤ length t → strip (before_of t k ∷ drop k t) ≡ strip (drop (k - 1) t)
-  unfolding strip
-  joined zero h = refl
-  joined (suc k) h =
-      let e : suc k - 1 ≡ k = omega arith in
-      rw (eqb-suc-zero k, e) (ap strip (sym (drop-cons t k 0 (omega arith))))
-
--- ---- the digits and what stands before them
-
-first-false : (x y : Bool) → x || y ≡ false → x ≡ false
-first-false true y h = h
-first-false false y h = refl
-
-second-false : (x y : Bool) → x || y ≡ false → y ≡ false
-second-false true true h = h
-second-false true false h = refl
-second-false false y h = h
-
-pub low : (b : ℕ) → strange b ≡ false → 48 ≤ b
-low b h = ltb-false b 48 (first-false (ltb b 48) (ltb 57 b) h)
-
-pub high : (b : ℕ) → strange b ≡ false → b ≤ 57
-high b h = ltb-false 57 b (second-false (ltb b 48) (ltb 57 b) h)
+-- ---- digits with a byte before them
 
 opened
-    : (c b : ℕ) (s : List ℕ)
-    → strange c ≡ true
-    → strange b ≡ false
+    : (c b n : ℕ) (s : List ℕ)
+    → is_ascii_digit c ≡ false
+    → digits 0 (b ∷ s) ≡ Some n
     → signed (strip (c ∷ b ∷ s)) ≡ cond (eqb c 32) (plain (whole (b ∷ s))) (cond (eqb c 45) (minus (whole (b ∷ s))) Ill)
 unfolding strip signed
-opened c b s g h =
-    let n32 : eqb b 32 ≡ false = ne_eqb b 32 (λ e. omega (arith, low b h)) in
-    let n45 : eqb b 45 ≡ false = ne_eqb b 45 (λ e. omega (arith, low b h)) in
-    by_cases (eqb c 32)
-    (λ q. rw (q, n32, n45))
-    (λ q. rw (q, whole-wrong (c ∷ b ∷ s) 0 (omega arith) g))
+opened c b n s g m = grind (arith, nat_tests, is-digit b 0 n s m, whole-none [] c (b ∷ s) g)
 
--- the first of t is a digit, and t means n
-first-after
-    : (c : ℕ) (t : List ℕ) (n : ℕ)
-    → 0 < length t
-    → strange c ≡ true
-    → strange (get_or t 0 0) ≡ false
-    → digits 0 t ≡ Digits n
-    → signed (strip (c ∷ t)) ≡ cond (off c n) Ill (Number (with_sign (eqb c 45) n))
+-- what n means with c before its digits
+abbrev pub after : ℕ → ℕ → Field
+after c n = cond (off c n) Ill (Number (with_sign (eqb c 45) n))
+
+after-is : (c n : ℕ) (t : List ℕ) → 0 < length t → is_ascii_digit c ≡ false → digits 0 t ≡ Some n → signed (strip (c ∷ t)) ≡ after c n
 unfolding whole
-first-after c [] n l g h m = absurd (omega arith)
-first-after c (b ∷ s) n l g h m =
-    rw (opened c b s g h, m)
+after-is c n [] l g m = absurd (omega arith)
+after-is c n (b ∷ s) l g m =
+    rw (opened c b n s g m, m)
     (by_cases (eqb c 32)
     (λ q. let e : c ≡ 32 = eqb-true c 32 q in rw e)
     (λ q. by_cases (eqb c 45)
     (λ p. let e : c ≡ 45 = eqb-true c 45 p in rw e)
     (λ p. rw (q, p))))
 
--- t are digits, and mean n
-module _ (c : ℕ) (t : List ℕ) (l : 0 < length t) (g : strange c ≡ true) (d : AllDigits t) (n : ℕ) (m : digits 0 t ≡ Digits n) where
-  after : signed (strip (c ∷ t)) ≡ cond (off c n) Ill (Number (with_sign (eqb c 45) n))
-  after = first-after c t n l g (d 0 l) m
+-- ---- the columns t, of which those from k on are the digits of n, and the one before them is none
 
-  module _ (r : Bool) (e : r ≡ off c n) where
-    pub off-by : r ≡ true → Ill ≡ signed (strip (c ∷ t))
-    off-by q = let o : off c n ≡ true = sym e ∙ q in sym (after ∙ rw o)
+last-of : (f : List ℕ) → 0 < length f → IsLastAndRest f (get_or f (length f - 1) 0) (take (length f - 1) f)
+last-of f h =
+    let n : suc (length f - 1) ≡ length f = omega arith in
+    let all : take (suc (length f - 1)) f ≡ f = take_all (suc (length f - 1)) f (omega arith) in
+    (sym all ∙ take-suc f (length f - 1) 0 (omega arith), omega (arith, length-take-le (length f - 1) f (omega arith)))
 
-    pub told-by : r ≡ false → Number (with_sign (eqb c 45) n) ≡ signed (strip (c ∷ t))
-    told-by q = let o : off c n ≡ false = sym e ∙ q in sym (after ∙ rw o)
+blank-first : (s : List ℕ) → strip (32 ∷ s) ≡ strip s
+unfolding strip
+blank-first s = refl
 
--- a digit more at the end
-pub one_more
-    : (t : List ℕ) (i : ℕ)
-    → strange (get_or t (i - 1) 0) ≡ false
-    → ((j : ℕ) → i ≤ j → j < length t → strange (get_or t j 0) ≡ false)
-    → (j : ℕ)
-    → i - 1 ≤ j
-    → j < length t
-    → strange (get_or t j 0) ≡ false
-one_more t i e f j a b =
-    by_cases (eqb j (i - 1))
-    (λ q. rw (eqb-true j (i - 1) q) e)
-    (λ q. f j (omega (arith, near (i - 1) j a (λ z. eqb-false j (i - 1) q (sym z)))) b)
+none-blank : signed (strip []) ≡ Blank
+unfolding signed strip
+none-blank = refl
 
--- columns with no digit at the end: blank where all are blanks, ill where not
-module _ (t : List ℕ) (k r : ℕ) (e : k ≡ length t) (b : Blanks t k r) where
-  pub blank-by : r ≡ k → Blank ≡ signed (strip t)
-  unfolding signed strip
-  blank-by q =
-      let past : length t ≤ r = omega arith in
-      sym (ap signed b.1 ∙ rw (drop_of_length-le t past))
+module _ (t : List ℕ) (k : ℕ) (within : k ≤ length t) (stops : 0 < k → is_ascii_digit (get_or t (k - 1) 0) ≡ false) where
+  module _ (no-digit : k ≡ length t) where
+    all : take k t ≡ t
+    all = take_all k t (omega arith)
 
-  pub none-by : strange (before_of t k) ≡ true → (r ≡ k → ⊥) → Ill ≡ signed (strip t)
-  none-by g q =
-      let less : r < k = near r k b.0 q in
-      sym (ap signed (b.2 less) ∙ last-at t r (omega arith) (rw e at g))
+    pub all-blank : blank (take k t) ≡ true → Blank ≡ signed (strip t)
+    all-blank h = sym (ap (λ x. signed (strip x)) (sym (append-nil t)) ∙ ap signed (cleared t [] (rw all at h)) ∙ none-blank)
 
--- columns with a digit at the end, cut before the digits as the code cuts them
-module _ (t : List ℕ) (k c : ℕ) (e : c ≡ before_of t k) where
-  pub cut-ready
-      : (k ≡ length t → ⊥)
-      → length t ≤ 18
-      → Starts t k
-      → (0 < length (take (length t - k) (drop k t)))
-      × (length (take (length t - k) (drop k t)) ≤ 18)
-      × (strange c ≡ true)
-      × AllDigits (take (length t - k) (drop k t))
-  cut-ready n l s =
-      let less : k < length t = near k (length t) s.0 n in
-      let long : length (drop k t) ≡ length t - k = length-drop k t in
-      rw (from_on t k, e)
-      (omega arith, omega arith, s.1, λ i h. rw get_or-drop (s.2 (k + i) (omega arith) (omega arith)))
+    pub not-blank : blank (take k t) ≡ false → Ill ≡ signed (strip t)
+    not-blank h =
+        let some : 0 < length t = grind (arith, common_steps) in
+        let l = last-of t some in
+        let other : is_ascii_digit (get_or t (length t - 1) 0) ≡ false = rw no-digit at (stops (omega arith)) in
+        sym (ap (λ x. signed (strip x)) l.0 ∙ unclear-last (take (length t - 1) t) (get_or t (length t - 1) 0) (rw (all, l.0) at h) other)
 
-  pub cut-read
-      : (r : Bool)
-      → k ≤ length t
-      → signed (strip t) ≡ cond r (signed (strip (drop (k - 1) t))) Ill
-      → r ≡ true
-      → signed (strip (c ∷ take (length t - k) (drop k t))) ≡ signed (strip t)
-  cut-read r l q z =
-      let w : signed (strip t) ≡ signed (strip (drop (k - 1) t)) = rw z at q in
-      rw (from_on t k, e) (ap signed (joined t k l) ∙ sym w)
+  module _ (n : ℕ) (number : digits 0 (drop k t) ≡ Some n) (some : k ≡ length t → ⊥) where
+    after-digits : (c : ℕ) → is_ascii_digit c ≡ false → after c n ≡ signed (strip (c ∷ drop k t))
+    after-digits c g = sym (after-is c n (drop k t) (omega (arith, length-drop k t)) g number)
+
+    pub bare : length (take k t) ≡ 0 → after 32 n ≡ signed (strip t)
+    bare e =
+        let z : k ≡ 0 = omega (arith, length-take-le k t within) in
+        let d : drop k t ≡ t = rw z in
+        after-digits 32 refl ∙ ap signed (blank-first (drop k t) ∙ ap strip d)
+
+    module _ (c : ℕ) (r : List ℕ) (l : IsLastAndRest (take k t) c r) where
+      parted : r ++ (c ∷ drop k t) ≡ t
+      parted = rw (l.0, append_assoc) at (take-append-drop k t)
+
+      other : is_ascii_digit c ≡ false
+      other =
+          let i : length r ≡ k - 1 = omega (arith, length-take-le k t within) in
+          let p : 0 < k = omega (arith, length-take-le k t within) in
+          let here : get_or (r ++ (c ∷ drop k t)) (length r) 0 ≡ c = grind (arith, common_steps) in
+          let e : c ≡ get_or t (k - 1) 0 = rw (← i) (sym here ∙ ap (λ x. get_or x (length r) 0) parted) in
+          rw e (stops p)
+
+      pub clear : blank r ≡ true → after c n ≡ signed (strip t)
+      clear h = after-digits c other ∙ ap signed (sym (cleared r (c ∷ drop k t) h) ∙ ap strip parted)
+
+      pub not-clear : blank r ≡ false → Ill ≡ signed (strip t)
+      not-clear h = sym (ap (λ x. signed (strip x)) (sym parted) ∙ unclear r c (drop k t) h other)

@@ -1,4 +1,4 @@
--- Reading what was written gives the number back, and so does reading any padding of it. Assumes nothing.
+-- Reading what was written gives the number back, and so does reading any padding of it.
 use Prim.Native.Nat.{ℕ, zero, suc, ◌+◌, ◌-◌, ◌/◌, ◌*◌, ◌^◌, ◌≤◌, ◌<◌}
 use mathlib.Core.Path.{◌≡◌, refl, ap, ◌∙◌}
 use mathlib.Core.List.{List, [], ◌∷◌, ◌++◌, append_assoc}
@@ -8,9 +8,9 @@ use lib.Dec.{eqb-suc-zero}
 use lib.ListN.{length, get_or, take, drop, replicate, length-append, length-replicate}
 use lib.Seq.{take_at, drop_at, length-take-le}
 use lib.IntN.{ℤ, pos, negsuc, nat_abs}
+use Rattle.std.specs.Prelude.{Some}
 use Rattle.field.specs.Field.{strip, digits, whole, signed, field_of, digit, leading, decimal, text_of, justified, written}
 use Rattle.field.specs.Padding.{sign_of, padded}
-use Rattle.field.specs.declared.Whole.TheVariants.{Digits}
 use Rattle.field.specs.declared.Field.TheVariants.{Blank, Number}
 use Rattle.field.proofs.Reading.{strip-first, signed-tests}
 use Rattle.field.proofs.Small.{tenth}
@@ -69,7 +69,7 @@ module _ (j n : ℕ) (h : n < 10 ^ 15) where
       go zero = decimal-first n h
       go (suc i) = omega arith
 
-  zeroed-whole : whole zeroed ≡ Digits n
+  zeroed-whole : whole zeroed ≡ Some n
   unfolding digits
   zeroed-whole =
       whole-digits zeroed zeroed-some

@@ -1,4 +1,4 @@
--- A number of few digits is small, and so is one that a field of few columns holds. Assumes nothing.
+-- A number of few digits is small, and so is one that a field of few columns holds.
 use Prim.Native.Nat.{ℕ, suc, ◌+◌, ◌-◌, ◌*◌, ◌/◌, ◌^◌, ◌≤◌, ◌<◌}
 use mathlib.Core.Path.{◌≡◌}
 use mathlib.Core.Bool.{Bool, true, false, not, cond}
@@ -9,9 +9,8 @@ use native.Mathlib.Omega.{arith}
 use lib.Dec.{T as Holds, eqb, ltb, lit<, nltb→le}
 use lib.ListN.{length, take, drop, length-take}
 use lib.IntN.{ℤ, pos, nat_abs}
+use Rattle.std.specs.Prelude.{Option, Some, None}
 use Rattle.field.specs.Field.{strip, digits, whole, plain, minus, signed, field_of}
-use Rattle.field.specs.declared.Whole.{Whole}
-use Rattle.field.specs.declared.Whole.TheVariants.{Digits, Wrong}
 use Rattle.field.specs.declared.Field.{Field}
 use Rattle.field.specs.declared.Field.TheVariants.{Blank, Ill, Number}
 use Rattle.field.proofs.Bits.{abs_neg}
@@ -36,9 +35,9 @@ pub wider : (n i k : ℕ) → n < 10 ^ i → i ≤ k → n < 10 ^ k
 wider n i k h g = omega (arith, pow-le-pow_right {n = 10} (lit< tt) g)
 
 -- a number, if it is one, of at most k digits
-abbrev Few : ℕ → Whole → Type 0
-Few k (Digits m) = m < 10 ^ k
-Few k Wrong = Unit
+abbrev Few : ℕ → Option ℕ → Type 0
+Few k (Some m) = m < 10 ^ k
+Few k None = Unit
 
 abbrev Near : ℕ → Field → Type 0
 Near k (Number z) = nat_abs z < 10 ^ k
@@ -60,16 +59,16 @@ unfolding whole
 whole-few k [] h = tt
 whole-few k (b ∷ s) h = digits-few k (b ∷ s) 0 0 (lit< tt) (omega arith)
 
-pub digits-small : (s : List ℕ) (m : ℕ) → digits 0 s ≡ Digits m → length s ≤ 18 → m < 10 ^ 18
-digits-small s m e h = rw e at (digits-few 18 s 0 0 (lit< tt) (omega arith))
+pub digits_small : (s : List ℕ) (m : ℕ) → digits 0 s ≡ Some m → length s ≤ 18 → m < 10 ^ 18
+digits_small s m e h = rw e at (digits-few 18 s 0 0 (lit< tt) (omega arith))
 
-plain-near : (k : ℕ) (n : Whole) → Few k n → Near k (plain n)
-plain-near k (Digits m) h = h
-plain-near k Wrong h = tt
+plain-near : (k : ℕ) (n : Option ℕ) → Few k n → Near k (plain n)
+plain-near k (Some m) h = h
+plain-near k None h = tt
 
-minus-near : (k : ℕ) (n : Whole) → Few k n → Near k (minus n)
-minus-near k (Digits m) h = choose (Near k) (eqb m 0) (λ _. tt) (λ _. rw (abs_neg (pos m)) h)
-minus-near k Wrong h = tt
+minus-near : (k : ℕ) (n : Option ℕ) → Few k n → Near k (minus n)
+minus-near k (Some m) h = choose (Near k) (eqb m 0) (λ _. tt) (λ _. rw (abs_neg (pos m)) h)
+minus-near k None h = tt
 
 signed-near : (k : ℕ) (t : List ℕ) → length t ≤ k → Near k (signed t)
 unfolding signed

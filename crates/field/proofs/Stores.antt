@@ -1,4 +1,4 @@
--- Bytes stored one after another. Assumes nothing.
+-- Bytes stored one after another.
 use Prim.Native.Nat.{ℕ, suc, ◌+◌, ◌≤◌}
 use mathlib.Core.Path.{◌≡◌, sym, ap, ◌∙◌}
 use mathlib.Core.List.{List, [], ◌∷◌, ◌++◌, append_assoc}

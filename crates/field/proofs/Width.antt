@@ -1,4 +1,4 @@
--- How many columns a number takes. Assumes nothing.
+-- How many columns a number takes.
 use Prim.Native.Nat.{ℕ, zero, suc, ◌+◌, ◌/◌, ◌^◌, ◌≤◌, ◌<◌}
 use native.Mathlib.Omega.{arith}
 use lib.Dec.{eqb-suc-zero}

@@ -1,4 +1,4 @@
--- Worked examples, read and written. Assumes nothing.
+-- Worked examples, read and written.
 use Prim.Native.Nat.{ℕ}
 use mathlib.Core.Path.{◌≡◌, refl}
 use mathlib.Core.List.{List, [], ◌∷◌}

@@ -1,8 +1,6 @@
 -- Numbers in columns: how one is read and how one is written. Document 01, 'The table on paper', first paragraph; of zeros before a number document 02,
 -- Item 9.
-use Rattle.std.specs.Prelude.{ℕ, zero, suc, ◌+◌, ◌-◌, ◌*◌, ◌/◌, ◌%◌, cond, List, [], ◌∷◌, ◌++◌, length, take, drop, replicate, eqb, ltb, ℤ, pos, negsuc, neg_ℤ}
-use Rattle.field.specs.declared.Whole.{Whole}
-use Rattle.field.specs.declared.Whole.TheVariants.{Digits, Wrong}
+use Rattle.std.specs.Prelude.{ℕ, zero, suc, ◌+◌, ◌-◌, ◌*◌, ◌/◌, ◌%◌, cond, List, [], ◌∷◌, ◌++◌, length, take, drop, replicate, eqb, ltb, Option, Some, None, ℤ, pos, negsuc, neg_ℤ}
 use Rattle.field.specs.declared.Field.{Field}
 use Rattle.field.specs.declared.Field.TheVariants.{Blank, Ill, Number}
 
@@ -15,25 +13,25 @@ unfoldable pub strip : List ℕ → List ℕ
 strip [] = []
 strip (b ∷ s) = cond (eqb b 32) (strip s) (b ∷ s)
 
--- n with the digits s written after it; any other byte is wrong
-unfoldable pub digits : ℕ → List ℕ → Whole
-digits n [] = Digits n
-digits n (b ∷ s) = cond (ltb b 48) Wrong (cond (ltb 57 b) Wrong (digits (n * 10 + (b - 48)) s))
+-- n with the digits s written after it; any other byte means none
+unfoldable pub digits : ℕ → List ℕ → Option ℕ
+digits n [] = Some n
+digits n (b ∷ s) = cond (ltb b 48) None (cond (ltb 57 b) None (digits (n * 10 + (b - 48)) s))
 
 -- one digit or more; by Item 9 "A number may now have zeros before its first digit"
-unfoldable pub whole : List ℕ → Whole
-whole [] = Wrong
+unfoldable pub whole : List ℕ → Option ℕ
+whole [] = None
 whole (b ∷ s) = digits 0 (b ∷ s)
 
 -- "no plus": a number that is not below zero is its digits alone
-abbrev pub plain : Whole → Field
-plain Wrong = Ill
-plain (Digits n) = Number (pos n)
+abbrev pub plain : Option ℕ → Field
+plain None = Ill
+plain (Some n) = Number (pos n)
 
 -- "a minus stands directly before its digits; `-0` is not a number", by Item 9 "before the zeros", and "minus with only zeros is still ill-written"
-abbrev pub minus : Whole → Field
-minus Wrong = Ill
-minus (Digits n) = cond (eqb n 0) Ill (Number (neg_ℤ (pos n)))
+abbrev pub minus : Option ℕ → Field
+minus None = Ill
+minus (Some n) = cond (eqb n 0) Ill (Number (neg_ℤ (pos n)))
 
 -- what stands after the blanks: nothing, or a number
 unfoldable pub signed : List ℕ → Field

@@ -2,18 +2,13 @@
 // What a well-written number is stands in specs/Field.antt alone.
 #![tactic(auto)]
 
-ghost use Rattle.std.specs.Prelude.{◌≡◌, cond, true, false, ◌∷◌, ◌+◌, ◌-◌, ◌*◌, ◌≤◌, ◌<◌, ◌^◌, eqb, length, drop, nat_abs};
+ghost use Rattle.std.specs.Prelude.{◌≡◌, Some, cond, false, ◌+◌, ◌-◌, ◌≤◌, ◌<◌, ◌^◌, ◌==◌, length, drop, slice_index, nat_abs};
+ghost use Rattle.std.specs.Char.{is_ascii_digit};
+ghost use Rattle.std.specs.List.{list_all};
 ghost use Rattle.field.specs.Field.{strip, digits, signed, field_of, digit, text_of, written};
-ghost use Rattle.field.specs.declared.Whole.TheVariants.{Digits};
-ghost use Rattle.field.specs.declared.Field.TheVariants.{Ill};
-ghost use Rattle.field.specs.Inside.{Blanks, Starts, AllDigits, strange, before_of, off, with_sign};
-
-// The number that a run of digits means, or none; for the definitions alone.
-#[derive(Clone, Copy)]
-pub enum Whole {
-    Digits(u64),
-    Wrong,
-}
+ghost use Rattle.field.specs.Value.{is_blank, is_ill, has_number, outside, value_of, count_of};
+ghost use Rattle.field.specs.Inside.{off, with_sign};
+ghost use Rattle.field.specs.declared.Field.TheVariants.{Ill, Number};
 
 // What a field holds.
 #[derive(Clone, Copy)]
@@ -23,84 +18,76 @@ pub enum Field {
     Number(i64),
 }
 
-// How many blanks stand first among the first k columns.
-fn blanks(t: &[u8], k: usize) -> usize
-    requires { k ≤ length t.now }
-    ensures { Blanks t.now k result }
-{
-    let mut i = 0;
-    while i < k {
-        if t[i] != b' ' {
-            return i;
-        }
-        i += 1;
+impl Field {
+    pub fn is_blank(self) -> bool
+        ensures { result ≡ is_blank self }
+    {
+        matches!(self, Field::Blank)
     }
-    i
+
+    pub fn is_ill(self) -> bool
+        ensures { result ≡ is_ill self }
+    {
+        matches!(self, Field::Ill)
+    }
+
+    // Whether it holds the number n.
+    pub fn is_number(self, n: u64) -> bool
+        ensures { result ≡ has_number n self }
+    {
+        matches!(self, Field::Number(z) if u64::try_from(z) == Ok(n))
+    }
+
+    // Whether it holds a number below lo or above hi.
+    pub fn is_outside(self, lo: i64, hi: i64) -> bool
+        ensures { result ≡ outside lo hi self }
+    {
+        matches!(self, Field::Number(z) if !(lo..=hi).contains(&z))
+    }
+
+    // The number in the field, or 0 where there is none.
+    pub fn value(self) -> i64
+        ensures { result ≡ value_of self }
+    {
+        match self {
+            Field::Number(z) => z,
+            _ => 0,
+        }
+    }
+
+    // The same, or 0 where it is below zero.
+    pub fn count(self) -> u64
+        ensures { result ≡ count_of self }
+    {
+        self.value().max(0).unsigned_abs()
+    }
 }
 
-// What a digit counts.
-fn value(b: u8) -> u64
-    requires { 48 ≤ b }
-    ensures { result ≡ b - 48 }
+fn are_blank(t: &[u8]) -> bool
+    ensures { result ≡ list_all (λ b. b == 32) t.now }
 {
-    (b - b'0') as u64
+    t.iter().all(|b| *b == b' ')
 }
 
-// The number that digits mean, at most 18 of them, which 64 bits hold.
-fn read_digits(t: &[u8]) -> u64
-    requires { (length t.now ≤ 18) × AllDigits t.now }
-    ensures { digits 0 t.now ≡ Digits result }
+// Where the digits at the end begin, and the number that they mean, which 64 bits hold. Seen from the right, the sign does not move the digits, so that the
+// machine guesses its branches better.
+fn last_number(t: &[u8]) -> (usize, u64)
+    requires { length t.now ≤ 18 }
+    ensures within { result.0 ≤ length t.now }
+    ensures stops { 0 < result.0 → is_ascii_digit (slice_index t.now (result.0 - 1)) ≡ false }
+    ensures number { digits 0 (drop result.0 t.now) ≡ Some result.1 }
 {
     let mut n: u64 = 0;
-    let mut i = 0;
-    while i < t.len() {
+    let mut unit: u64 = 1;
+    for i in (0..t.len()).rev() {
         let b = t[i];
-        n = n * 10 + value(b);
-        i += 1;
-    }
-    n
-}
-
-fn is_strange(b: u8) -> bool
-    ensures { result ≡ strange b }
-{
-    (b < b'0') | (b'9' < b)
-}
-
-// The column before column k.
-fn before(t: &[u8], k: usize) -> u8
-    requires { k ≤ length t.now }
-    ensures { result ≡ before_of t.now k }
-{
-    if k == 0 {
-        return b' ';
-    }
-    t[k - 1]
-}
-
-// Where the digits at the end begin. Seen from the right, the sign does not move the digits, so that the machine guesses its branches better.
-fn start(t: &[u8]) -> usize
-    ensures { Starts t.now result }
-{
-    let mut i = t.len();
-    while 0 < i {
-        if is_strange(t[i - 1]) {
-            return i;
+        if !b.is_ascii_digit() {
+            return (i + 1, n);
         }
-        i -= 1;
+        n += unit * u64::from(b - b'0');
+        unit *= 10;
     }
-    i
-}
-
-// Whether only blanks stand before the column that is before the digits, which begin in column k.
-fn is_clear(t: &[u8], k: usize) -> bool
-    requires { (k ≤ length t.now) × (strange (before_of t.now k) ≡ true) }
-    ensures { signed (strip t.now) ≡ cond result (signed (strip (drop (k - 1) t.now))) Ill }
-{
-    if k <= 1 {
-        return true;
-    }
-    blanks(t, k - 1) == k - 1
+    (0, n)
 }
 
 // Whether n with c before its digits is no number.
@@ -110,16 +97,16 @@ fn is_off(c: u8, n: u64) -> bool
     ((c != b' ') & (c != b'-')) | ((c == b'-') & (n == 0))
 }
 
-// The number of the digits t with c before them; no branch on the sign.
-fn read_after(c: u8, t: &[u8]) -> Field
-    requires { (0 < length t.now) × (length t.now ≤ 18) × (strange c ≡ true) × AllDigits t.now }
-    ensures { result ≡ signed (strip (c ∷ t.now)) }
+// What n means with c before its digits; no branch on the sign.
+fn number_after(c: u8, n: u64) -> Field
+    requires { n < 10 ^ 18 }
+    ensures { result ≡ cond (off c n) Ill (Number (with_sign (c == 45) n)) }
 {
-    let n = read_digits(t);
     if is_off(c, n) {
-        return Field::Ill;
+        Field::Ill
+    } else {
+        Field::Number(with_sign(c == b'-', n))
     }
-    Field::Number(with_sign(c == b'-', n))
 }
 
 // All columns of a field. Small enough that the compiler puts a copy at each place where a field is read.
@@ -127,17 +114,19 @@ fn read_columns(t: &[u8]) -> Field
     requires { length t.now ≤ 18 }
     ensures { result ≡ signed (strip t.now) }
 {
-    let k = start(t);
-    if k == t.len() {
-        if blanks(t, k) == k {
-            return Field::Blank;
-        }
-        return Field::Ill;
+    let (start, n) = last_number(t);
+    let front = &t[..start];
+    if start == t.len() {
+        return if are_blank(front) {
+            Field::Blank
+        } else {
+            Field::Ill
+        };
     }
-    if is_clear(t, k) {
-        read_after(before(t, k), &t[k..])
-    } else {
-        Field::Ill
+    match front.split_last() {
+        None => number_after(b' ', n),
+        Some((sign, clear)) if are_blank(clear) => number_after(*sign, n),
+        Some(_) => Field::Ill,
     }
 }
 
@@ -153,46 +142,27 @@ fn with_sign(negative: bool, n: u64) -> i64
     requires { n < 10 ^ 18 }
     ensures { result ≡ with_sign negative n }
 {
-    if negative { -(n as i64) } else { n as i64 }
+    let n = n as i64;
+    if negative { -n } else { n }
 }
 
 // The last digit of n.
 fn last_digit(n: u64) -> u8
     ensures { result ≡ digit n }
 {
-    b'0' + ((n % 10) as u8)
+    b'0' + (n % 10) as u8
 }
 
 // The column before the digits written so far, where n is what is left of the number: its last digit;
 // where none is left the minus, if it is still to come, and then a blank.
 fn column_mark(negative: bool, n: u64) -> u8
-    ensures { result ≡ cond (eqb n 0) (cond negative 45 32) (digit n) }
+    ensures { result ≡ cond (n == 0) (cond negative 45 32) (digit n) }
 {
-    if n != 0 {
-        return last_digit(n);
+    match (n, negative) {
+        (0, true) => b'-',
+        (0, false) => b' ',
+        _ => last_digit(n),
     }
-    if negative { b'-' } else { b' ' }
-}
-
-// Whether the minus is still to come before that column.
-fn still(negative: bool, n: u64) -> bool
-    ensures { result ≡ cond (eqb n 0) false negative }
-{
-    if n == 0 {
-        return false;
-    }
-    negative
-}
-
-// z without its sign.
-fn magnitude(z: i64) -> u64
-    requires { nat_abs z < 10 ^ 15 }
-    ensures { result ≡ nat_abs z }
-{
-    if z < 0 {
-        return (-z) as u64;
-    }
-    z as u64
 }
 
 // Writes z, of at most 15 digits, in the `width` columns from the byte `at` on: the last column first.
@@ -200,15 +170,13 @@ pub fn write(dst: &mut [u8], at: usize, width: usize, z: i64)
     requires { (at + width ≤ length dst.old) × (length (text_of z) ≤ width) × (nat_abs z < 10 ^ 15) }
     ensures { dst.new ≡ written dst.old at width z }
 {
-    let m = magnitude(z);
-    let mut i = width - 1;
-    dst[at + i] = last_digit(m);
-    let mut n = m / 10;
+    let mut n = z.unsigned_abs();
     let mut negative = z < 0;
-    while 0 < i {
-        i -= 1;
-        dst[at + i] = column_mark(negative, n);
-        negative = still(negative, n);
-        n = n / 10;
+    let last = at + width - 1;
+    dst[last] = last_digit(n);
+    for i in (at..last).rev() {
+        n /= 10;
+        dst[i] = column_mark(negative, n);
+        negative &= n != 0;
     }
 }

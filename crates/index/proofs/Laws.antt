@@ -1,4 +1,4 @@
--- The index of a table over heights: how its ends lie, and that each entry lies so much above the lowest end. Document 02, Item 14. Assumes nothing.
+-- The index of a table over heights: how its ends lie, and that each entry lies so much above the lowest end. Document 02, Item 14.
 use Prim.Native.Nat.{ℕ, suc, ◌+◌, min, max, ◌≤◌}
 use mathlib.Core.Path.{◌≡◌, refl, sym, ap, ap₂, subst, ◌∙◌}
 use mathlib.Core.Bool.{Bool, false}

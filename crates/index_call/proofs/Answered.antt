@@ -1,4 +1,5 @@
--- What the calls of the index may answer, whatever the text: small lines, plays and counts. Assumes nothing.
+-- What the calls of the index may answer, whatever the text: small lines, plays and counts.
+use Rattle.std.proofs.Common.{Err, Ok, Result}
 use Prim.Native.Nat.{ℕ}
 use mathlib.Core.Path.{◌≡◌, refl, sym, ap, subst}
 use mathlib.Core.Bool.{Bool, true, false}
@@ -20,12 +21,8 @@ use Rattle.search.specs.Search.{node_of}
 use Rattle.search.specs.Whole.{searched_own}
 use Rattle.search.proofs.Own.{own-play-small, own-reads-few}
 use Rattle.search_call.specs.declared.Bounds.{Bounds}
-use Rattle.search_call.specs.declared.Bounded.{Bounded}
-use Rattle.search_call.specs.declared.Bounded.TheVariants.{Found, Refused}
 use Rattle.search_call.specs.Call.{bad_margin, bounds_of, search_answer}
 use Rattle.search_call.proofs.Answered.{below_of, Sizes}
-use Rattle.index_call.specs.declared.Indexed
-use Rattle.index_call.specs.declared.Indexed.{Indexed}
 use Rattle.index_call.specs.Call.{index_answer, index_call, indexed_call}
 use Rattle.index_call.proofs.Call.{indexed-room, indexed-fine, sought-index, sought-margin, sought-room, sought-fine}
 
@@ -40,8 +37,8 @@ own-sizes s t p ε =
     }
 
 -- what holds of a table's refusal, of every refusal without a line, and of what is found, holds of the answer
-module _ (s : List ℕ) (m : ℤ) (lows highs : List ℤ) (room : ℕ) (P : Bounded → Type 0) (bad : (r : Refusal) → read_text s ≡ refused r → P (Refused r))
-    (own : (r : Refusal) → line_of r ≡ 0 → P (Refused r)) (good : (b : Bounds) → Sizes b → P (Found b)) where
+module _ (s : List ℕ) (m : ℤ) (lows highs : List ℤ) (room : ℕ) (P : Result Bounds Refusal → Type 0) (bad : (r : Refusal) → read_text s ≡ refused r → P (Err r))
+    (own : (r : Refusal) → line_of r ≡ 0 → P (Err r)) (good : (b : Bounds) → Sizes b → P (Ok b)) where
   found-cases : (t : Table) → read_text s ≡ fine t → (x y z : Bool) → not_own t lows highs ≡ x → bad_margin m ≡ y → ltb room (leaves (tree t)) ≡ z → P (indexed_call (fine t) m lows highs room)
   found-cases t p true y z i b l = subst P (sym (ap search_answer (sought-index t m lows highs room i))) (own BadIndex refl)
   found-cases t p false true z i b l = subst P (sym (ap search_answer (sought-margin t m lows highs room i b))) (own BadMargin refl)
@@ -55,8 +52,8 @@ module _ (s : List ℕ) (m : ℤ) (lows highs : List ℤ) (room : ℕ) (P : Boun
       go (refused r) p = bad r p
       go (fine t) p = found-cases t p (not_own t lows highs) (bad_margin m) (ltb room (leaves (tree t))) refl refl refl
 
-module _ (s : List ℕ) (room : ℕ) (P : Indexed → Type 0) (bad : (r : Refusal) → read_text s ≡ refused r → P (Indexed.TheVariants.Refused r))
-    (short : P (Indexed.TheVariants.Refused NoRoom)) (good : P Indexed.TheVariants.Built) where
+module _ (s : List ℕ) (room : ℕ) (P : Result Unit Refusal → Type 0) (bad : (r : Refusal) → read_text s ≡ refused r → P (Err r))
+    (short : P (Err NoRoom)) (good : P (Ok tt)) where
   pub index-cases : P (index_call (read_text s) room)
   index-cases = go (read_text s) refl
     where

@@ -1,4 +1,5 @@
--- What the calls of the index give for an accepted text, and their refusals. Assumes nothing.
+-- What the calls of the index give for an accepted text, and their refusals.
+use Rattle.std.proofs.Common.{Ok}
 use Prim.Native.Nat.{ℕ, ◌*◌, ◌≤◌, ◌<◌}
 use mathlib.Core.Path.{◌≡◌, refl, sym, ap, subst, ◌∙◌}
 use mathlib.Core.Bool.{Bool, true, false, not, ◌&&◌, ◌||◌}
@@ -18,7 +19,7 @@ use Rattle.table.specs.Table.{Table, tree, read_text, grain, summary}
 use Rattle.table.specs.Slices.{laid}
 use Rattle.table.specs.Inside.{Slices, slices, Holds, lent, height_tree}
 use Rattle.table.specs.Accepted.{span, Filled, Rooted}
-use Rattle.table.proofs.Accepted.{accepted-holds, accepted-leaves, accepted-rooted, accepted-filled}
+use Rattle.table.proofs.Accepted.{accepted-lent, accepted-holds, accepted-leaves, accepted-rooted, accepted-filled}
 use Rattle.table.proofs.Ends.{span-grains}
 use Rattle.scale.specs.Inside.{scale_for}
 use Rattle.scale.proofs.Taken.{zeros, zeros-enough, Taken, of-table}
@@ -36,11 +37,9 @@ use Rattle.steps.specs.Inside.{leaf_seen}
 use Rattle.searching.specs.Inside.{way, rules_of, ReadyRoot, Shows, Searched}
 use Rattle.searching.proofs.Frames.{SameAt}
 use Rattle.searching.proofs.Ready.{ends_of, way_of, Listed, EachInner, each-inner, table-ready, table-searched}
-use Rattle.search_call.specs.declared.Bounded.TheVariants.{Found as Given}
 use Rattle.search_call.specs.Inside.{rule_for, ends_for, bounds_for}
 use Rattle.search_call.specs.Call.{bad_margin, Sought, search_answer, search_list}
 use Rattle.search_call.proofs.Call.{inside-small, shown-bounds}
-use Rattle.index_call.specs.declared.Indexed.TheVariants.{Built}
 use Rattle.index_call.specs.Call.{indexed, index_answer, index_entries, sought_indexed, indexed_call, indexed_reads}
 use Rattle.index_call.proofs.Own.{of-ended, own_same}
 
@@ -138,8 +137,15 @@ module _ {s : List ℕ} {t : Summary} {K S W H : List ℕ} (G : Taken s t K S W 
     abbrev u : Slices
     u = slices (lent T zeros zeros zeros zeros).kinds (lent T zeros zeros zeros zeros).stops (lent T zeros zeros zeros zeros).weights H'
 
+    -- the slices as the reading left them
+    abbrev plainly : Slices
+    plainly = lent T zeros zeros zeros zeros
+
     abbrev n : ℕ
     n = length T.lines
+
+    enough : n ≤ length zeros
+    enough = zeros-enough s T p
 
     abbrev far : ℕ
     far = span T.head * grain T
@@ -161,28 +167,28 @@ module _ {s : List ℕ} {t : Summary} {K S W H : List ℕ} (G : Taken s t K S W 
     small : to_nat m ≤ 40000000000000
     small = inside-small 40000000000000 m x
 
-    own-ready : ReadyRoot u (way_of T (to_nat m) H' T') (ends_of T) n
-    own-ready = table-ready s T p (to_nat m) small u T' e.spans holds (own far) 0 (same 0) listed (own-within s T p)
+    own-ready : ReadyRoot plainly (way_of T (to_nat m) H' T') (ends_of T) n
+    own-ready = table-ready s T p (to_nat m) small plainly H' T' (accepted-lent s T p zeros zeros zeros zeros enough enough enough enough) (accepted-holds s T p zeros zeros zeros zeros enough enough enough enough) (own far) 0 (same 0) listed (own-within s T p)
 
-    own-searched : (f : Found) (came now : List ℕ) → leaves (tree T) ≤ length came → Searched u (way_of T (to_nat m) H' T') (ends_of T) n f came now
+    own-searched : (f : Found) (came now : List ℕ) → leaves (tree T) ≤ length came → Searched plainly (way_of T (to_nat m) H' T') (ends_of T) n f came now
         → Shows f (height_own T (to_nat m) unlimited) came now
     own-searched f came now few told =
         subst (λ (a : Seen ℕ). Shows f a came now) (own-summed s T p (to_nat m) (limited (length came)) ∙ own-enough s T p (to_nat m) (length came) few)
-        (table-searched s T p (to_nat m) small u T' e.spans holds (own far) (length came) (same (length came)) listed (own-within s T p)
+        (table-searched s T p (to_nat m) small plainly H' T' (accepted-lent s T p zeros zeros zeros zeros enough enough enough enough) (accepted-holds s T p zeros zeros zeros zeros enough enough enough enough) (own far) (length came) (same (length came)) listed (own-within s T p)
         (λ k y. lone-leaf (ends_of T) (record { frame = own far; margin = to_nat m; full = unlimited }) end (length came) k y (le_trans (table-leaf s T p) few)) f came now refl told)
 
-  pub search-ready : ReadyRoot (slices K S W H') (way g v H' T') v t.nodes
+  pub search-ready : ReadyRoot (slices K S W H) (way g v H' T') v t.nodes
   search-ready =
       rw (is_g, is_v)
-      (of-ended G E (λ t K S W. Dropped (to_nat (t.highest -ℤ t.lowest)) D' T' t.nodes → ReadyRoot (slices K S W H') (way (rule_for (scale_for t) m) (ends_for (scale_for t)) H' T') (ends_for (scale_for t)) t.nodes)
+      (of-ended G E (λ t K S W H. Dropped (to_nat (t.highest -ℤ t.lowest)) D' T' t.nodes → ReadyRoot (slices K S W H) (way (rule_for (scale_for t) m) (ends_for (scale_for t)) H' T') (ends_for (scale_for t)) t.nodes)
       (λ T p e d. own-ready T p e d) dropped)
 
   -- f is what `search` gave, with the list as it came and as it is now
-  module _ (f : Found) (came now : List ℕ) (enough : t.leaves ≤ length came) (told : Searched (slices K S W H') (way g v H' T') v t.nodes f came now) where
+  module _ (f : Found) (came now : List ℕ) (enough : t.leaves ≤ length came) (told : Searched (slices K S W H) (way g v H' T') v t.nodes f came now) where
     of-shown : (C : Summary → Type 0) → ((T : Table) → read_text s ≡ fine T → leaves (tree T) ≤ length came → Shows f (height_own T (to_nat m) unlimited) came now → C (summary T)) → C t
     of-shown C show =
-        of-ended G E (λ t K S W. Dropped (to_nat (t.highest -ℤ t.lowest)) D' T' t.nodes → t.leaves ≤ length came
-        → Searched (slices K S W H') (way (rule_for (scale_for t) m) (ends_for (scale_for t)) H' T') (ends_for (scale_for t)) t.nodes f came now → C t)
+        of-ended G E (λ t K S W H. Dropped (to_nat (t.highest -ℤ t.lowest)) D' T' t.nodes → t.leaves ≤ length came
+        → Searched (slices K S W H) (way (rule_for (scale_for t) m) (ends_for (scale_for t)) H' T') (ends_for (scale_for t)) t.nodes f came now → C t)
         (λ T p e d few told. let l : leaves (tree T) ≤ length came = rw (accepted-leaves s T p) few in show T p l (own-searched T p e d f came now l told)) dropped enough (rw (is_g, is_v) at told)
 
     pub found-small : (f.low ≤ f.high) × (f.high ≤ 35184372088832) × (f.left ≤ length came)
@@ -196,9 +202,9 @@ module _ {s : List ℕ} {t : Summary} {K S W H : List ℕ} (G : Taken s t K S W 
           → sought_indexed (read_text s) m lows highs (length came) ≡ fine (record { table = T; seen = searched_own T (to_nat m) })
       found-is T p few = ap (λ (y : Verdict Table). sought_indexed y m lows highs (length came)) p ∙ sought-fine T m lows highs (length came) (mine T p) x few
 
-      pub given-at : Given (bounds_for t f (length came)) ≡ indexed_call (read_text s) m lows highs (length came)
-      given-at = of-shown (λ t. Given (bounds_for t f (length came)) ≡ indexed_call (read_text s) m lows highs (length came)) (λ T p few w.
-          ap Given (shown-bounds T f (length came) (height_own T (to_nat m) unlimited) (searched_own T (to_nat m)) w refl (own-order s T p (to_nat m) unlimited refl).0 (own-shifted s T p (to_nat m)))
+      pub given-at : Ok (bounds_for t f (length came)) ≡ indexed_call (read_text s) m lows highs (length came)
+      given-at = of-shown (λ t. Ok (bounds_for t f (length came)) ≡ indexed_call (read_text s) m lows highs (length came)) (λ T p few w.
+          ap Ok (shown-bounds T f (length came) (height_own T (to_nat m) unlimited) (searched_own T (to_nat m)) w refl (own-order s T p (to_nat m) unlimited refl).0 (own-shifted s T p (to_nat m)))
           ∙ sym (ap search_answer (found-is T p few)))
 
       pub reads_at : now ≡ laid (indexed_reads (read_text s) m lows highs (length came)) came
@@ -214,5 +220,5 @@ module _ {s : List ℕ} {t : Summary} {K S W H : List ℕ} (G : Taken s t K S W 
   pub index-long : t.nodes ≤ room → indexed (read_text s) room ≡ read_text s
   index-long l = of-table G (λ t K S W H. t.nodes ≤ room → indexed (read_text s) room ≡ read_text s) (λ T p l. ap (λ (v : Verdict Table). indexed v room) p ∙ indexed-fine T room l ∙ sym p) l
 
-  pub index-built : Built ≡ index_answer (read_text s)
-  index-built = of-table G (λ t K S W H. Built ≡ index_answer (read_text s)) (λ T p. sym (ap index_answer p))
+  pub index-built : (Ok tt) ≡ index_answer (read_text s)
+  index-built = of-table G (λ t K S W H. (Ok tt) ≡ index_answer (read_text s)) (λ T p. sym (ap index_answer p))

@@ -1,7 +1,7 @@
--- An accepted table with its index: what its slices have for the code, the index that they make, and the search with it. Assumes nothing.
+-- An accepted table with its index: what its slices have for the code, the index that they make, and the search with it.
 use Prim.Native.Nat.{ℕ, zero, suc, ◌+◌, ◌*◌, ◌≤◌, ◌<◌}
 use mathlib.Core.Path.{◌≡◌, refl, sym, ap, ap₂, ◌∙◌}
-use mathlib.Core.Bool.{Bool, true, false}
+use mathlib.Core.Bool.{Bool, false}
 use mathlib.Core.List.{List, [], ◌∷◌, map}
 use native.Mathlib.Nat.{le_trans}
 use native.Mathlib.Decide.{dec_le}
@@ -11,7 +11,9 @@ use lib.ListN.{length, get_or, length-map}
 use lib.IntN.{ℤ, pos, ◌+ℤ◌, ◌-ℤ◌}
 use Rattle.line.specs.declared.Line.{Line}
 use Rattle.line.specs.Refusal.{fine}
-use Rattle.line.specs.Line.{to_nat, larger}
+use Rattle.line.specs.Line.{to_nat, larger, code}
+use Rattle.table.specs.declared.Node.{Node}
+use Rattle.table.specs.Nodes.{kinds_in, stops_in, weights_in, heights_in}
 use Rattle.table.specs.declared.Summary.{Summary}
 use Rattle.table.specs.Tree.{Forest, end, leaf, inner, is_chance}
 use Rattle.table.specs.Table.{Table, read_text, greatest, summary}
@@ -28,6 +30,7 @@ use Rattle.scale.proofs.Taken.{zeros, zeros-enough, Taken, of-table}
 use Rattle.index.specs.Index.{Ends, of_entry, lows_of, highs_of}
 use Rattle.index.specs.Inside.{least_of, greatest_of}
 use Rattle.index.proofs.Laws.{index-heights}
+use Rattle.indexing.specs.declared.Base.TheVariants.{Lowest, Highest}
 use Rattle.indexing.specs.Inside.{Small, Dropped, Standing, OwnEnds, Ended, OwnEndsOf, entries_of}
 use Rattle.indexing.proofs.Entries.{ended-lows, ended-highs}
 use Rattle.search.specs.Search.{limited, framed}
@@ -42,9 +45,9 @@ use Rattle.index_call.specs.Call.{index_entries}
 -- ---- the heights of a decoded table
 
 -- where a line is no leaf it has none
-no-height : (lo : ℤ) (ls : List Line) (i : ℕ) → (get_or (map (λ (l : Line). l.kind) ls) i 0 ≡ 0 → ⊥) → get_or (map (height_of lo) ls) i 0 ≡ 0
+no-height : (lo : ℤ) (ls : List Line) (i : ℕ) → (get_or (map (λ (l : Line). code l.kind) ls) i 0 ≡ 0 → ⊥) → get_or (map (height_of lo) ls) i 0 ≡ 0
 no-height lo [] i z = refl
-no-height lo (l ∷ ls) zero z = rw (ne_eqb l.kind 0 z) refl
+no-height lo (l ∷ ls) zero z = rw (ne_eqb (code l.kind) 0 z) refl
 no-height lo (l ∷ ls) (suc i) z = no-height lo ls i z
 
 -- so every entry is at most what the leaves' heights are
@@ -117,37 +120,42 @@ module _ {s : List ℕ} {t : Summary} {K S W H : List ℕ} (G : Taken s t K S W 
       let x = accepted-lent s T p zeros zeros zeros zeros z z z z in
       let none : (i : ℕ) → i < n → (get_or u.kinds i 0 ≡ 0 → ⊥) → get_or u.heights i 0 ≡ 0
       = λ i l q. fitted-at (heights_of T) zeros n i (length-map T.lines (height_of T.head.lowest)) z l
-      ∙ no-height T.head.lowest T.lines i (λ e. q (fitted-at (kinds_of T) zeros n i (length-map T.lines (λ (y : Line). y.kind)) z l ∙ e)) in (
+      ∙ no-height T.head.lowest T.lines i (λ e. q (fitted-at (kinds_of T) zeros n i (length-map T.lines (λ (y : Line). code y.kind)) z l ∙ e)) in (
         (λ i l. small-in u (larger T.head) (greatest T.lines) (span T.head) 0 0 false 0 n (height_tree T) x (heights-proper s T p) none i (omega arith) l),
         record { weights = u.weights; forest = height_tree T; spans = x; filled = heights-filled s T p },
       ))
 
   -- H' and D' are what `own_ends` made of them
   module _ {H' D' : List ℕ} (E : OwnEndsOf K S H t.nodes (to_nat (t.highest -ℤ t.lowest)) H' D') where
-    pub of-ended : (C : Summary → (K S W : List ℕ) → Type 0)
+    pub of-ended : (C : Summary → (K S W H : List ℕ) → Type 0)
         → ((T : Table) → read_text s ≡ fine T
         → let u : Slices = lent T zeros zeros zeros zeros in
-        Ended u.kinds u.stops u.weights (length T.lines) (span T.head) H' D' (height_tree T) → C (summary T) u.kinds u.stops u.weights) → C t K S W
+        Ended u.kinds u.stops u.weights (length T.lines) (span T.head) H' D' (height_tree T) → C (summary T) u.kinds u.stops u.weights u.heights) → C t K S W H
     of-ended C show =
-        of-table G (λ t K S W H. OwnEndsOf K S H t.nodes (to_nat (t.highest -ℤ t.lowest)) H' D' → C t K S W) (λ T p E.
+        of-table G (λ t K S W H. OwnEndsOf K S H t.nodes (to_nat (t.highest -ℤ t.lowest)) H' D' → C t K S W H) (λ T p E.
         let z = zeros-enough s T p in
         show T p (E (record { weights = (lent T zeros zeros zeros zeros).weights; forest = height_tree T; spans = accepted-lent s T p zeros zeros zeros zeros z z z z; filled = heights-filled s T p }))) E
 
     -- no number is large
     pub own-small : Small 2000000 H' t.nodes × Small 2000000 D' t.nodes
-    own-small = of-ended (λ t K S W. Small 2000000 H' t.nodes × Small 2000000 D' t.nodes) (λ T p e.
+    own-small = of-ended (λ t K S W H. Small 2000000 H' t.nodes × Small 2000000 D' t.nodes) (λ T p e.
         let far = accepted-span s T p in ((λ i l. le_trans (e.small-rise i l) far), (λ i l. le_trans (e.small-drops i l) far)))
 
     pub drops-small : Small (to_nat (t.highest -ℤ t.lowest)) D' t.nodes
-    drops-small = of-ended (λ t K S W. Small (to_nat (t.highest -ℤ t.lowest)) D' t.nodes) (λ T p e. e.small-drops)
+    drops-small = of-ended (λ t K S W H. Small (to_nat (t.highest -ℤ t.lowest)) D' t.nodes) (λ T p e. e.small-drops)
 
     -- they make the table's index
-    pub own-lows : entries_of K H' t.lowest true t.nodes ≡ index_entries lows_of (read_text s)
-    own-lows = of-ended (λ t K S W. entries_of K H' t.lowest true t.nodes ≡ index_entries lows_of (read_text s)) (λ T p e.
+    pub own-lows : entries_of K H' (Lowest t.lowest) t.nodes ≡ index_entries lows_of (read_text s)
+    own-lows = of-ended (λ t K S W H. entries_of K H' (Lowest t.lowest) t.nodes ≡ index_entries lows_of (read_text s)) (λ T p e.
         ended-lows _ _ _ _ _ _ _ _ e T.head.lowest
         ∙ sym (ap (index_entries lows_of) p ∙ ap (map (of_entry (λ (x : Ends). x.low))) (index-heights s T p)))
 
-    pub own-highs : entries_of K D' t.highest false t.nodes ≡ index_entries highs_of (read_text s)
-    own-highs = of-ended (λ t K S W. entries_of K D' t.highest false t.nodes ≡ index_entries highs_of (read_text s)) (λ T p e.
+    pub own-highs : entries_of K D' (Highest t.highest) t.nodes ≡ index_entries highs_of (read_text s)
+    own-highs = of-ended (λ t K S W H. entries_of K D' (Highest t.highest) t.nodes ≡ index_entries highs_of (read_text s)) (λ T p e.
         ended-highs _ _ _ _ _ _ _ _ e T.head.lowest T.head.highest (highest-is s T p)
         ∙ sym (ap (index_entries highs_of) p ∙ ap (map (of_entry (λ (x : Ends). x.high))) (index-heights s T p)))
+
+-- ---- the nodes as the reading left them
+
+pub nodes-long : {s : List ℕ} {t : Summary} (ns : List Node) → Taken s t (kinds_in ns) (stops_in ns) (weights_in ns) (heights_in ns) → (t.nodes ≤ length ns) × (t.nodes ≤ 1024)
+nodes-long ns G = let n = slices-long G in (omega (arith, n.0, length-map ns (λ (n : Node). code n.kind)), n.3)

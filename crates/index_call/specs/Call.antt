@@ -1,5 +1,7 @@
 -- What the calls `build_index` and `search_indexed` answer. Document 02, Item 14.
-use Rattle.std.specs.Prelude.{ℕ, min, List, [], ◌∷◌, ltb, length, ℤ}
+use Rattle.search_call.specs.declared.Bounds.{Bounds}
+use Rattle.line.specs.declared.Refusal.{Refusal}
+use Rattle.std.specs.Prelude.{ℕ, min, List, [], ◌∷◌, ltb, length, ℤ, Err, Ok, Result}
 use Rattle.std.proofs.Math.Option.{Option}
 use Rattle.line.specs.declared.Refusal.TheVariants.{NoRoom, BadMargin, BadIndex}
 use Rattle.line.specs.Refusal.{Verdict, refused, fine, unless, next, number_of, line_of}
@@ -8,10 +10,7 @@ use Rattle.table.specs.Tree.{leaves}
 use Rattle.table.specs.Table.{Table, tree}
 use Rattle.index.specs.Index.{lows_of, highs_of, not_own}
 use Rattle.search.specs.Whole.{searched_own}
-use Rattle.search_call.specs.declared.Bounded.{Bounded}
 use Rattle.search_call.specs.Call.{Sought, bad_margin, search_answer, search_list}
-use Rattle.index_call.specs.declared.Indexed.{Indexed}
-use Rattle.index_call.specs.declared.Indexed.TheVariants.{Built, Refused}
 
 -- ---- "a call builds it"
 
@@ -23,16 +22,16 @@ room_in lows highs = min (length lows) (length highs)
 abbrev pub indexed : Verdict Table → (room : ℕ) → Verdict Table
 indexed v room = next v (λ (t : Table). unless (record { holds = ltb room (length t.lines); gives = NoRoom } ∷ []) t)
 
-abbrev pub index_answer : Verdict Table → Indexed
-index_answer (refused r) = Refused r
-index_answer (fine t) = Built
+abbrev pub index_answer : Verdict Table → Result Unit Refusal
+index_answer (refused r) = Err r
+index_answer (fine t) = (Ok tt)
 
 -- the entries that are written; nothing is where the call is refused
 abbrev pub index_entries : (Table → List (Option ℤ)) → Verdict Table → List (Option ℤ)
 index_entries f (refused r) = []
 index_entries f (fine t) = f t
 
-abbrev pub index_call : Verdict Table → (room : ℕ) → Indexed
+abbrev pub index_call : Verdict Table → (room : ℕ) → Result Unit Refusal
 index_call v room = index_answer (indexed v room)
 
 abbrev pub index_lows : Verdict Table → (room : ℕ) → List (Option ℤ)
@@ -42,13 +41,13 @@ abbrev pub index_highs : Verdict Table → (room : ℕ) → List (Option ℤ)
 index_highs v room = index_entries highs_of (indexed v room)
 
 -- the documents' number and line of every answer, 0 where there is no refusal
-abbrev pub index_number : Indexed → ℕ
-index_number Built = 0
-index_number (Refused r) = number_of r
+abbrev pub index_number : Result Unit Refusal → ℕ
+index_number (Ok tt) = 0
+index_number (Err r) = number_of r
 
-abbrev pub index_line : Indexed → ℕ
-index_line Built = 0
-index_line (Refused r) = line_of r
+abbrev pub index_line : Result Unit Refusal → ℕ
+index_line (Ok tt) = 0
+index_line (Err r) = line_of r
 
 -- ---- "and another search uses it"
 
@@ -64,7 +63,7 @@ sought_indexed v m lows highs room =
     ∷ [])
     (record { table = t; seen = searched_own t (to_nat m) }))
 
-abbrev pub indexed_call : Verdict Table → ℤ → (lows highs : List ℤ) → (room : ℕ) → Bounded
+abbrev pub indexed_call : Verdict Table → ℤ → (lows highs : List ℤ) → (room : ℕ) → Result Bounds Refusal
 indexed_call v m lows highs room = search_answer (sought_indexed v m lows highs room)
 
 abbrev pub indexed_reads : Verdict Table → ℤ → (lows highs : List ℤ) → (room : ℕ) → List ℕ

@@ -1,4 +1,4 @@
--- The ends of each inner node, made of least numbers: of heights, and of how far these lie below the span. Assumes nothing.
+-- The ends of each inner node, made of least numbers: of heights, and of how far these lie below the span.
 use Prim.Native.Nat.{ℕ, ◌+◌, ◌-◌, min, ◌≤◌, ◌<◌}
 use mathlib.Core.Path.{◌≡◌, refl, ap, ap₂, subst, ◌∙◌}
 use mathlib.Core.Bool.{false}
@@ -6,8 +6,7 @@ use mathlib.Core.List.{List}
 use native.Mathlib.Omega.{arith}
 use native.Mathlib.Nat.{le_refl}
 use native.Mathlib.Decide.{dec_le}
-use lib.ListN.{length, get_or, set}
-use lib.Seq.{get_or-set_same, get_or-set_other}
+use lib.ListN.{get_or}
 use Rattle.table.specs.Tree.{Kind, Forest, end, leaf, inner, is_end, code_of}
 use Rattle.table.specs.Accepted.{Filled}
 use Rattle.table.specs.Inside.{Slices, slices, Spans}
@@ -17,17 +16,6 @@ use Rattle.table.proofs.Heights.{map_forest, map-end, map-filled}
 use Rattle.index.specs.Inside.{least_of, greatest_of}
 use Rattle.index.proofs.Laws.{least-low, ordered}
 use Rattle.indexing.specs.Inside.{tops, Leasts, Small, Dropped, OwnEnds, Ended}
-
--- ---- drops
-
-pub dropped-more : (S : ℕ) (H D : List ℕ) (i : ℕ) → i < length D → Dropped S H D i → Dropped S H (set D i (S - get_or H i 0)) (i + 1)
-dropped-more S H D i l d j m = go (dec_le i j)
-  where
-    go : Dec (i ≤ j) → get_or (set D i (S - get_or H i 0)) j 0 ≡ S - get_or H j 0
-    go (yes q) =
-        let z : i ≡ j = omega arith in
-        subst (λ (j : ℕ). get_or (set D i (S - get_or H i 0)) j 0 ≡ S - get_or H j 0) z (get_or-set_same D i (S - get_or H i 0) 0 l)
-    go (no q) = get_or-set_other D i j (S - get_or H i 0) 0 (λ z. omega arith) ∙ d j (omega arith)
 
 -- ---- the leaves' numbers
 

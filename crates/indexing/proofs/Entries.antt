@@ -1,4 +1,4 @@
--- An index's entries made entry by entry: written to a list, compared with one, and those of the index over heights. Assumes nothing.
+-- An index's entries made entry by entry: written to a list, compared with one, and those of the index over heights.
 use Prim.Native.Nat.{ℕ, zero, suc, ◌+◌, ◌-◌, ◌≤◌, ◌<◌}
 use mathlib.Core.Path.{◌≡◌, refl, sym, ap, ◌∙◌}
 use mathlib.Core.Bool.{Bool, true, false, ◌&&◌, cond}
@@ -11,6 +11,8 @@ use lib.ListN.{length, get_or, set, drop}
 use lib.Seq.{drop-cons}
 use lib.Dec.{eqb}
 use lib.IntN.{ℤ, pos, ◌+ℤ◌, ◌-ℤ◌}
+use Rattle.std.proofs.Math.Bool.{and-false}
+use Rattle.std.specs.List.{list_all, range_with_len}
 use Rattle.numbers.specs.Integers.{eq_z}
 use Rattle.numbers.proofs.Signs.{plus, minus, is-minus}
 use Rattle.numbers.proofs.Above.{lifted, at-height}
@@ -20,6 +22,7 @@ use Rattle.table.proofs.Spans.{spans-le}
 use Rattle.table.proofs.Runs.{code-inner}
 use Rattle.index.specs.Index.{Ends, of_entry, written, agrees}
 use Rattle.index.specs.Inside.{least_of, greatest_of, height_entries}
+use Rattle.indexing.specs.declared.Base.TheVariants.{Lowest, Highest}
 use Rattle.indexing.specs.Inside.{OwnEnds, Ended, end_from, entries_from, entries_of}
 use Rattle.indexing.proofs.Ended.{greatest-within}
 
@@ -52,21 +55,6 @@ written_last [] (some y) (z ∷ l) = ap (λ l. y ∷ l) (written-nil l)
 written_last (y ∷ xs) x [] = sym (put-none x (suc (length xs)))
 written_last (none ∷ xs) x (z ∷ l) = ap (λ l. z ∷ l) (written_last xs x l) ∙ sym (put-tail x z (length xs) (written xs l))
 written_last (some y ∷ xs) x (z ∷ l) = ap (λ l. y ∷ l) (written_last xs x l) ∙ sym (put-tail x y (length xs) (written xs l))
-
-written-length : (xs : List (Option ℤ)) (l : List ℤ) → length (written xs l) ≡ length l
-unfolding written
-written-length [] [] = refl
-written-length [] (z ∷ l) = refl
-written-length (x ∷ xs) [] = refl
-written-length (none ∷ xs) (z ∷ l) = ap suc (written-length xs l)
-written-length (some x ∷ xs) (z ∷ l) = ap suc (written-length xs l)
-
-pub written-long : (xs : List (Option ℤ)) (l r : List ℤ) → r ≡ written xs l → length r ≡ length l
-written-long xs l r e = ap length e ∙ written-length xs l
-
-and-false : (b : Bool) → (b && false) ≡ false
-and-false true = refl
-and-false false = refl
 
 module _ (kinds : List ℕ) (f : ℕ → ℤ) where
   entries-split : (i m k : ℕ) → entries_from kinds f i (m + k) ≡ entries_from kinds f i m ++ entries_from kinds f (i + m) k
@@ -112,42 +100,22 @@ module _ (kinds : List ℕ) (f : ℕ → ℤ) where
       go ih true = ih
       go ih false = rw ih (and-false (eq_z (f i) z))
 
-  agrees-done : (i m : ℕ) (l : List ℤ) → m ≡ 0 → agrees (entries_from kinds f i m) l ≡ true
-  unfolding agrees entries_from
-  agrees-done i zero l e = refl
-  agrees-done i (suc m) l e = absurd (omega arith)
+  -- the test of entry i
+  abbrev pub same_at : List ℤ → ℕ → Bool
+  same_at l i = cond (eqb (get_or kinds i 0) 0) true (eq_z (f i) (get_or l i (pos 0)))
 
-  agrees-next : (i n : ℕ) (l : List ℤ) → i < n → i < length l
-      → agrees (entries_from kinds f i (n - i)) (drop i l)
-      ≡ (cond (eqb (get_or kinds i 0) 0) true (eq_z (f i) (get_or l i (pos 0))) && agrees (entries_from kinds f (i + 1) (n - (i + 1))) (drop (i + 1) l))
+  pub agrees-tested : (i m : ℕ) (l : List ℤ) → i + m ≤ length l → list_all (same_at l) (range_with_len i m) ≡ agrees (entries_from kinds f i m) (drop i l)
   unfolding agrees entries_from
-  agrees-next i n l a h =
-      let e : n - i ≡ suc (n - (i + 1)) = omega arith in
-      rw (e, drop-cons l i (pos 0) h, ← add-one i) (go (eqb (get_or kinds i 0) 0))
+  agrees-tested i zero l h = refl
+  agrees-tested i (suc m) l h =
+      let a : i < length l = omega arith in
+      rw (drop-cons l i (pos 0) a, add-one) (go (agrees-tested (suc i) m l (omega arith)) (eqb (get_or kinds i 0) 0))
     where
-      go : (b : Bool)
-          → agrees (cond b none (some (f i)) ∷ entries_from kinds f (i + 1) (n - (i + 1))) (get_or l i (pos 0) ∷ drop (i + 1) l)
-          ≡ (cond b true (eq_z (f i) (get_or l i (pos 0))) && agrees (entries_from kinds f (i + 1) (n - (i + 1))) (drop (i + 1) l))
-      go true = refl
-      go false = refl
-
-  -- what is left to compare from entry i on says what the whole says
-  abbrev pub Comparing : (n : ℕ) (l : List ℤ) (i : ℕ) → Type 0
-  Comparing n l i = agrees (entries_from kinds f 0 n) l ≡ agrees (entries_from kinds f i (n - i)) (drop i l)
-
-  pub comparing-none : (n : ℕ) (l : List ℤ) → Comparing n l 0
-  comparing-none n l = ap (λ (m : ℕ). agrees (entries_from kinds f 0 m) l) (sym (sub-zero n))
-
-  module _ (n : ℕ) (l : List ℤ) (i : ℕ) (C : Comparing n l i) where
-    pub comparing-done : n ≤ i → agrees (entries_from kinds f 0 n) l ≡ true
-    comparing-done h = C ∙ agrees-done i (n - i) (drop i l) (omega arith)
-
-    module _ (a : i < n) (h : i < length l) where
-      pub comparing-more : true ≡ cond (eqb (get_or kinds i 0) 0) true (eq_z (f i) (get_or l i (pos 0))) → Comparing n l (i + 1)
-      comparing-more e = C ∙ agrees-next i n l a h ∙ rw (← e)
-
-      pub comparing-differs : false ≡ cond (eqb (get_or kinds i 0) 0) true (eq_z (f i) (get_or l i (pos 0))) → agrees (entries_from kinds f 0 n) l ≡ false
-      comparing-differs e = C ∙ agrees-next i n l a h ∙ rw (← e)
+      go : list_all (same_at l) (range_with_len (suc i) m) ≡ agrees (entries_from kinds f (suc i) m) (drop (suc i) l) → (b : Bool)
+          → (cond b true (eq_z (f i) (get_or l i (pos 0))) && list_all (same_at l) (range_with_len (suc i) m))
+          ≡ agrees (cond b none (some (f i)) ∷ entries_from kinds f (suc i) m) (get_or l i (pos 0) ∷ drop (suc i) l)
+      go e true = e
+      go e false = ap (λ (t : Bool). eq_z (f i) (get_or l i (pos 0)) && t) e
 
 -- ---- the index over heights
 
@@ -192,7 +160,7 @@ module _ (t : Slices) (f : ℕ → ℤ) (g : Ends → ℤ) (lowest : ℤ) (S : �
   entries-all n F s a = ap (entries_from t.kinds f 0) (sym (sub-zero n)) ∙ entries-tell 0 n F s a
 
 module _ (S : ℕ) (H D : List ℕ) (lowest : ℤ) where
-  tells-low : (t : Slices) (F : Forest ℕ) → OwnEnds S H D F → Tells t (λ (i : ℕ). end_from lowest true (get_or H i 0)) (λ (e : Ends). e.low) lowest S F
+  tells-low : (t : Slices) (F : Forest ℕ) → OwnEnds S H D F → Tells t (λ (i : ℕ). end_from (Lowest lowest) (get_or H i 0)) (λ (e : Ends). e.low) lowest S F
   tells-low t end o = tt
   tells-low t (leaf n w h rest) o = tells-low t rest o
   tells-low t (inner n w k under rest) o = (ap (λ (x : ℕ). lowest +ℤ pos x) o.0, tells-low t under o.2, tells-low t rest o.3)
@@ -204,7 +172,7 @@ module _ (S : ℕ) (H D : List ℕ) (lowest : ℤ) where
       (is-minus (lowest +ℤ pos S) (pos (S - x)) (plus lowest + S) (minus lowest) (S - x) 0 (lifted lowest S) (omega arith)) (omega arith)
 
   tells-high : (t : Slices) (F : Forest ℕ) → greatest_of F ≤ S → OwnEnds S H D F
-      → Tells t (λ (i : ℕ). end_from (lowest +ℤ pos S) false (get_or D i 0)) (λ (e : Ends). e.high) lowest S F
+      → Tells t (λ (i : ℕ). end_from (Highest (lowest +ℤ pos S)) (get_or D i 0)) (λ (e : Ends). e.high) lowest S F
   unfolding greatest_of
   tells-high t end l o = tt
   tells-high t (leaf n w h rest) l o = tells-high t rest (omega arith) o
@@ -213,21 +181,21 @@ module _ (S : ℕ) (H D : List ℕ) (lowest : ℤ) where
 
   -- from least heights up, and from drops down
   low-entries : (t : Slices) (n : ℕ) (F : Forest ℕ) → Spans t 0 n F → OwnEnds S H D F
-      → entries_of t.kinds H lowest true n ≡ map (of_entry (λ (e : Ends). e.low)) (height_entries lowest S F)
-  low-entries t n F s o = entries-all t (λ (i : ℕ). end_from lowest true (get_or H i 0)) (λ (e : Ends). e.low) lowest S n F s (tells-low t F o)
+      → entries_of t.kinds H (Lowest lowest) n ≡ map (of_entry (λ (e : Ends). e.low)) (height_entries lowest S F)
+  low-entries t n F s o = entries-all t (λ (i : ℕ). end_from (Lowest lowest) (get_or H i 0)) (λ (e : Ends). e.low) lowest S n F s (tells-low t F o)
 
   high-entries : (t : Slices) (n : ℕ) (F : Forest ℕ) (highest : ℤ) → highest ≡ lowest +ℤ pos S → Spans t 0 n F → greatest_of F ≤ S → OwnEnds S H D F
-      → entries_of t.kinds D highest false n ≡ map (of_entry (λ (e : Ends). e.high)) (height_entries lowest S F)
+      → entries_of t.kinds D (Highest highest) n ≡ map (of_entry (λ (e : Ends). e.high)) (height_entries lowest S F)
   high-entries t n F highest q s l o =
-      ap (λ (z : ℤ). entries_of t.kinds D z false n) q
-      ∙ entries-all t (λ (i : ℕ). end_from (lowest +ℤ pos S) false (get_or D i 0)) (λ (e : Ends). e.high) lowest S n F s (tells-high t F l o)
+      ap (λ (z : ℤ). entries_of t.kinds D (Highest z) n) q
+      ∙ entries-all t (λ (i : ℕ). end_from (Highest (lowest +ℤ pos S)) (get_or D i 0)) (λ (e : Ends). e.high) lowest S n F s (tells-high t F l o)
 
 -- of what `own_ends` leaves
 module _ (K T W : List ℕ) (n S : ℕ) (H D : List ℕ) (F : Forest ℕ) (E : Ended K T W n S H D F) (lowest : ℤ) where
-  pub ended-lows : entries_of K H lowest true n ≡ map (of_entry (λ (e : Ends). e.low)) (height_entries lowest S F)
+  pub ended-lows : entries_of K H (Lowest lowest) n ≡ map (of_entry (λ (e : Ends). e.low)) (height_entries lowest S F)
   ended-lows = low-entries S H D lowest (slices K T W H) n F E.spans E.ends
 
-  pub ended-highs : (highest : ℤ) → highest ≡ lowest +ℤ pos S → entries_of K D highest false n ≡ map (of_entry (λ (e : Ends). e.high)) (height_entries lowest S F)
+  pub ended-highs : (highest : ℤ) → highest ≡ lowest +ℤ pos S → entries_of K D (Highest highest) n ≡ map (of_entry (λ (e : Ends). e.high)) (height_entries lowest S F)
   ended-highs highest q =
       let g = greatest-within (slices K T W H) S n 0 n F E.small-rise (le_refl n) E.spans in
       high-entries S H D lowest (slices K T W H) n F highest q E.spans g E.ends

@@ -1,4 +1,4 @@
--- Least numbers over nodes in slices: from child to child, and of every node, the last first. Assumes nothing.
+-- Least numbers over nodes in slices: from child to child, and of every node, the last first.
 use Prim.Native.Nat.{ℕ, ◌+◌, min, ◌≤◌, ◌<◌}
 use mathlib.Core.Path.{◌≡◌, refl, sym, subst, ◌∙◌}
 use mathlib.Core.Bool.{true, false}

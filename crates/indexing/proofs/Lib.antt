@@ -1,4 +1,3 @@
 pub mod Least
 pub mod Ended
-pub mod Signed
 pub mod Entries

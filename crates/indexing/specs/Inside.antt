@@ -1,11 +1,13 @@
 -- Least numbers over runs of nodes in the slices, the ends of each inner node, and the entries made of them: what the contracts cite. No promise of a
 -- public call names these.
-use Rattle.std.specs.Prelude.{ℕ, zero, suc, ◌+◌, ◌-◌, min, ◌≤◌, ◌<◌, Bool, cond, List, [], ◌∷◌, ◌≡◌, get_or, eqb, ℤ, pos, ◌+ℤ◌, ◌-ℤ◌}
+use Rattle.std.specs.Prelude.{ℕ, zero, suc, ◌+◌, ◌-◌, min, ◌≤◌, ◌<◌, cond, List, [], ◌∷◌, ◌≡◌, get_or, eqb, ℤ, pos, ◌+ℤ◌, ◌-ℤ◌}
 use Rattle.std.proofs.Math.Option.{Option, none, some}
 use Rattle.table.specs.Tree.{Forest, end, leaf, inner}
 use Rattle.table.specs.Accepted.{Filled}
 use Rattle.table.specs.Inside.{slices, Spans}
 use Rattle.index.specs.Inside.{least_of, greatest_of}
+use Rattle.indexing.specs.declared.Base.{Base}
+use Rattle.indexing.specs.declared.Base.TheVariants.{Lowest, Highest}
 
 -- ---- least numbers
 
@@ -77,9 +79,14 @@ OwnEndsOf kinds stops heights n S rise drops = (R : Standing kinds stops heights
 
 -- ---- an index's entries
 
--- x points above the base, or below it
-abbrev pub end_from : (base : ℤ) (up : Bool) (x : ℕ) → ℤ
-end_from base up x = cond up (base +ℤ pos x) (base -ℤ pos x)
+abbrev pub base_of : Base → ℤ
+base_of (Lowest z) = z
+base_of (Highest z) = z
+
+-- x points above the lowest end, or below the highest
+abbrev pub end_from : Base → (x : ℕ) → ℤ
+end_from (Lowest z) x = z +ℤ pos x
+end_from (Highest z) x = z -ℤ pos x
 
 -- f of each of the m entries from i on; a leaf has none
 unfoldable pub entries_from : (kinds : List ℕ) (f : ℕ → ℤ) (i m : ℕ) → List (Option ℤ)
@@ -87,5 +94,5 @@ entries_from kinds f i zero = []
 entries_from kinds f i (suc m) = cond (eqb (get_or kinds i 0) 0) none (some (f i)) ∷ entries_from kinds f (suc i) m
 
 -- those of n nodes
-abbrev pub entries_of : (kinds points : List ℕ) (base : ℤ) (up : Bool) (n : ℕ) → List (Option ℤ)
-entries_of kinds points base up n = entries_from kinds (λ (i : ℕ). end_from base up (get_or points i 0)) 0 n
+abbrev pub entries_of : (kinds points : List ℕ) (base : Base) (n : ℕ) → List (Option ℤ)
+entries_of kinds points base n = entries_from kinds (λ (i : ℕ). end_from base (get_or points i 0)) 0 n

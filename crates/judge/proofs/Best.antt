@@ -1,4 +1,4 @@
--- Over heights: no child is better than an M or N node's worth, and some child is worth just that. Assumes nothing.
+-- Over heights: no child is better than an M or N node's worth, and some child is worth just that.
 use Prim.Native.Nat.{ℕ, zero, suc, ◌≤◌, min, max}
 use mathlib.Core.Path.{◌≡◌, refl}
 use mathlib.Core.List.{List, [], ◌∷◌}

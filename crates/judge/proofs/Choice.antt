@@ -1,4 +1,4 @@
--- A root with a single child, and one with several. Assumes nothing.
+-- A root with a single child, and one with several.
 use Prim.Native.Nat.{ℕ, suc, ◌≤◌, ◌<◌}
 use mathlib.Core.Path.{◌≡◌, refl, ap}
 use mathlib.Core.Bool.{Bool, true, false, cond}

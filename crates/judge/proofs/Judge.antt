@@ -1,4 +1,4 @@
--- The judgement of every accepted table: its losses over heights, none negative, and a best child. Assumes nothing.
+-- The judgement of every accepted table: its losses over heights, none negative, and a best child.
 use Prim.Native.Nat.{ℕ, suc, ◌+◌, ◌≤◌}
 use mathlib.Core.Path.{◌≡◌, refl, sym, ap, ap₂, ◌∙◌}
 use mathlib.Core.Bool.{Bool, true, false}

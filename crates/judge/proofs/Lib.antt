@@ -3,7 +3,6 @@ pub mod Best
 pub mod Shift
 pub mod Judge
 pub mod Worked
-pub mod Losses
 pub mod Walk
 pub mod Run
 pub mod Worths

@@ -1,4 +1,4 @@
--- The node that `find_child` gives for the text of an accepted table is that of the root child of the number. Assumes nothing.
+-- The node that `find_child` gives for the text of an accepted table is that of the root child of the number.
 use Prim.Native.Nat.{ℕ, ◌+◌, ◌≤◌, ◌<◌}
 use mathlib.Core.Path.{◌≡◌, sym, ap, subst, ◌∙◌}
 use mathlib.Core.List.{List, [], ◌∷◌}

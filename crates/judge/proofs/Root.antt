@@ -1,12 +1,14 @@
--- A root with all under it in the lines: its children by number, the best worth, and the judgement. Assumes nothing.
+-- A root with all under it in the lines: its children by number, the best worth, and the judgement.
 use Prim.Native.Nat.{ℕ, zero, suc, ◌+◌, ◌-◌, ◌*◌, ◌≤◌, ◌<◌}
 use mathlib.Core.Path.{◌≡◌, refl, sym, ap, ap₂, subst, ◌∙◌}
 use mathlib.Core.List.{List, [], ◌∷◌}
 use mathlib.Core.Option.{Option, none, some}
 use native.Mathlib.Omega.{arith}
-use lib.ListN.{length, get_or, get_elem?, take, drop, length-append, length-drop, get_or-append}
+use lib.ListN.{length, get_or, get_elem?, take, drop, length-append, length-drop}
 use lib.Seq.{take_all, take_at, get_or-take}
 use lib.IntN.{ℤ, pos, negsuc}
+use Rattle.std.specs.Prelude.{Some, None}
+use Rattle.std.proofs.lemmas.Option.{none-some, same_Some}
 use Rattle.line.specs.declared.Refusal.TheVariants.{NoChild}
 use Rattle.line.specs.Refusal.{refused, fine}
 use Rattle.line.specs.Line.{letter_code, to_nat}
@@ -15,19 +17,21 @@ use Rattle.table.specs.Accepted.{Rooted, Filled}
 use Rattle.table.specs.Slices.{laid}
 use Rattle.table.specs.declared.Play.{Play}
 use Rattle.table.specs.declared.Play.TheVariants.{Child, NoPlay}
-use Rattle.table.specs.Root.{Side, AtM, AtN, Root, nobody, to_play, root_of, children, nodes, numbered, play_of}
+use Rattle.table.specs.Root.{Side, Root, nobody, to_play, root_of, children, nodes, numbered, play_of}
 use Rattle.scale.specs.declared.Scale.{Scale}
 use Rattle.worth.specs.Worth.{Share}
 use Rattle.worth.specs.Inside.Heights.{height_shares, first_height}
 use Rattle.worth.specs.Inside.{kind_in, Beside, Lays, Fits}
 use Rattle.worth.proofs.Run.{lays-le}
+use Rattle.judge.specs.declared.Side.{Side as Chooser}
+use Rattle.judge.specs.declared.Side.TheVariants.{Max, Min}
 use Rattle.judge.specs.Judge.{no_decision, judged, unless_forced}
 use Rattle.judge.specs.Inside.Heights.{height_loss, height_levels, height_judge_child, height_judge_at, forest_every, forest_judge, Ahead}
-use Rattle.judge.specs.Inside.{Chained, Chain, Played, heights_in, Here, Room, Under, Listed, best_in, AllAhead, levels_in, WholeLines, Decided}
+use Rattle.judge.specs.Inside.{side_of, chooser, Chained, Chain, Played, heights_in, Here, Room, Under, Listed, best_in, AllAhead, levels_in, WholeLines, Decided}
 use Rattle.judge.proofs.Choice.{some-nodes, shares-count, forced, choice, none-forced}
 use Rattle.judge.proofs.Best.{best-ahead}
 use Rattle.judge.proofs.Shift.{numbered-each, numbered-some, numbered-none}
-use Rattle.judge.proofs.Worths.{numbered-worth, kids-some, best-root, all-ahead, levels-worths}
+use Rattle.judge.proofs.Worths.{numbered-worth, best-root, all-ahead, levels-worths}
 
 -- ---- the children by number
 
@@ -159,20 +163,13 @@ module _ (S : Beside) (g : Scale) (n : ℕ) (s : List ℕ) where
       front =
           ap (take m) told.1 ∙ take_at (heights_in kids) (drop (length (heights_in kids)) came) m (sym told.0)
 
-      pub list-some : 0 < m
-      list-some = omega (arith, told.0, kids-some g.grain side (tree D.whole) D.whole.ready.fits.filled D.root)
-
       pub list-room : m ≤ length list
       list-room = omega (arith, told.0, ap length told.1, length-append (heights_in kids) (drop (length (heights_in kids)) came))
 
       -- the child of number z has its worth at this place
-      pub entry_of : (z : ℤ) (x : Share ℕ) → numbered z kids ≡ some x → (0 < to_nat z) × (to_nat z ≤ length list) × (get_or list (to_nat z - 1) 0 ≡ x.worth)
-      entry_of z x e =
-          let r = numbered-worth z kids x e in (
-            r.0,
-            omega (arith, r.1, told.0, list-room),
-            ap (λ (l : List ℕ). get_or l (to_nat z - 1) 0) told.1 ∙ get_or-append (heights_in kids) (drop (length (heights_in kids)) came) 0 (to_nat z - 1) (omega (arith, r.0, r.1)) ∙ r.2,
-          )
+      pub entry_of : (z : ℤ) (x : Share ℕ) → numbered z kids ≡ some x
+          → (0 < to_nat z) × (to_nat z ≤ length (take m list)) × (get_or (take m list) (to_nat z - 1) 0 ≡ x.worth)
+      entry_of z x e = rw front (numbered-worth z kids x e)
 
       pub best_of : (r : ℕ) → r ≡ best_in side (take m list) → r ≡ height
       best_of r e =
@@ -180,8 +177,7 @@ module _ (S : Beside) (g : Scale) (n : ℕ) (s : List ℕ) where
 
       module _ (best : ℕ) (b : best ≡ height) where
         pub ahead_of : AllAhead side best (take m list)
-        ahead_of =
-            rw (b, front) (all-ahead side height kids (best-ahead g.grain side (tree D.whole) D.root))
+        ahead_of = rw (b, front) (all-ahead side height kids (best-ahead g.grain side (tree D.whole) D.root))
 
         pub level-of : (r : ℕ) → r ≡ levels_in side best (take m list) → r ≡ height_levels side height kids
         level-of r e = e ∙ ap₂ (levels_in side) b front ∙ levels-worths side height kids
@@ -234,33 +230,27 @@ module _ (S : Beside) (n : ℕ) (s : List ℕ) where
       let a : 1 ≤ j = lays-le S 1 j (take (25 * (j - 1)) (drop 25 s)) under l.2 in
       omega (arith, a, lays-le S j n (drop (25 * (j - 0)) s) rest l.3)
 
-  module _ (q : ℕ) (letter : q ≡ letter_code (get_or s 5 0)) where
-    code : q ≡ kind_in (take 25 s)
-    code = letter ∙ ap letter_code (sym (get_or-take 25 s 5 0 (omega arith)))
+  abbrev q : ℕ
+  q = letter_code (get_or s 5 0)
 
-    pub root-m : (f : Forest ℕ) → Lays S 0 n s f → Rooted f → q ≡ 1 → root_of f ≡ to_play AtM
-    unfolding Lays
-    root-m end l r e = absurd r
-    root-m (leaf m w v rest) l r e = absurd (omega (arith, code, l.0))
-    root-m (inner m w MAX under rest) l r e = refl
-    root-m (inner m w MIN under rest) l r e = absurd (omega (arith, code, l.0))
-    root-m (inner m w CHANCE under rest) l r e = absurd (omega (arith, code, l.0))
+  code : q ≡ kind_in (take 25 s)
+  code = ap letter_code (sym (get_or-take 25 s 5 0 (omega arith)))
 
-    pub root-n : (f : Forest ℕ) → Lays S 0 n s f → Rooted f → q ≡ 2 → root_of f ≡ to_play AtN
-    unfolding Lays
-    root-n end l r e = absurd r
-    root-n (leaf m w v rest) l r e = absurd (omega (arith, code, l.0))
-    root-n (inner m w MAX under rest) l r e = absurd (omega (arith, code, l.0))
-    root-n (inner m w MIN under rest) l r e = refl
-    root-n (inner m w CHANCE under rest) l r e = absurd (omega (arith, code, l.0))
+  pub root-chosen : (m : Chooser) → Some m ≡ chooser q → (f : Forest ℕ) → Lays S 0 n s f → Rooted f → root_of f ≡ to_play (side_of m)
+  unfolding Lays
+  root-chosen m e end l r = absurd r
+  root-chosen m e (leaf i w v rest) l r = absurd (none-some m (sym (rw (code, l.0) at e)))
+  root-chosen m e (inner i w MAX under rest) l r = ap (λ (b : Chooser). to_play (side_of b)) (same_Some Max m (sym (rw (code, l.0) at e)))
+  root-chosen m e (inner i w MIN under rest) l r = ap (λ (b : Chooser). to_play (side_of b)) (same_Some Min m (sym (rw (code, l.0) at e)))
+  root-chosen m e (inner i w CHANCE under rest) l r = absurd (none-some m (sym (rw (code, l.0) at e)))
 
-    pub root-else : (f : Forest ℕ) → Lays S 0 n s f → Rooted f → (q ≡ 1 → ⊥) → (q ≡ 2 → ⊥) → root_of f ≡ nobody
-    unfolding Lays
-    root-else end l r a b = absurd r
-    root-else (leaf m w v rest) l r a b = refl
-    root-else (inner m w MAX under rest) l r a b = absurd (a (code ∙ l.0))
-    root-else (inner m w MIN under rest) l r a b = absurd (b (code ∙ l.0))
-    root-else (inner m w CHANCE under rest) l r a b = refl
+  pub root-else : None ≡ chooser q → (f : Forest ℕ) → Lays S 0 n s f → Rooted f → root_of f ≡ nobody
+  unfolding Lays
+  root-else e end l r = absurd r
+  root-else e (leaf i w v rest) l r = refl
+  root-else e (inner i w MAX under rest) l r = absurd (none-some Max (rw (code, l.0) at e))
+  root-else e (inner i w MIN under rest) l r = absurd (none-some Min (rw (code, l.0) at e))
+  root-else e (inner i w CHANCE under rest) l r = refl
 
 -- ---- roots without a decision
 

@@ -1,4 +1,4 @@
--- The root's children in the lines, one after another: each one's run is a part of them. Assumes nothing.
+-- The root's children in the lines, one after another: each one's run is a part of them.
 use Prim.Native.Nat.{ℕ, ◌+◌, ◌-◌, ◌*◌, ◌≤◌, ◌<◌}
 use mathlib.Core.Path.{◌≡◌, refl, sym, ap, subst, ◌∙◌}
 use mathlib.Core.Bool.{false}

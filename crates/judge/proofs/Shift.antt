@@ -1,4 +1,4 @@
--- The judgement over the integers is the judgement over heights, where no child is better than the best. Assumes nothing.
+-- The judgement over the integers is the judgement over heights, where no child is better than the best.
 use Prim.Native.Nat.{ℕ, zero, suc, ◌+◌, ◌-◌}
 use mathlib.Core.Path.{◌≡◌, refl, sym, ap, ap₂, ◌∙◌}
 use mathlib.Core.Bool.{cond}

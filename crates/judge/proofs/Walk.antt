@@ -1,4 +1,4 @@
--- From child to child by the stops: the child of a number. Assumes nothing.
+-- From child to child by the stops: the child of a number.
 use Prim.Native.Nat.{ℕ, zero, suc, ◌-◌, ◌≤◌, ◌<◌}
 use mathlib.Core.Path.{◌≡◌, refl, sym, ap, ◌∙◌}
 use mathlib.Core.List.{List, [], ◌∷◌}

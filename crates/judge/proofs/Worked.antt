@@ -1,4 +1,4 @@
--- Tables of document 01 and others, judged by computation. Assumes nothing.
+-- Tables of document 01 and others, judged by computation.
 use Prim.Native.Nat.{ℕ}
 use mathlib.Core.Path.{◌≡◌, refl}
 use mathlib.Core.List.{List, [], ◌∷◌, ◌++◌, map}

@@ -1,6 +1,11 @@
 -- The judge by the lines: what its code asks of them and of the slices beside them, and what it answers.
 pub mod Heights
-use Rattle.std.specs.Prelude.{ℕ, ◌+◌, ◌*◌, ◌≤◌, ◌<◌, min, max, ◌≡◌, Bool, true, false, cond, List, [], ◌∷◌, map, eqb, length, get_or, drop, ℤ, pos}
+use Rattle.judge.specs.declared.Decision.{Decision}
+use Rattle.judge.specs.declared.Side.{Side as Chooser}
+use Rattle.judge.specs.declared.Side.TheVariants.{Max, Min}
+use Rattle.line.specs.declared.Refusal.{Refusal}
+use Rattle.std.specs.Prelude.{ℕ, ◌+◌, ◌*◌, ◌≤◌, ◌<◌, min, max, ◌≡◌, cond, List, [], ◌∷◌, map, eqb, count_by, length, get_or, drop, ℤ, pos, Err, None, Ok, Option, Result, Some}
+use Rattle.std.specs.List.{fold, All}
 use Rattle.line.specs.Refusal.{Verdict, refused, fine}
 use Rattle.table.specs.Tree.{MAX, Forest}
 use Rattle.table.specs.Accepted.{Rooted}
@@ -11,16 +16,16 @@ use Rattle.scale.specs.declared.Scale.{Scale}
 use Rattle.worth.specs.Worth.{Share}
 use Rattle.worth.specs.Inside.Heights.{height_shares}
 use Rattle.worth.specs.Inside.{Beside, Reach, Lays, OkScale, Fits, ReadyRun}
-use Rattle.judge.specs.declared.Judged.{Judged}
-use Rattle.judge.specs.declared.Judged.TheVariants.{NoDecision, Loss}
-use Rattle.judge.specs.declared.Opinion.{Opinion}
-use Rattle.judge.specs.declared.Opinion.TheVariants.{Given, Refused}
 use Rattle.judge.specs.Judge.{Judgement, no_decision, judged}
 use Rattle.judge.specs.Inside.Heights.{height_loss, forest_judge, Ahead}
 
-abbrev pub side_if : Bool → Side
-side_if true = AtM
-side_if false = AtN
+abbrev pub side_of : Chooser → Side
+side_of Max = AtM
+side_of Min = AtN
+
+-- who chooses at a root, by the number of its kind
+abbrev pub chooser : ℕ → Option Chooser
+chooser q = cond (eqb q 1) (Some Max) (cond (eqb q 2) (Some Min) None)
 
 -- ---- the root's children by node number
 
@@ -79,44 +84,35 @@ abbrev pub better : Side → ℕ → ℕ → ℕ
 better AtM a h = max a h
 better AtN a h = min a h
 
--- the best of a and all of the list
-unfoldable pub best_from : Side → ℕ → List ℕ → ℕ
-best_from s a [] = a
-best_from s a (h ∷ hs) = best_from s (better s a h) hs
-
 -- the best of a list
 abbrev pub best_in : Side → List ℕ → ℕ
 best_in s [] = 0
-best_in s (h ∷ hs) = best_from s h hs
+best_in s (h ∷ hs) = fold (better s) h hs
 
 abbrev pub AllAhead : Side → ℕ → List ℕ → Type 0
-AllAhead s best [] = Unit {0}
-AllAhead s best (h ∷ hs) = Ahead s best h × AllAhead s best hs
+AllAhead s best hs = All (λ h. Ahead s best h) hs
 
-abbrev pub level_one : Side → (best height : ℕ) → ℕ
-level_one s best height = cond (eqb (height_loss s best height) 0) 1 0
-
-unfoldable pub levels_in : Side → (best : ℕ) → List ℕ → ℕ
-levels_in s best [] = 0
-levels_in s best (h ∷ hs) = level_one s best h + levels_in s best hs
+-- how many lose nothing
+abbrev pub levels_in : Side → (best : ℕ) → List ℕ → ℕ
+levels_in s best hs = count_by (λ h. eqb (height_loss s best h) 0) hs
 
 -- ---- the judgement
 
 -- what each answer means
-abbrev pub judged_of : Judged → Judgement
-judged_of NoDecision = no_decision
-judged_of (Loss loss level) = judged (pos loss) level
+abbrev pub judged_of : Option Decision → Judgement
+judged_of None = no_decision
+judged_of (Some d) = judged (pos d.loss) d.level
 
-abbrev pub meant : Opinion → Verdict Judgement
-meant (Given j) = fine (judged_of j)
-meant (Refused r) = refused r
+abbrev pub meant : Result (Option Decision) Refusal → Verdict Judgement
+meant (Ok j) = fine (judged_of j)
+meant (Err r) = refused r
 
 -- the lines of one root with all under it
 pub record WholeLines (S : Beside) (g : Scale) (n : ℕ) (s : List ℕ) : Type 0 where
   pub ready : ReadyRun S g MAX 0 n s
   pub rooted : Rooted ready.nodes
 
-abbrev pub WellJudged : Beside → Scale → ℕ → List ℕ → ℤ → Opinion → Type 0
+abbrev pub WellJudged : Beside → Scale → ℕ → List ℕ → ℤ → Result (Option Decision) Refusal → Type 0
 WellJudged S g n s i r = (W : WholeLines S g n s) → meant r ≡ forest_judge g.grain W.ready.nodes i
 
 -- the same of an M or N root with a choice
@@ -125,5 +121,5 @@ pub record Decided (S : Beside) (g : Scale) (n : ℕ) (s : List ℕ) (side : Sid
   pub root : root_of whole.ready.nodes ≡ to_play side
   pub choice : 1 < length (nodes (children whole.ready.nodes))
 
-abbrev pub WellDecided : Beside → Scale → ℕ → List ℕ → Side → ℤ → Opinion → Type 0
+abbrev pub WellDecided : Beside → Scale → ℕ → List ℕ → Side → ℤ → Result (Option Decision) Refusal → Type 0
 WellDecided S g n s side i r = (D : Decided S g n s side) → meant r ≡ forest_judge g.grain D.whole.ready.nodes i

@@ -1,4 +1,4 @@
--- The columns of the totals. Document 02, Items 5 and 9. Assumes nothing.
+-- The columns of the totals. Document 02, Items 5 and 9.
 use Prim.Native.Nat.{ℕ, ◌≤◌}
 use mathlib.Core.Path.{◌≡◌, refl, sym, ap, ap₂, ◌∙◌}
 use mathlib.Core.Bool.{Bool, true, false, cond}

@@ -1,4 +1,4 @@
--- What is known of a header and of a node line that was not refused. Assumes nothing.
+-- What is known of a header and of a node line that was not refused.
 use Prim.Native.Nat.{ℕ, suc, ◌≤◌, ◌<◌}
 use mathlib.Core.Path.{◌≡◌, refl, sym, ap, subst, ◌∙◌}
 use mathlib.Core.Bool.{Bool, true, false, not, ◌||◌, cond, or-false}
@@ -14,13 +14,15 @@ use Rattle.field.specs.declared.Field.{Field}
 use Rattle.field.specs.declared.Field.TheVariants.{Blank, Ill, Number}
 use Rattle.field.proofs.Bits.{mag-abs}
 use Rattle.line.specs.declared.Head.{Head}
+use Rattle.line.specs.declared.Kind.{Kind}
 use Rattle.line.specs.declared.Heading.{Heading}
 use Rattle.line.specs.declared.Entry.{Entry}
 use Rattle.line.specs.declared.Refusal.{Refusal}
 use Rattle.line.specs.Refusal.{refused, fine, Check, unless, unless_at}
-use Rattle.line.specs.Line.{is_ill, is_blank, has_number, outside, value_of, to_nat, count_of, bad_second, head_of, totals, among, larger, header_checks, header_for, letter_code, Step, Above, wrong, path, climb, ancestors, is_wrong, steps_of, chances_of, at_chance, stepped, Placed, placed, line_checks, place_of, Within}
+use Rattle.line.specs.Line.{is_ill, is_blank, has_number, outside, value_of, to_nat, count_of, bad_second, head_of, totals, among, larger, header_checks, header_for, is_leaf, kind_said, Above, wrong, path, climb, ancestors, is_wrong, steps_of, chances_of, at_chance, stepped, Placed, placed, line_checks, place_of, Within}
 use Rattle.line.specs.Inside.{Ranged, other, Weighs, Sized}
 use Rattle.line.proofs.Signs.{true-ne-false}
+use Rattle.line.specs.declared.Step.{Step}
 use Rattle.line.proofs.Checks.{or_left, or_right}
 
 -- no check of the list holds
@@ -193,7 +195,7 @@ falling-more a b (s ∷ P) h f = (le_trans f.0 h, f.1)
 -- the step of node p, which is no leaf, comes first
 abbrev pub Headed : ℕ → List Step → Type 0
 Headed p [] = ⊥
-Headed p (s ∷ Q) = (s.node ≡ p) × (eqb s.kind 0 ≡ false)
+Headed p (s ∷ Q) = (s.node ≡ p) × (is_leaf s.kind ≡ false)
 
 pub record Climbed (p n : ℕ) (Q : List Step) : Type 0 where
   pub below : p < n
@@ -203,9 +205,9 @@ pub record Climbed (p n : ℕ) (Q : List Step) : Type 0 where
 pub climbed : (p n : ℕ) (P Q : List Step) → Falling n P → climb p P ≡ path Q → Climbed p n Q
 unfolding climb
 climbed p n [] Q f e = wrong-path _ Q e
-climbed p n (s ∷ P) Q f e = go (climbed p s.node P Q f.1) (eqb s.node p) (eqb s.kind 0) refl refl e
+climbed p n (s ∷ P) Q f e = go (climbed p s.node P Q f.1) (eqb s.node p) (is_leaf s.kind) refl refl e
   where
-    go : (climb p P ≡ path Q → Climbed p s.node Q) → (t u : Bool) → eqb s.node p ≡ t → eqb s.kind 0 ≡ u
+    go : (climb p P ≡ path Q → Climbed p s.node Q) → (t u : Bool) → eqb s.node p ≡ t → is_leaf s.kind ≡ u
         → cond t (cond u wrong (path (s ∷ P))) (climb p P) ≡ path Q → Climbed p n Q
     go ih true true x y e = wrong-path _ Q e
     go ih true false x y e =
@@ -240,28 +242,17 @@ valued-small false h z r v = rw v (omega arith)
 pub record Read (h : Head) (i : ℕ) (P Q : List Step) (p : Placed) : Type 0 where
   pub climbs : Climbs P p.line.parent Q
   pub node : p.line.node ≡ i
-  pub kind : p.line.kind < 4
   pub steps : p.steps ≡ stepped i p.line.kind Q
   pub chances : p.line.chances ≡ chances_of p.steps
   pub few : chances_of p.steps ≤ 4
   pub short : length p.steps ≤ 64
   pub weight : Weighs (at_chance Q) (larger h) p.line.weight
-  pub utility : Valued (eqb p.line.kind 0) h p.line.utility
-
-code-small : (b : ℕ) → eqb (letter_code b) 4 ≡ false → letter_code b < 4
-code-small b e = go (eqb b 76) (eqb b 77) (eqb b 78) (eqb b 67) e
-  where
-    go : (s t u v : Bool) → eqb (cond s 0 (cond t 1 (cond u 2 (cond v 3 4)))) 4 ≡ false → cond s 0 (cond t 1 (cond u 2 (cond v 3 4))) < 4
-    go true t u v e = omega arith
-    go false true u v e = omega arith
-    go false false true v e = omega arith
-    go false false false true e = omega arith
-    go false false false false e = absurd (true-ne-false e)
+  pub utility : Valued (is_leaf p.line.kind) h p.line.utility
 
 pub line_read : (h : Head) (i : ℕ) (e : Entry) (fifth last : ℕ) (P : List Step) (p : Placed) → place_of h i e fifth last P ≡ fine p
     → Read h i P (steps_of (ancestors e.parent P)) p
 line_read h i e fifth last P p eq =
-    let k : ℕ = letter_code e.letter in
+    let k : Kind = kind_said e in
     let a : Above = ancestors e.parent P in
     let Q : List Step = steps_of a in
     let r = unless-fine (line_checks h i e fifth last a) (placed i k e (stepped i k Q)) p eq in
@@ -270,20 +261,19 @@ line_read h i e fifth last P p eq =
     let far = c.1.1.1.1.0 in
     let m = c.1.1.1.1.1.0 in
     let o = c.1.1.1.1.1.1.0 in
-    let mw = or_left (cond (at_chance Q) (is_blank e.weight) (not (is_blank e.weight))) (cond (eqb k 0) (is_blank e.utility) (not (is_blank e.utility))) m in
-    let mu = or_right (cond (at_chance Q) (is_blank e.weight) (not (is_blank e.weight))) (cond (eqb k 0) (is_blank e.utility) (not (is_blank e.utility))) m in
+    let mw = or_left (cond (at_chance Q) (is_blank e.weight) (not (is_blank e.weight))) (cond (is_leaf k) (is_blank e.utility) (not (is_blank e.utility))) m in
+    let mu = or_right (cond (at_chance Q) (is_blank e.weight) (not (is_blank e.weight))) (cond (is_leaf k) (is_blank e.utility) (not (is_blank e.utility))) m in
     let ow = or_left (outside (pos 1) (pos (larger h)) e.weight) (outside h.lowest h.highest e.utility) o in
     let ou = or_right (outside (pos 1) (pos (larger h)) e.weight) (outside h.lowest h.highest e.utility) o in
     subst (Read h i P Q) r.1 (record {
       climbs = ancestors-path e.parent P Q (right-path a c.1.1.1.0);
       node = refl;
-      kind = code-small e.letter c.1.1.0;
       steps = refl;
       chances = refl;
       few = ltb-false 4 (chances_of (stepped i k Q)) (or_right (ltb 64 (length (stepped i k Q))) (ltb 4 (chances_of (stepped i k Q))) far);
       short = ltb-false 64 (length (stepped i k Q)) (or_left (ltb 64 (length (stepped i k Q))) (ltb 4 (chances_of (stepped i k Q))) far);
       weight = weighs (at_chance Q) (larger h) e.weight w.4 mw ow;
-      utility = valued (eqb k 0) h e.utility w.5 mu ou;
+      utility = valued (is_leaf k) h e.utility w.5 mu ou;
     })
 
 -- its numbers fit the slices
@@ -296,5 +286,5 @@ read-sized h i P Q p r f R =
     record {
       parent = climbs-small P Q p.line.parent f R.climbs;
       weight = le_trans (weighs-small (at_chance Q) (larger h) p.line.weight R.weight) (larger-small h r);
-      utility = valued-small (eqb p.line.kind 0) h p.line.utility r R.utility;
+      utility = valued-small (is_leaf p.line.kind) h p.line.utility r R.utility;
     }

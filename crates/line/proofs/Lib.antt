@@ -3,3 +3,4 @@ pub mod Checks
 pub mod Fine
 pub mod Numbers
 pub mod Columns
+pub mod KindTests

@@ -1,4 +1,4 @@
--- A refusal's number is 1 to 22. Assumes nothing.
+-- A refusal's number is 1 to 22.
 use Prim.Native.Nat.{◌≤◌}
 use native.Mathlib.Omega.{arith}
 use Rattle.line.specs.declared.Refusal.{Refusal}

@@ -1,14 +1,17 @@
--- Signed numbers of 64 bits, as tests and casts leave them. Assumes nothing.
+-- Signed numbers of 64 bits, as tests and casts leave them.
 use Prim.Native.Nat.{ℕ, zero, suc, ◌+◌, ◌^◌, ◌<◌, ◌≤◌}
-use mathlib.Core.Path.{◌≡◌, refl}
+use mathlib.Core.Path.{◌≡◌, refl, ◌∙◌}
 use mathlib.Core.Bool.{Bool, true, false}
 use native.Mathlib.Omega.{arith}
 use borrow.Author.Tests.{ltb-true}
+use borrow.Author.Rules.{sfits_of}
 use lib.Dec.{T, eqb, ltb}
 use lib.IntN.{ℤ, pos, negsuc, neg_ℤ, nat_abs, sub_ℕ, ◌+ℤ◌, ◌-ℤ◌}
 use lib.Signed.{mag, lt_z, non_neg}
 use mir.Syntax.{w64}
-use mir.Val.{Fits}
+use mir.Val.{Fits, to_z, of_z}
+use mir.ValLaws.{to_z-of_z}
+use Rattle.std.specs.Int.{int_max}
 use Rattle.field.specs.declared.Field.TheVariants.{Number}
 use Rattle.line.specs.Line.{to_nat, has_number}
 
@@ -64,3 +67,28 @@ mag-diff y z h k = omega (arith, mag-add y (neg_ℤ z), mag-neg z)
 pub nat-mag : (z : ℤ) → to_nat z ≤ mag z
 nat-mag (pos n) = omega arith
 nat-mag (negsuc n) = omega arith
+
+-- ---- `z.max(0).unsigned_abs()`
+
+max-nat : (z : ℤ) → nat_abs (int_max z (pos 0)) ≡ to_nat z
+max-nat (pos n) = grind arith
+max-nat (negsuc n) = refl
+
+max-mag : (z : ℤ) → mag (int_max z (pos 0)) ≤ mag z
+max-mag (pos n) = grind arith
+max-mag (negsuc n) = omega arith
+
+pub clip-nat : (z m : ℤ) (n : ℕ) → mag z < 2 ^ 63 → m ≡ int_max (to_z w64 (of_z w64 z)) (pos 0) → n ≡ nat_abs (to_z w64 (of_z w64 m)) → n ≡ to_nat z
+clip-nat z m n h e f =
+    let back-z : to_z w64 (of_z w64 z) ≡ z = to_z-of_z w64 z (sfits_of h) in
+    let is : m ≡ int_max z (pos 0) = rw back-z at e in
+    let back-m : to_z w64 (of_z w64 m) ≡ m = to_z-of_z w64 m (sfits_of (rw is (omega (arith, h, max-mag z)))) in
+    f ∙ rw (back-m, is) (max-nat z)
+
+-- the same of a difference
+pub rise-nat : (y z m : ℤ) (n : ℕ) → mag y ≤ 1000000 → mag z ≤ 1000000
+    → m ≡ int_max (to_z w64 (of_z w64 (to_z w64 (of_z w64 y) -ℤ to_z w64 (of_z w64 z)))) (pos 0) → n ≡ nat_abs (to_z w64 (of_z w64 m)) → n ≡ to_nat (y -ℤ z)
+rise-nat y z m n h k e f =
+    let back-y : to_z w64 (of_z w64 y) ≡ y = to_z-of_z w64 y (sfits_of (omega (arith, h))) in
+    let back-z : to_z w64 (of_z w64 z) ≡ z = to_z-of_z w64 z (sfits_of (omega (arith, k))) in
+    clip-nat (y -ℤ z) m n (omega (arith, mag-diff y z h k)) (rw (back-y, back-z) at e) f

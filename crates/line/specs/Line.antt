@@ -1,55 +1,21 @@
 -- What one line says. Document 01, 'The table on paper', with the conditions of 'Refused tables and calls'; of the header's totals document 02, Items 5
 -- and 9.
 use Rattle.std.specs.Prelude.{ℕ, ◌+◌, max, ◌≡◌, Bool, true, false, not, ◌||◌, cond, List, [], ◌∷◌, ◌++◌, length, get_or, eqb, ltb, ℤ, pos, negsuc}
+use Rattle.std.specs.Prelude.{Option, Some, None, is_none, unwrap_or}
 use Rattle.std.specs.Int.Signed.{lt_z}
 use Rattle.field.specs.Field.{field_of}
+pub use Rattle.field.specs.Value.{is_ill, is_blank, has_number, outside, value_of, to_nat, count_of}
 use Rattle.field.specs.declared.Field.{Field}
 use Rattle.field.specs.declared.Field.TheVariants.{Blank, Ill, Number}
 use Rattle.line.specs.declared.Heading.{Heading}
 use Rattle.line.specs.declared.Entry.{Entry}
 use Rattle.line.specs.declared.Head.{Head}
+use Rattle.line.specs.declared.Kind.{Kind}
+use Rattle.line.specs.declared.Kind.TheVariants.{Leaf, Max, Min, Chance}
 use Rattle.line.specs.declared.Line.{Line}
+use Rattle.line.specs.declared.Step.{Step}
 use Rattle.line.specs.declared.Refusal.TheVariants.{IllWritten, OutOfRange, Misnumbered, UnknownKind, WrongParent, Misfilled, TooDeep}
 use Rattle.line.specs.Refusal.{Verdict, Check, unless}
-
--- ---- fields
-
-abbrev pub is_ill : Field → Bool
-is_ill Blank = false
-is_ill Ill = true
-is_ill (Number z) = false
-
-abbrev pub is_blank : Field → Bool
-is_blank Blank = true
-is_blank Ill = false
-is_blank (Number z) = false
-
--- the field holds the number n
-abbrev pub has_number : ℕ → Field → Bool
-has_number n Blank = false
-has_number n Ill = false
-has_number n (Number (pos m)) = eqb m n
-has_number n (Number (negsuc m)) = false
-
--- the field holds a number below lo or above hi
-abbrev pub outside : ℤ → ℤ → Field → Bool
-outside lo hi Blank = false
-outside lo hi Ill = false
-outside lo hi (Number z) = lt_z z lo || lt_z hi z
-
--- the number in the field, or 0 where there is none
-abbrev pub value_of : Field → ℤ
-value_of Blank = pos 0
-value_of Ill = pos 0
-value_of (Number z) = z
-
--- the number itself, or 0 where it is below zero
-abbrev pub to_nat : ℤ → ℕ
-to_nat (pos n) = n
-to_nat (negsuc n) = 0
-
-abbrev pub count_of : Field → ℕ
-count_of f = to_nat (value_of f)
 
 -- ---- the header
 
@@ -137,15 +103,42 @@ larger h = max h.total h.second
 abbrev pub entry_of : List ℕ → Entry
 entry_of s = record { number = field_of s 0 4; letter = get_or s 5 0; parent = field_of s 6 5; weight = field_of s 11 5; utility = field_of s 16 8 }
 
--- "Kinds: M (MAX), N (MIN), C (chance), L (leaf)" as numbers: 0 for L (76), 1 for M (77), 2 for N (78), 3 for C (67), 4 for another byte
-abbrev pub letter_code : ℕ → ℕ
-letter_code b = cond (eqb b 76) 0 (cond (eqb b 77) 1 (cond (eqb b 78) 2 (cond (eqb b 67) 3 4)))
+-- "Kinds: M (MAX), N (MIN), C (chance), L (leaf)": as bytes 77, 78, 67 and 76
+abbrev pub letter : Kind → ℕ
+letter Leaf = 76
+letter Max = 77
+letter Min = 78
+letter Chance = 67
 
--- a node on the path from the root: its number, its kind, and how many C the path has down to it
-pub record Step : Type 0 where
-  pub node : ℕ
-  pub kind : ℕ
-  pub chances : ℕ
+-- the kind of a letter; another byte has none
+abbrev pub kind_from : ℕ → Option Kind
+kind_from b =
+    cond (eqb b 76) (Some Leaf) (cond (eqb b 77) (Some Max) (cond (eqb b 78) (Some Min) (cond (eqb b 67) (Some Chance) None)))
+
+-- the number of a kind: 0 for L, 1 for M, 2 for N, 3 for C
+abbrev pub code : Kind → ℕ
+code Leaf = 0
+code Max = 1
+code Min = 2
+code Chance = 3
+
+abbrev pub is_leaf : Kind → Bool
+is_leaf k = eqb (code k) 0
+
+abbrev pub is_chance : Kind → Bool
+is_chance k = eqb (code k) 3
+
+-- the kind's number, or 4 where there is none
+abbrev pub code_or : Option Kind → ℕ
+code_or None = 4
+code_or (Some k) = code k
+
+abbrev pub letter_code : ℕ → ℕ
+letter_code b = code_or (kind_from b)
+
+-- the kind of a line; where it has none, 5 refuses it before the kind counts
+abbrev pub kind_said : Entry → Kind
+kind_said e = unwrap_or (kind_from e.letter) Leaf
 
 -- the path from a node up to the root, or no such node
 pub data Above : Type 0 where
@@ -155,7 +148,7 @@ pub data Above : Type 0 where
 -- "the parent of node i is node i-1 or one of its ancestors, and is no leaf": the steps are those of node i-1, from itself up to the root
 unfoldable pub climb : ℕ → List Step → Above
 climb p [] = wrong
-climb p (s ∷ P) = cond (eqb s.node p) (cond (eqb s.kind 0) wrong (path (s ∷ P))) (climb p P)
+climb p (s ∷ P) = cond (eqb s.node p) (cond (is_leaf s.kind) wrong (path (s ∷ P))) (climb p P)
 
 abbrev pub climb_to : Field → List Step → Above
 climb_to Blank P = wrong
@@ -183,7 +176,7 @@ chances_of (s ∷ P) = s.chances
 
 abbrev pub at_chance : List Step → Bool
 at_chance [] = false
-at_chance (s ∷ P) = eqb s.kind 3
+at_chance (s ∷ P) = is_chance s.kind
 
 -- 2: "byte 25 is no newline, a field is ill-written, column 5 of a node line not blank, or a field blank other than parent, weight, utility"
 abbrev pub ill_entry : ℕ → ℕ → Entry → Bool
@@ -203,55 +196,59 @@ deep P = ltb 64 (length P) || ltb 4 (chances_of P)
 
 -- 7: "A weight stands exactly on children of a C, a utility exactly on an L"
 abbrev pub misfilled : Bool → Bool → Entry → Bool
-misfilled under_c is_leaf e =
-    cond under_c (is_blank e.weight) (not (is_blank e.weight)) || cond is_leaf (is_blank e.utility) (not (is_blank e.utility))
+misfilled under_c on_leaf e =
+    cond under_c (is_blank e.weight) (not (is_blank e.weight)) || cond on_leaf (is_blank e.utility) (not (is_blank e.utility))
 
 -- 3: "weights 1 to T", by Item 5 to the larger total; "utilities within the ends"
 abbrev pub wide_entry : Head → Entry → Bool
 wide_entry h e = outside (pos 1) (pos (larger h)) e.weight || outside h.lowest h.highest e.utility
 
 -- the steps of node i, of the kind k, under the steps P
-abbrev pub stepped : ℕ → ℕ → List Step → List Step
-stepped i k P = record { node = i; kind = k; chances = chances_of P + cond (eqb k 3) 1 0 } ∷ P
+abbrev pub stepped : ℕ → Kind → List Step → List Step
+stepped i k P = record { node = i; kind = k; chances = chances_of P + cond (is_chance k) 1 0 } ∷ P
+
+-- a line as the last step of its path
+abbrev pub step_of : Line → Step
+step_of l = record { node = l.node; kind = l.kind; chances = l.chances }
 
 -- a line that was read, with the path down to it
 pub record Placed : Type 0 where
   pub line : Line
   pub steps : List Step
 
-abbrev pub line_said : ℕ → ℕ → ℕ → Entry → Line
+abbrev pub line_said : ℕ → Kind → ℕ → Entry → Line
 line_said i k chances e =
     record { node = i; kind = k; parent = count_of e.parent; weight = count_of e.weight; utility = value_of e.utility; chances = chances }
 
-abbrev pub placed : ℕ → ℕ → Entry → List Step → Placed
+abbrev pub placed : ℕ → Kind → Entry → List Step → Placed
 placed i k e S = record { line = line_said i k (chances_of S) e; steps = S }
 
 -- node i, of the kind k, below the steps P of its parent: 10, 7, 3
-abbrev pub late_checks : Head → ℕ → ℕ → Entry → List Step → List Check
+abbrev pub late_checks : Head → ℕ → Kind → Entry → List Step → List Check
 late_checks h i k e P =
     record { holds = deep (stepped i k P); gives = TooDeep (i + 1) }
-    ∷ record { holds = misfilled (at_chance P) (eqb k 0) e; gives = Misfilled (i + 1) }
+    ∷ record { holds = misfilled (at_chance P) (is_leaf k) e; gives = Misfilled (i + 1) }
     ∷ record { holds = wide_entry h e; gives = OutOfRange (i + 1) }
     ∷ []
 
--- node i, of the kind k, with what stands above it and the bytes of columns 5 and 25: 2, 4, 5, 6
-abbrev pub early_checks : ℕ → ℕ → Above → Entry → ℕ → ℕ → List Check
+-- node i, of the kind k if it has one, with what stands above it and the bytes of columns 5 and 25: 2, 4, 5, 6
+abbrev pub early_checks : ℕ → Option Kind → Above → Entry → ℕ → ℕ → List Check
 early_checks i k a e fifth last =
     record { holds = ill_entry fifth last e; gives = IllWritten (i + 1) }
     ∷ record { holds = not (has_number i e.number); gives = Misnumbered (i + 1) }
-    ∷ record { holds = eqb k 4; gives = UnknownKind (i + 1) }
+    ∷ record { holds = is_none k; gives = UnknownKind (i + 1) }
     ∷ record { holds = is_wrong a; gives = WrongParent (i + 1) }
     ∷ []
 
 -- all of them: 2, 4, 5, 6, 10, 7, 3
 abbrev pub line_checks : Head → ℕ → Entry → ℕ → ℕ → Above → List Check
 line_checks h i e fifth last a =
-    early_checks i (letter_code e.letter) a e fifth last ++ late_checks h i (letter_code e.letter) e (steps_of a)
+    early_checks i (kind_from e.letter) a e fifth last ++ late_checks h i (kind_said e) e (steps_of a)
 
 -- node i below the steps P of the line before it
 abbrev pub place_of : Head → ℕ → Entry → ℕ → ℕ → List Step → Verdict Placed
 place_of h i e fifth last P =
-    let k : ℕ = letter_code e.letter in
+    let k : Kind = kind_said e in
     let a : Above = ancestors e.parent P in
     unless (line_checks h i e fifth last a) (placed i k e (stepped i k (steps_of a)))
 

@@ -1,9 +1,9 @@
 // One line of a table: what it says, and the documents' refusals.
 #![tactic(auto)]
 
-ghost use Rattle.std.specs.Prelude.{◌≡◌, cond, ◌<◌};
+ghost use Rattle.std.specs.Prelude.{◌≡◌};
 ghost use Rattle.line.specs.Refusal.{number_of, line_of};
-ghost use Rattle.line.specs.Line.{value_of, to_nat, larger, letter_code};
+ghost use Rattle.line.specs.Line.{larger, kind_from, letter, code, step_of};
 ghost use Rattle.line.specs.Inside.{other};
 
 use field::Field;
@@ -63,135 +63,149 @@ pub struct Entry {
     pub utility: Field,
 }
 
+// Who moves at a node, or L for a leaf.
+#[derive(Clone, Copy, PartialEq, Eq)]
+pub enum Kind {
+    Leaf,
+    Max,
+    Min,
+    Chance,
+}
+
 // `chances` counts the C on the path down to the node.
 #[derive(Clone, Copy)]
 pub struct Line {
     pub node: usize,
-    pub kind: u8,
+    pub kind: Kind,
     pub parent: u64,
     pub weight: u64,
     pub utility: i64,
     pub chances: u64,
 }
 
-// The documents' number of a refusal.
-pub fn refusal_number(r: Refusal) -> u64
-    ensures { result ≡ number_of r }
-{
-    match r {
-        Refusal::Length => 1,
-        Refusal::IllWritten(_) => 2,
-        Refusal::OutOfRange(_) => 3,
-        Refusal::Misnumbered(_) => 4,
-        Refusal::UnknownKind(_) => 5,
-        Refusal::WrongParent(_) => 6,
-        Refusal::Misfilled(_) => 7,
-        Refusal::Childless(_) => 8,
-        Refusal::WrongSum(_) => 9,
-        Refusal::TooDeep(_) => 10,
-        Refusal::NoRoom => 11,
-        Refusal::BadMargin => 12,
-        Refusal::HasChance => 13,
-        Refusal::NoChild => 14,
-        Refusal::TooMany => 15,
-        Refusal::NoPosition => 16,
-        Refusal::BadBudget => 17,
-        Refusal::TooManyGrains => 18,
-        Refusal::BadRecipe => 19,
-        Refusal::BadScale => 20,
-        Refusal::BadIndex => 22,
+// A node on the path from the root: its number, its kind, and how many C the path has down to it.
+#[derive(Clone, Copy)]
+pub struct Step {
+    pub node: u64,
+    pub kind: Kind,
+    pub chances: u64,
+}
+
+impl Refusal {
+    // The documents' number of a refusal.
+    pub fn number(self) -> u64
+        ensures { result ≡ number_of self }
+    {
+        match self {
+            Refusal::Length => 1,
+            Refusal::IllWritten(_) => 2,
+            Refusal::OutOfRange(_) => 3,
+            Refusal::Misnumbered(_) => 4,
+            Refusal::UnknownKind(_) => 5,
+            Refusal::WrongParent(_) => 6,
+            Refusal::Misfilled(_) => 7,
+            Refusal::Childless(_) => 8,
+            Refusal::WrongSum(_) => 9,
+            Refusal::TooDeep(_) => 10,
+            Refusal::NoRoom => 11,
+            Refusal::BadMargin => 12,
+            Refusal::HasChance => 13,
+            Refusal::NoChild => 14,
+            Refusal::TooMany => 15,
+            Refusal::NoPosition => 16,
+            Refusal::BadBudget => 17,
+            Refusal::TooManyGrains => 18,
+            Refusal::BadRecipe => 19,
+            Refusal::BadScale => 20,
+            Refusal::BadIndex => 22,
+        }
+    }
+
+    // The documents' line of a refusal.
+    pub fn line(self) -> usize
+        ensures { result ≡ line_of self }
+    {
+        match self {
+            Refusal::IllWritten(n)
+            | Refusal::OutOfRange(n)
+            | Refusal::Misnumbered(n)
+            | Refusal::UnknownKind(n)
+            | Refusal::WrongParent(n)
+            | Refusal::Misfilled(n)
+            | Refusal::Childless(n)
+            | Refusal::WrongSum(n)
+            | Refusal::TooDeep(n) => n,
+            _ => 0,
+        }
     }
 }
 
-// The documents' line of a refusal.
-pub fn refusal_line(r: Refusal) -> usize
-    ensures { result ≡ line_of r }
-{
-    match r {
-        Refusal::Length => 0,
-        Refusal::IllWritten(n) => n,
-        Refusal::OutOfRange(n) => n,
-        Refusal::Misnumbered(n) => n,
-        Refusal::UnknownKind(n) => n,
-        Refusal::WrongParent(n) => n,
-        Refusal::Misfilled(n) => n,
-        Refusal::Childless(n) => n,
-        Refusal::WrongSum(n) => n,
-        Refusal::TooDeep(n) => n,
-        Refusal::NoRoom => 0,
-        Refusal::BadMargin => 0,
-        Refusal::HasChance => 0,
-        Refusal::NoChild => 0,
-        Refusal::TooMany => 0,
-        Refusal::NoPosition => 0,
-        Refusal::BadBudget => 0,
-        Refusal::TooManyGrains => 0,
-        Refusal::BadRecipe => 0,
-        Refusal::BadScale => 0,
-        Refusal::BadIndex => 0,
+impl Head {
+    // The greatest weight that there may be.
+    pub fn larger_total(self) -> u64
+        ensures { result ≡ larger self }
+    {
+        self.total.max(self.second)
+    }
+
+    // The second total, or the first again where there is none.
+    pub fn other_total(self) -> u64
+        ensures { result ≡ other self }
+    {
+        if self.second == 0 {
+            return self.total;
+        }
+        self.second
     }
 }
 
-pub fn value(f: Field) -> i64
-    ensures { result ≡ value_of f }
-{
-    match f {
-        Field::Blank => 0,
-        Field::Ill => 0,
-        Field::Number(z) => z,
+impl Kind {
+    // None for a byte that is no kind's letter: refusal 5.
+    pub fn from_letter(letter: u8) -> Option<Kind>
+        ensures { result ≡ kind_from letter }
+    {
+        match letter {
+            b'L' => Some(Kind::Leaf),
+            b'M' => Some(Kind::Max),
+            b'N' => Some(Kind::Min),
+            b'C' => Some(Kind::Chance),
+            _ => None,
+        }
+    }
+
+    pub fn letter(self) -> u8
+        ensures { result ≡ letter self }
+    {
+        match self {
+            Kind::Leaf => b'L',
+            Kind::Max => b'M',
+            Kind::Min => b'N',
+            Kind::Chance => b'C',
+        }
+    }
+
+    // The number that C callers get.
+    pub fn code(self) -> u8
+        ensures { result ≡ code self }
+    {
+        match self {
+            Kind::Leaf => 0,
+            Kind::Max => 1,
+            Kind::Min => 2,
+            Kind::Chance => 3,
+        }
     }
 }
 
-// The number itself, or 0 where it is below zero.
-pub fn natural(z: i64) -> u64
-    ensures { result ≡ to_nat z }
-{
-    if z < 0 {
-        return 0;
+impl Line {
+    // The line as the last step of its path.
+    pub fn step(self) -> Step
+        ensures { result ≡ step_of self }
+    {
+        Step {
+            node: self.node as u64,
+            kind: self.kind,
+            chances: self.chances,
+        }
     }
-    z as u64
-}
-
-// The greatest weight that there may be.
-pub fn larger_total(h: Head) -> u64
-    ensures { result ≡ larger h }
-{
-    if h.total < h.second {
-        return h.second;
-    }
-    h.total
-}
-
-// The second total, or the first again where there is none.
-pub fn other_total(h: Head) -> u64
-    ensures { result ≡ other h }
-{
-    if h.second == 0 {
-        return h.total;
-    }
-    h.second
-}
-
-pub fn letter_code(b: u8) -> u8
-    ensures { result ≡ letter_code b }
-{
-    if b == b'L' {
-        return 0;
-    }
-    if b == b'M' {
-        return 1;
-    }
-    if b == b'N' {
-        return 2;
-    }
-    if b == b'C' {
-        return 3;
-    }
-    4
-}
-
-pub fn one_if(b: bool) -> u64
-    ensures { result ≡ cond b 1 0 }
-{
-    if b { 1 } else { 0 }
 }

@@ -1,4 +1,4 @@
--- What the code's two functions leave. Assumes nothing.
+-- What the code's two functions leave.
 use Prim.Native.Nat.{ℕ, ◌+◌, ◌-◌, ◌≤◌, ◌<◌}
 use mathlib.Core.Path.{◌≡◌, refl, sym, ap, subst, ◌∙◌}
 use mathlib.Core.Bool.{Bool, true, false}
@@ -15,7 +15,7 @@ use Rattle.listing.proofs.Laws.{leaf-listed, leaf-new, new-longer, marked_more}
 
 -- ---- one leaf
 
-module _ (n : ℕ) (marks : List Bool) (leaves : List ℕ) (count : ℕ) (R : ReadyLeaf n marks leaves count) where
+module _ {n : ℕ} {marks : List Bool} {leaves : List ℕ} {count : ℕ} (R : ReadyLeaf n marks leaves count) where
   -- it is marked, and so is listed
   pub leaf-kept : get_or marks n false ≡ true → AddedLeaf n leaves count count marks leaves
   leaf-kept e =
@@ -62,11 +62,7 @@ drop_more n m l k h e =
     let is : n + (m - n) ≡ m = omega arith in
     subst (λ (j : ℕ). drop j l ≡ drop j k) is (sym (drop-drop (m - n) n l) ∙ ap (drop (m - n)) e ∙ drop-drop (m - n) n k)
 
-module _ (read : List ℕ) (marks₀ : List Bool) (leaves₀ : List ℕ) (count : ℕ) (R : ReadyLeaves read marks₀ leaves₀ count) where
-  pub adding-none : Adding read marks₀ leaves₀ count marks₀ leaves₀ count 0
-  adding-none =
-      record { at = omega arith; left = refl; marked = R.marked; within = R.within; kept = refl; long = refl; wide = refl }
-
+module _ {read : List ℕ} {marks₀ : List Bool} {leaves₀ : List ℕ} {count : ℕ} (R : ReadyLeaves read marks₀ leaves₀ count) where
   module _ {marks : List Bool} {leaves : List ℕ} {n i : ℕ} (A : Adding read marks₀ leaves₀ count marks leaves n i) where
     -- the next one
     module _ (more : i < length read) where

@@ -1,4 +1,4 @@
--- A list that leaves are added to once: what it has, that none stands twice, and the marks beside it. Assumes nothing.
+-- A list that leaves are added to once: what it has, that none stands twice, and the marks beside it.
 use Prim.Native.Nat.{ℕ, ◌≤◌, ◌<◌}
 use mathlib.Core.Path.{◌≡◌, refl, sym, ap, subst, ◌∙◌}
 use mathlib.Core.Bool.{Bool, true, false, ◌||◌}

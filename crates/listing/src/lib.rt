@@ -8,13 +8,14 @@ fn add_leaf(leaf: u16, marks: &mut [bool], leaves: &mut [u16], count: usize) -> 
     requires { ReadyLeaf leaf marks.old leaves.old count }
     ensures { AddedLeaf leaf leaves.old count result marks.new leaves.new }
 {
-    let n = numbers::index(leaf);
+    let n = usize::from(leaf);
     if marks[n] {
-        return count;
+        count
+    } else {
+        marks[n] = true;
+        leaves[count] = leaf;
+        count + 1
     }
-    marks[n] = true;
-    leaves[count] = leaf;
-    count + 1
 }
 
 // The leaves of a reading sequence; how many are listed then.
@@ -23,10 +24,8 @@ pub fn add_new(read: &[u16], marks: &mut [bool], leaves: &mut [u16], count: usiz
     ensures { AddedLeaves read.now leaves.old count result marks.new leaves.new }
 {
     let mut n = count;
-    let mut i = 0;
-    while i < read.len() {
-        n = add_leaf(read[i], marks, leaves, n);
-        i += 1;
+    for leaf in read {
+        n = add_leaf(*leaf, marks, leaves, n);
     }
     n
 }

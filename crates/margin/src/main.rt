@@ -6,35 +6,28 @@ ghost use Rattle.std.specs.Prelude.{◌≤◌, length};
 
 use std::io::{Read, Write};
 
-// Reads until `buf` is full, the input ends or a read fails, and returns how many bytes it put at the start of `buf`.
+// Reads until `buf` is full, the input ends or a read fails, and returns how many bytes it put at the start of `buf`. No method of std says the same:
+// `read_to_end` needs a heap, and `read_exact` does not tell how many there were.
 fn read_full(input: &mut impl Read, buf: &mut [u8]) -> usize
     ensures { result ≤ length buf.new }
 {
-    let mut done: usize = 0;
+    let mut done = 0;
     while done < buf.len() {
         match input.read(&mut buf[done..]) {
-            Ok(0) => break,
+            Ok(0) | Err(_) => break,
             Ok(n) => done += n,
-            Err(_) => break,
         }
     }
     done
 }
 
-// Whether there was more.
-fn skip_some(input: &mut impl Read) -> bool {
-    let mut rest = [0u8; 65536];
-    match input.read(&mut rest) {
-        Ok(n) => n > 0,
-        Err(_) => false,
-    }
-}
-
 // An input that is too long is read on and dropped, so that its writer can end. An endless one is left after 16,384 reads.
 fn skip_rest(input: &mut impl Read) {
-    let mut turns: u64 = 16384;
-    while turns > 0 && skip_some(input) {
-        turns -= 1;
+    let mut rest = [0u8; 65536];
+    for _ in 0..16384 {
+        if let Ok(0) | Err(_) = input.read(&mut rest) {
+            break;
+        }
     }
 }
 
@@ -46,7 +39,7 @@ fn main(rt: HostRuntime) {
     let mut output = [0u8; 22638];
     let mut stdin = rt.stdin();
     let n = read_full(&mut stdin, &mut input);
-    if n == 25641 {
+    if n == input.len() {
         skip_rest(&mut stdin);
     }
     let m = printing::answer(&input[..n], &mut output);

@@ -1,33 +1,22 @@
--- The marks by their steps, and the scales by their numbers. Assumes nothing.
+-- The marks by their steps, and the scales by their numbers.
+use Rattle.std.proofs.Common.{Err, Ok, Result}
+use Rattle.mark.specs.declared.Marking.{Marking}
+use Rattle.line.specs.declared.Refusal.{Refusal}
 use Prim.Native.Nat.{ℕ, ◌≤◌, ◌<◌}
 use mathlib.Core.Path.{◌≡◌, refl, ap}
 use mathlib.Core.Bool.{Bool, true, false, cond}
 use native.Mathlib.Omega.{arith}
-use borrow.Author.Tests.{eqb-true, eqb-false, leb-true, leb-false, le-leb, lt-leb}
+use borrow.Author.Tests.{eqb-true, eqb-false, leb-true, leb-false}
 use lib.Dec.{eqb, leb}
 use lib.IntN.{ℤ, pos, negsuc}
 use Rattle.line.specs.declared.Refusal.TheVariants.{BadScale}
 use Rattle.mark.specs.declared.Mark.TheVariants.{NoMark, Doubtful, Error, Blunder}
 use Rattle.mark.specs.declared.Marking.TheVariants.{Printed, New}
-use Rattle.mark.specs.declared.Choice.{Choice}
-use Rattle.mark.specs.declared.Choice.TheVariants.{Known, Refused}
 use Rattle.mark.specs.Marks.{steps, choice_of, mark_number}
 
 -- ---- the mark of a loss
 
 module _ (doubtful error blunder loss : ℕ) where
-  pub no-mark : loss < doubtful → loss < error → loss < blunder → NoMark ≡ steps doubtful error blunder loss
-  no-mark p q r = rw (lt-leb blunder loss r, lt-leb error loss q, lt-leb doubtful loss p) refl
-
-  pub is-doubtful : doubtful ≤ loss → loss < error → loss < blunder → Doubtful ≡ steps doubtful error blunder loss
-  is-doubtful p q r = rw (lt-leb blunder loss r, lt-leb error loss q, le-leb doubtful loss p) refl
-
-  pub is-error : error ≤ loss → loss < blunder → Error ≡ steps doubtful error blunder loss
-  is-error q r = rw (lt-leb blunder loss r, le-leb error loss q) refl
-
-  pub is-blunder : blunder ≤ loss → Blunder ≡ steps doubtful error blunder loss
-  is-blunder r = rw (le-leb blunder loss r) refl
-
   -- the mark's number, by the steps that the loss reaches
   by-steps : (P : ℕ → Type 0) → (loss < doubtful → loss < error → loss < blunder → P 1) → (doubtful ≤ loss → loss < error → loss < blunder → P 2)
       → (error ≤ loss → loss < blunder → P 3) → (blunder ≤ loss → P 4) → P (mark_number (steps doubtful error blunder loss))
@@ -83,22 +72,22 @@ earlier-steps d e b d' e' b' loss f g h =
 
 -- ---- the scale of a number
 
-module _ (P : Choice → Type 0) where
-  pub choices : (z : ℤ) → (z ≡ pos 1 → P (Known Printed)) → (z ≡ pos 2 → P (Known New)) → ((z ≡ pos 1 → ⊥) → (z ≡ pos 2 → ⊥) → P (Refused BadScale)) → P (choice_of z)
+module _ (P : Result Marking Refusal → Type 0) where
+  pub choices : (z : ℤ) → (z ≡ pos 1 → P (Ok Printed)) → (z ≡ pos 2 → P (Ok New)) → ((z ≡ pos 1 → ⊥) → (z ≡ pos 2 → ⊥) → P (Err BadScale)) → P (choice_of z)
   choices (negsuc n) f g h = h (λ e. let z : ◌≡◌ {A = ℕ} 0 1 = cc in omega arith) (λ e. let z : ◌≡◌ {A = ℕ} 0 1 = cc in omega arith)
   choices (pos n) f g h = first (eqb n 1) refl
     where
       same : (m : ℕ) → pos n ≡ pos m → n ≡ m
       same m e = cc
 
-      second : (pos n ≡ pos 1 → ⊥) → (b : Bool) → eqb n 2 ≡ b → P (cond b (Known New) (Refused BadScale))
+      second : (pos n ≡ pos 1 → ⊥) → (b : Bool) → eqb n 2 ≡ b → P (cond b (Ok New) (Err BadScale))
       second not true e = g (ap pos (eqb-true n 2 e))
       second not false e = h not (λ q. eqb-false n 2 e (same 2 q))
 
-      first : (b : Bool) → eqb n 1 ≡ b → P (cond b (Known Printed) (cond (eqb n 2) (Known New) (Refused BadScale)))
+      first : (b : Bool) → eqb n 1 ≡ b → P (cond b (Ok Printed) (cond (eqb n 2) (Ok New) (Err BadScale)))
       first true e = f (ap pos (eqb-true n 1 e))
       first false e = second (λ q. eqb-false n 1 e (same 1 q)) (eqb n 2) refl
 
-pub choice-none : (z : ℤ) → (z ≡ pos 1 → ⊥) → (z ≡ pos 2 → ⊥) → Refused BadScale ≡ choice_of z
+pub choice-none : (z : ℤ) → (z ≡ pos 1 → ⊥) → (z ≡ pos 2 → ⊥) → Err BadScale ≡ choice_of z
 choice-none z f g =
-    choices (λ (c : Choice). Refused BadScale ≡ c) z (λ e. absurd (f e)) (λ e. absurd (g e)) (λ p q. refl)
+    choices (λ (c : Result Marking Refusal). Err BadScale ≡ c) z (λ e. absurd (f e)) (λ e. absurd (g e)) (λ p q. refl)

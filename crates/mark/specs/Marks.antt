@@ -1,16 +1,13 @@
 -- The marks that a report lists with its losses. Document 02, Item 11.
-use Rattle.std.specs.Prelude.{ℕ, cond, List, map, leb, ℤ, pos}
+use Rattle.line.specs.declared.Refusal.{Refusal}
+use Rattle.std.specs.Prelude.{ℕ, cond, List, map, leb, ℤ, pos, Err, None, Ok, Option, Result, Some}
 use Rattle.numbers.specs.Integers.{eq_z}
 use Rattle.line.specs.declared.Refusal.TheVariants.{BadScale}
-use Rattle.report.specs.declared.Loss.{Loss}
-use Rattle.report.specs.declared.Loss.TheVariants.{NoDecision, Thousandths}
 use Rattle.report.specs.declared.Row.{Row}
 use Rattle.mark.specs.declared.Mark.{Mark}
 use Rattle.mark.specs.declared.Mark.TheVariants.{NoMark, Doubtful, Error, Blunder}
 use Rattle.mark.specs.declared.Marking.{Marking}
 use Rattle.mark.specs.declared.Marking.TheVariants.{Printed, New}
-use Rattle.mark.specs.declared.Choice.{Choice}
-use Rattle.mark.specs.declared.Choice.TheVariants.{Known, Refused}
 
 -- ---- the mark of a loss
 
@@ -33,8 +30,8 @@ mark_by New loss = new_mark loss
 -- ---- the scale
 
 -- "The report takes the scale's number, 1 or 2"; "books in print are made again with scale 1"; "20, another scale number"
-abbrev pub choice_of : ℤ → Choice
-choice_of number = cond (eq_z number (pos 1)) (Known Printed) (cond (eq_z number (pos 2)) (Known New) (Refused BadScale))
+abbrev pub choice_of : ℤ → Result Marking Refusal
+choice_of number = cond (eq_z number (pos 1)) (Ok Printed) (cond (eq_z number (pos 2)) (Ok New) (Err BadScale))
 
 -- ---- what is listed
 
@@ -46,9 +43,9 @@ mark_number Error = 3
 mark_number Blunder = 4
 
 -- "lists a mark with each loss, .. and none for "no decision"": 0 is none
-abbrev pub mark_code : Marking → Loss → ℕ
-mark_code scale NoDecision = 0
-mark_code scale (Thousandths loss) = mark_number (mark_by scale loss)
+abbrev pub mark_code : Marking → Option ℕ → ℕ
+mark_code scale None = 0
+mark_code scale (Some loss) = mark_number (mark_by scale loss)
 
 abbrev pub marks_in : Marking → List Row → List ℕ
 marks_in scale rs = map (λ (r : Row). mark_code scale r.loss) rs

@@ -2,15 +2,14 @@
 #![tactic(auto)]
 
 ghost use Rattle.std.specs.Prelude.{◌≡◌};
-ghost use Rattle.mark.specs.Marks.{printed_mark, new_mark, mark_by, mark_number, mark_code, choice_of};
+ghost use Rattle.mark.specs.Marks.{printed_mark, new_mark, mark_by, mark_code, choice_of};
 
 use line::Refusal;
-use report::Loss;
 
-// From the mildest on.
+// From the mildest on, numbered as they are listed.
 #[derive(Clone, Copy)]
 pub enum Mark {
-    NoMark,
+    NoMark = 1,
     Doubtful,
     Error,
     Blunder,
@@ -23,21 +22,18 @@ pub enum Marking {
     New,
 }
 
-// What a scale's number gives.
-#[derive(Clone, Copy)]
-pub enum Choice {
-    Known(Marking),
-    Refused(Refusal),
-}
-
 // The scale of this number, if there is one.
-pub fn choice_of(number: i64) -> Choice
-    ensures { result ≡ choice_of number }
-{
-    match number {
-        1 => Choice::Known(Marking::Printed),
-        2 => Choice::Known(Marking::New),
-        _ => Choice::Refused(Refusal::BadScale),
+impl TryFrom<i64> for Marking {
+    type Error = Refusal;
+
+    ghost try_from_gives = { λ number scale. scale ≡ choice_of number };
+
+    fn try_from(number: i64) -> Result<Marking, Refusal> {
+        match number {
+            1 => Ok(Marking::Printed),
+            2 => Ok(Marking::New),
+            _ => Err(Refusal::BadScale),
+        }
     }
 }
 
@@ -65,32 +61,23 @@ fn new_mark(loss: u64) -> Mark
     }
 }
 
-fn mark_by(scale: Marking, loss: u64) -> Mark
-    ensures { result ≡ mark_by scale loss }
-{
-    match scale {
-        Marking::Printed => printed_mark(loss),
-        Marking::New => new_mark(loss),
+impl Marking {
+    fn mark(self, loss: u64) -> Mark
+        ensures { result ≡ mark_by self loss }
+    {
+        match self {
+            Marking::Printed => printed_mark(loss),
+            Marking::New => new_mark(loss),
+        }
     }
-}
 
-fn mark_number(m: Mark) -> u8
-    ensures { result ≡ mark_number m }
-{
-    match m {
-        Mark::NoMark => 1,
-        Mark::Doubtful => 2,
-        Mark::Error => 3,
-        Mark::Blunder => 4,
-    }
-}
-
-// A mark as it is listed.
-pub fn mark_code(scale: Marking, loss: Loss) -> u8
-    ensures { result ≡ mark_code scale loss }
-{
-    match loss {
-        Loss::NoDecision => 0,
-        Loss::Thousandths(n) => mark_number(mark_by(scale, n)),
+    // A mark as it is listed.
+    pub fn mark_code(self, loss: Option<u64>) -> u8
+        ensures { result ≡ mark_code self loss }
+    {
+        match loss {
+            None => 0,
+            Some(n) => self.mark(n) as u8,
+        }
     }
 }

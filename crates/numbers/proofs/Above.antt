@@ -1,4 +1,4 @@
--- Numbers that lie so much above a number b, as worths and bounds lie above the lowest end. Assumes nothing.
+-- Numbers that lie so much above a number b, as worths and bounds lie above the lowest end.
 use Prim.Native.Nat.{ℕ, ◌+◌, ◌*◌, min, max, ◌≤◌}
 use mathlib.Core.Path.{◌≡◌, ◌∙◌}
 use mathlib.Core.Bool.{true}

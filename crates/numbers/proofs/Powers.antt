@@ -1,4 +1,4 @@
--- Powers of a total. Assumes nothing.
+-- Powers of a total.
 use Prim.Native.Nat.{ℕ, zero, suc, ◌+◌, ◌*◌, ◌-◌, ◌^◌, ◌≤◌, ◌∣◌}
 use mathlib.Core.Path.{◌≡◌}
 use native.Mathlib.Nat.{dvd_refl, dvd-mul_left_of_dvd, add-zero, add-suc, pow-succ', pow-le-pow_left, pow-le-pow_right, le_trans}

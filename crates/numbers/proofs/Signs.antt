@@ -1,4 +1,4 @@
--- An integer as a difference of two naturals, `Is z a b` (z is a - b): what the operations do to such differences. Assumes nothing.
+-- An integer as a difference of two naturals, `Is z a b` (z is a - b): what the operations do to such differences.
 use Prim.Native.Nat.{ℕ, zero, suc, ◌+◌, ◌*◌, ◌-◌, ◌/◌, min, max, ◌≤◌, ◌<◌}
 use mathlib.Core.Path.{◌≡◌, refl, sym, ap, subst, ◌∙◌}
 use mathlib.Core.Bool.{Bool, true, false, not, cond}

@@ -1,4 +1,4 @@
--- The place of a root child, counted by the parents in the lines of an accepted table. Assumes nothing.
+-- The place of a root child, counted by the parents in the lines of an accepted table.
 use Prim.Native.Nat.{ℕ, zero, suc, ◌+◌, ◌-◌, ◌*◌, ◌≤◌, ◌<◌}
 use mathlib.Core.Path.{◌≡◌, refl, sym, ap, ap₂, subst, ◌∙◌}
 use mathlib.Core.Bool.{Bool, true, false, cond}
@@ -8,13 +8,14 @@ use native.Mathlib.Omega.{arith}
 use borrow.Author.Tests.{eqb-true, eq-eqb}
 use lib.Dec.{eqb, eqb-suc-zero}
 use lib.ListN.{length, get_or, take, drop, length-map}
+use Rattle.std.proofs.lemmas.List.{map-append}
 use lib.Seq.{take-suc, take-append-add, drop-drop}
 use lib.IntN.{ℤ, pos}
 use Rattle.field.specs.Field.{field_of}
 use Rattle.line.specs.declared.Head.{Head}
 use Rattle.line.specs.declared.Line.{Line}
 use Rattle.line.specs.Refusal.{fine}
-use Rattle.line.specs.Line.{Step, Above, Placed, ancestors, steps_of, stepped, letter_code, entry_of, line_checks, placed, node_line, count_of}
+use Rattle.line.specs.Line.{Above, Placed, ancestors, steps_of, stepped, entry_of, line_checks, placed, node_line, count_of, kind_said}
 use Rattle.line.proofs.Fine.{unless-fine}
 use Rattle.line.proofs.Signs.{true-ne-false}
 use Rattle.table.specs.Tree.{Forest, end, leaf, inner}
@@ -30,6 +31,7 @@ use Rattle.search.specs.Whole.{in_grains, searched}
 use Rattle.search.proofs.Few.{EachNode}
 use Rattle.search.proofs.Table.{play-child}
 use Rattle.printing.specs.Program.{place}
+use Rattle.line.specs.declared.Step.{Step}
 use Rattle.printing.specs.Inside.{child_marks}
 
 abbrev parent_of : Line → ℕ
@@ -43,7 +45,7 @@ mark p = cond (eqb p 0) 1 0
 
 placed-parent : (h : Head) (i : ℕ) (P : List Step) (s : List ℕ) (p : Placed) → node_line h i P s ≡ fine p → p.line.parent ≡ count_of (field_of s 6 5)
 placed-parent h i P s p e =
-    let k : ℕ = letter_code (entry_of s).letter in
+    let k = kind_said (entry_of s) in
     let a : Above = ancestors (entry_of s).parent P in
     sym (ap (λ (x : Placed). x.line.parent) (unless-fine (line_checks h i (entry_of s) (get_or s 4 0) (get_or s 24 0) a) (placed i k (entry_of s) (stepped i k (steps_of a))) p e).1)
 
@@ -94,10 +96,6 @@ marks-zeros s p ps told (suc n) h =
 
 -- ---- the tree
 
-map-append : (xs ys : List Line) → map parent_of (xs ++ ys) ≡ map parent_of xs ++ map parent_of ys
-map-append [] ys = refl
-map-append (x ∷ xs) ys = ap (λ (l : List ℕ). x.parent ∷ l) (map-append xs ys)
-
 mark-none : (p : ℕ) → 0 < p → mark p ≡ 0
 mark-none zero h = absurd (omega arith)
 mark-none (suc p) h = rw eqb-suc-zero refl
@@ -108,7 +106,7 @@ unfolding flat zeros
 no-zeros p c i end N h j = refl
 no-zeros p c i (leaf n w v rest) N h j = omega (arith, mark-none p h, no-zeros p c (suc i) rest N.1 h (omega arith))
 no-zeros p c i (inner n w k under rest) N h j =
-    let e = ap zeros (map-append (flat n (c + one k) under) (flat p c rest)) ∙ zeros-append (map parent_of (flat n (c + one k) under)) (map parent_of (flat p c rest)) in
+    let e = ap zeros (map-append parent_of (flat n (c + one k) under) (flat p c rest)) ∙ zeros-append (map parent_of (flat n (c + one k) under)) (map parent_of (flat p c rest)) in
     omega (arith, e, mark-none p h, no-zeros n (c + one k) (suc i) under N.1 (omega (arith, N.0)) (omega arith), no-zeros p c (suc i + size under) rest N.2 h (omega arith))
 
 -- m is among the numbers
@@ -154,7 +152,7 @@ place-zeros c i (inner n w k under rest) N h m e (suc j) q =
     let d : ℕ = j - size under in
     let at : j ≡ length U + d = omega (arith, far, q, long) in
     let cut : zeros (take j (map parent_of (flat n (c + one k) under ++ flat 0 c rest))) ≡ zeros U + zeros (take d R) =
-    ap₂ (λ (x : ℕ) (l : List ℕ). zeros (take x l)) at (map-append (flat n (c + one k) under) (flat 0 c rest)) ∙ ap zeros (take-append-add U R d) ∙ zeros-append U (take d R) in
+    ap₂ (λ (x : ℕ) (l : List ℕ). zeros (take x l)) at (map-append parent_of (flat n (c + one k) under) (flat 0 c rest)) ∙ ap zeros (take-append-add U R d) ∙ zeros-append U (take d R) in
     let none = no-zeros n (c + one k) (suc i) under N.1 (omega (arith, N.0)) (omega arith) in
     let more = place-zeros c (suc i + size under) rest N.2 (omega arith) m f d (omega (arith, far, q)) in
     omega (arith, cut, none, more))

@@ -1,4 +1,5 @@
--- What the search's answer tells of its table: the numbers fit their columns, and the play has its line. Assumes nothing.
+-- What the search's answer tells of its table: the numbers fit their columns, and the play has its line.
+use Rattle.std.proofs.Common.{Err, Ok}
 use Prim.Native.Nat.{ℕ, ◌^◌, ◌≤◌, ◌<◌}
 use mathlib.Core.Path.{◌≡◌, refl, sym, ap, ap₂, subst, ◌∙◌}
 use mathlib.Core.Bool.{Bool, true, false, cond}
@@ -28,8 +29,7 @@ use Rattle.search.specs.Search.{Seen, unlimited, node_of}
 use Rattle.search.specs.Whole.{searched}
 use Rattle.search.proofs.Table.{heights-order, shifted, play-small, reads-few}
 use Rattle.search_call.specs.declared.Bounds.{Bounds}
-use Rattle.search_call.specs.declared.Bounded.TheVariants.{Found, Refused}
-use Rattle.search_call.specs.Call.{bad_margin, Sought, sought, bounds_of, search_answer}
+use Rattle.search_call.specs.Call.{bad_margin, Sought, sought, bounds_of, search_answer, search_list}
 use Rattle.printing.specs.Program.{play_number, leaf_row, rows_of}
 use Rattle.printing.specs.Inside.{Lined, play_marks, Narrow, bound_rows}
 use Rattle.printing.proofs.Marks.{marks-few}
@@ -37,11 +37,11 @@ use Rattle.printing.proofs.Children.{child-place, child-numbered}
 
 -- ---- from the answer to the search
 
-pub answer-refused : (v : Verdict Sought) (r : Refusal) → search_answer v ≡ Refused r → v ≡ refused r
+answer-refused : (v : Verdict Sought) (r : Refusal) → Err r ≡ search_answer v → v ≡ refused r
 answer-refused (refused x) r e = cc
 answer-refused (fine s) r e = let z : ◌≡◌ {A = ℕ} 0 1 = cc in absurd (omega arith)
 
-pub answer-found : (v : Verdict Sought) (b : Bounds) → search_answer v ≡ Found b → (s : Sought) × (v ≡ fine s) × (bounds_of s ≡ b)
+answer-found : (v : Verdict Sought) (b : Bounds) → Ok b ≡ search_answer v → (s : Sought) × (v ≡ fine s) × (bounds_of s ≡ b)
 answer-found (refused x) b e = let z : ◌≡◌ {A = ℕ} 0 1 = cc in absurd (omega arith)
 answer-found (fine s) b e = (s, refl, cc)
 
@@ -65,8 +65,8 @@ unfolding unless
 refused-by (refused x) m room r f e = let q : x ≡ r = cc in subst (λ (y : Refusal). line_of y ≤ 1024) q (f x refl)
 refused-by (fine t) m room r f e = own_line (bad_margin m) (ltb room (leaves (tree t))) (record { table = t; seen = searched t (to_nat m) }) r e
 
-pub refused-low : (s : List ℕ) (m : ℤ) (room : ℕ) (r : Refusal) → sought (read_text s) m room ≡ refused r → line_of r ≤ 1024
-refused-low s m room r e = refused-by (read_text s) m room r (refused-line s) e
+pub refused-low : (s : List ℕ) (m : ℤ) (room : ℕ) (r : Refusal) → Err r ≡ search_answer (sought (read_text s) m room) → line_of r ≤ 1024
+refused-low s m room r e = refused-by (read_text s) m room r (refused-line s) (answer-refused (sought (read_text s) m room) r e)
 
 -- ---- the numbers
 
@@ -120,7 +120,7 @@ module _ (text : List ℕ) (m : ℤ) (room : ℕ) (s : Sought) (made : sought (r
   found : searched s.table (to_nat m) ≡ s.seen
   found = (sought-made (read_text text) m room s made).1
 
-  pub lined : Lined (length text) (bounds_of s).play
+  lined : Lined (length text) (bounds_of s).play
   lined = play-lined text s.table accepted (to_nat m) (node_of s.seen.play) (ap (λ (x : Seen ℤ). node_of x.play) found)
 
   pub narrow : (k : ℕ) → k ≡ play_marks text (bounds_of s).play → Narrow (bounds_of s) k
@@ -143,3 +143,25 @@ module _ (text : List ℕ) (m : ℤ) (room : ℕ) (s : Sought) (made : sought (r
   rows k e a =
       let number = e ∙ play-marked text s.table accepted (to_nat m) (node_of s.seen.play) (ap (λ (x : Seen ℤ). node_of x.play) found) in
       ap₂ (λ (n : ℕ) (l : List ℕ). bound_rows (bounds_of s) n ++ map leaf_row l) number (take-append_seam s.seen.read (drop (length s.seen.read) a))
+
+-- ---- as the call answers it: the bounds b
+
+module _ (text : List ℕ) (m : ℤ) (room : ℕ) (b : Bounds) (e : Ok b ≡ search_answer (sought (read_text text) m room)) where
+  answered : (s : Sought) × (sought (read_text text) m room ≡ fine s) × (bounds_of s ≡ b)
+  answered = answer-found (sought (read_text text) m room) b e
+
+  pub found_lined : Lined (length text) b.play
+  found_lined = let (s, made, same) = answered in subst (λ (x : Bounds). Lined (length text) x.play) same (lined text m room s made)
+
+  pub found-narrow : (k : ℕ) → k ≡ play_marks text b.play → Narrow b k
+  found-narrow k n =
+      let (s, made, same) = answered in
+      subst (λ (x : Bounds). Narrow x k) same (narrow text m room s made k (n ∙ ap (λ (x : Bounds). play_marks text x.play) (sym same)))
+
+  pub found-rows : (k : ℕ) → k ≡ play_marks text b.play → (a : List ℕ)
+      → bound_rows b k ++ map leaf_row (take b.leaves (laid (search_list (sought (read_text text) m room)) a)) ≡ rows_of (sought (read_text text) m room)
+  found-rows k n a =
+      let (s, made, same) = answered in
+      ap₂ (λ (x : Bounds) (v : Verdict Sought). bound_rows x k ++ map leaf_row (take x.leaves (laid (search_list v) a))) (sym same) made
+      ∙ rows text m room s made k (n ∙ ap (λ (x : Bounds). play_marks text x.play) (sym same)) a
+      ∙ ap rows_of (sym made)

@@ -1,4 +1,4 @@
--- What stands past the longest input that can be accepted changes nothing: the program need not keep it. Assumes nothing.
+-- What stands past the longest input that can be accepted changes nothing: the program need not keep it.
 use Prim.Native.Nat.{ℕ, ◌<◌, ◌%◌}
 use mathlib.Core.Path.{◌≡◌, refl, sym, ap, ◌∙◌}
 use mathlib.Core.Bool.{Bool, true, false, not, ◌||◌}

@@ -1,4 +1,4 @@
-pub mod Stores
+pub mod Rows
 pub mod Sizes
 pub mod Marks
 pub mod Children

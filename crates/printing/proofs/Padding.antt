@@ -1,4 +1,4 @@
--- Inputs that differ in padding alone are printed alike. Document 02, Item 9. Assumes nothing.
+-- Inputs that differ in padding alone are printed alike. Document 02, Item 9.
 use Prim.Native.Nat.{ℕ}
 use mathlib.Core.Path.{◌≡◌}
 use mathlib.Core.Bool.{cond}

@@ -1,5 +1,5 @@
 -- What the definition of the output comes to: of a refused table, of a refused margin, and of a search; and that it is never longer than
--- (5 + 1,024) lines. Assumes nothing.
+-- (5 + 1,024) lines.
 use Prim.Native.Nat.{ℕ, ◌≤◌}
 use mathlib.Core.Path.{◌≡◌, refl, sym, ap, ◌∙◌}
 use mathlib.Core.Bool.{true, false}

@@ -1,4 +1,4 @@
--- How many bytes the rows have, and that a refusal's numbers fit. Assumes nothing.
+-- How many bytes the rows have, and that a refusal's numbers fit.
 use Prim.Native.Nat.{ℕ, ◌+◌, ◌*◌, ◌≤◌}
 use mathlib.Core.Path.{◌≡◌, refl, ap, ◌∙◌}
 use mathlib.Core.List.{List, [], ◌∷◌, ◌++◌, map}
@@ -11,7 +11,7 @@ use Rattle.line.specs.Refusal.{number_of, line_of}
 use Rattle.search_call.specs.declared.Bounds.{Bounds}
 use Rattle.printing.specs.Program.{Word, Low, High, Grain, Play, Leaves, Leaf, Refuse, Line, WordLine, columns, row_of, printed, leaf_row}
 use Rattle.printing.specs.Inside.{Narrow, bound_rows, refusal_rows}
-use Rattle.printing.proofs.Stores.{count-columns, row-size, printed-append, leaves-size}
+use Rattle.printing.proofs.Rows.{count-columns, row-size, printed-append, leaves-size}
 
 -- a word is 6 columns wide
 word_size : (w : Word) → length (columns w) ≡ 6

@@ -1,4 +1,4 @@
--- Document 01's example of the margin program, and its refusals, by computation. Assumes nothing.
+-- Document 01's example of the margin program, and its refusals, by computation.
 use Prim.Native.Nat.{ℕ}
 use mathlib.Core.Path.{◌≡◌, refl}
 use mathlib.Core.List.{List, [], ◌∷◌, ◌++◌}

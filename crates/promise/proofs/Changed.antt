@@ -1,5 +1,5 @@
 -- Two accepted tables that differ in utilities of unread leaves alone: the same answer, and what it says is still true; with the index too, where it is
--- unchanged. Assumes nothing.
+-- unchanged.
 use Prim.Native.Nat.{ℕ, ◌+◌}
 use mathlib.Core.Path.{◌≡◌, refl, sym, ap, ap₂, subst, ◌∙◌}
 use mathlib.Core.Bool.{Bool, true}

@@ -1,4 +1,4 @@
--- The root child of a number: its worth over the integers, from its worth over heights. Assumes nothing.
+-- The root child of a number: its worth over the integers, from its worth over heights.
 use Prim.Native.Nat.{ℕ, suc, ◌+◌, ◌≤◌, ◌<◌}
 use mathlib.Core.Path.{◌≡◌, refl, sym, ap, ◌∙◌}
 use mathlib.Core.Bool.{Bool, true, false, cond}

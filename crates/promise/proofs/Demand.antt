@@ -1,4 +1,4 @@
--- Demand 3 of the search of every accepted table, with a budget and without. Document 01, 'The search', and document 02, Items 3 and 6. Assumes nothing.
+-- Demand 3 of the search of every accepted table, with a budget and without. Document 01, 'The search', and document 02, Items 3 and 6.
 use Prim.Native.Nat.{ℕ, ◌+◌, ◌*◌, ◌≤◌}
 use mathlib.Core.Path.{◌≡◌, refl, sym, ap, ap₂, subst, ◌∙◌}
 use mathlib.Core.Bool.{Bool, true, false}

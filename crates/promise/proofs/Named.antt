@@ -1,5 +1,5 @@
 -- The play named at an M or N root is the first best child entered, and no play is named at any other root or at one met unread, over any
--- arithmetic whose rule for the play is a strict order. Document 01, 'The search', and document 02, Items 3 and 6. Assumes nothing.
+-- arithmetic whose rule for the play is a strict order. Document 01, 'The search', and document 02, Items 3 and 6.
 use Prim.Native.Nat.{ℕ}
 use mathlib.Core.Path.{◌≡◌, refl, sym, ap, subst, ◌∙◌}
 use mathlib.Core.Logic.{◌⊎◌, inl, inr}

@@ -1,4 +1,4 @@
--- The comparison of plays is a strict order where that of numbers is, and that of the integers is. Document 02, Item 6. Assumes nothing.
+-- The comparison of plays is a strict order where that of numbers is, and that of the integers is. Document 02, Item 6.
 use Prim.Native.Nat.{ℕ}
 use mathlib.Core.Path.{◌≡◌, refl, sym, ◌∙◌}
 use mathlib.Core.Bool.{Bool, true, false, not, ◌&&◌, ◌||◌}

@@ -1,4 +1,4 @@
--- Demand 3 of the search of every accepted table with its index. Document 02, Item 14. Assumes nothing.
+-- Demand 3 of the search of every accepted table with its index. Document 02, Item 14.
 use Prim.Native.Nat.{ℕ, ◌+◌, ◌*◌, ◌≤◌}
 use mathlib.Core.Path.{◌≡◌, refl, subst, ◌∙◌}
 use mathlib.Core.Bool.{true, false}

@@ -1,4 +1,4 @@
--- The play named is worth at least low at MAX, at most high at MIN, and within the margin where the bounds are. Assumes nothing.
+-- The play named is worth at least low at MAX, at most high at MIN, and within the margin where the bounds are.
 use Prim.Native.Nat.{ℕ, min, max, ◌≤◌}
 use mathlib.Core.Path.{◌≡◌, refl}
 use mathlib.Core.List.{List, []}

@@ -1,5 +1,5 @@
 -- The search of a root over heights, whatever ends its nodes have: its bounds hold the worth, with the play's worth between them and it; where the budget is
--- never spent they are within the margin, and so is the play. Assumes nothing.
+-- never spent they are within the margin, and so is the play.
 use Prim.Native.Nat.{ℕ, ◌+◌, ◌*◌, ◌≤◌}
 use mathlib.Core.Path.{◌≡◌, subst, ◌∙◌}
 use mathlib.Core.Bool.{false}

@@ -1,4 +1,4 @@
--- The search of a tree turned about is the search turned about. Assumes nothing.
+-- The search of a tree turned about is the search turned about.
 use Prim.Native.Nat.{ℕ, ◌+◌, ◌*◌, ◌-◌, ◌/◌, min, max, ◌≤◌}
 use mathlib.Core.Path.{◌≡◌, refl, ap, ap₂, ◌∙◌}
 use mathlib.Core.Bool.{false, not, ◌&&◌}

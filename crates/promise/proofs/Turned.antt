@@ -1,5 +1,5 @@
 -- The search of the turned table: bounds negated and exchanged, the same play, the same reading sequence, and the budget spent or not as before; and so with
--- its own index, which is the table's negated and exchanged. Document 01, 'The search', and document 02, Items 3 and 14. Assumes nothing.
+-- its own index, which is the table's negated and exchanged. Document 01, 'The search', and document 02, Items 3 and 14.
 use Prim.Native.Nat.{ℕ, suc, ◌+◌, ◌*◌, ◌-◌, min, max, ◌≤◌}
 use mathlib.Core.Path.{◌≡◌, refl, sym, ap, ap₂, subst, ◌∙◌}
 use mathlib.Core.Bool.{Bool, false}

@@ -1,4 +1,4 @@
--- Unread leaves do not matter to the search, over any arithmetic. Assumes nothing.
+-- Unread leaves do not matter to the search, over any arithmetic.
 use Prim.Native.Nat.{ℕ}
 use mathlib.Core.Path.{◌≡◌, refl, ap, ◌∙◌}
 use mathlib.Core.Bool.{Bool, true, false, cond}

@@ -1,4 +1,4 @@
--- The bounds that the search returns are within the margin, inside the window, where its budget is never spent. Assumes nothing.
+-- The bounds that the search returns are within the margin, inside the window, where its budget is never spent.
 use Prim.Native.Nat.{ℕ, ◌+◌, ◌*◌, ◌-◌, ◌/◌, min, max, ◌≤◌, ◌<◌}
 use mathlib.Core.Path.{◌≡◌, refl}
 use mathlib.Core.Bool.{false}

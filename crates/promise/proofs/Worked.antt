@@ -1,4 +1,4 @@
--- The two window figures of document 01, by computation; its starred positions are in demands/specs/Rows.antt. Assumes nothing.
+-- The two window figures of document 01, by computation; its starred positions are in demands/specs/Rows.antt.
 use mathlib.Core.Path.{◌≡◌, refl}
 use lib.IntN.{pos}
 use Rattle.numbers.specs.Integers.{max_z, min_z, floor_z, ceil_z}

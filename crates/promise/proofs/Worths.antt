@@ -1,5 +1,4 @@
 -- The worth child by child is equation (1) of the shares, where every node has the table's ends; and it is the same whatever ends the nodes have.
--- Assumes nothing.
 use Prim.Native.Nat.{ℕ, ◌*◌, ◌≤◌}
 use mathlib.Core.Path.{◌≡◌, refl, sym, ap, ap₂, ◌∙◌}
 use mathlib.Core.Bool.{false}

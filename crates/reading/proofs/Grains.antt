@@ -1,12 +1,16 @@
--- Sums that are totals, and the grain count from the uses of each. Document 02, Item 5. Assumes nothing.
-use Prim.Native.Nat.{ℕ, ◌-◌, ◌*◌, ◌^◌, ◌≤◌}
+-- Sums that are totals, and the grain count from the uses of each. Document 02, Item 5.
+use Prim.Native.Nat.{ℕ, ◌*◌, ◌^◌, ◌≤◌, ◌<◌}
 use mathlib.Core.Path.{◌≡◌, refl, sym, ap, ◌∙◌}
 use mathlib.Core.Bool.{Bool, true, false, not, ◌||◌, ◌&&◌}
 use mathlib.Core.List.{List, [], ◌∷◌}
-use native.Mathlib.Nat.{mul-one}
+use native.Mathlib.Nat.{mul-one, mul-le-mul}
+use mir.Syntax.{w64}
+use mir.Val.{Fits}
+use Rattle.numbers.proofs.Powers.{power_small}
 use native.Mathlib.Omega.{arith}
 use borrow.Author.Tests.{ne_eqb}
 use lib.Dec.{eqb}
+use Rattle.std.proofs.Common.{None}
 use Rattle.line.specs.declared.Head.{Head}
 use Rattle.line.specs.Line.{totals, among}
 use Rattle.line.specs.Inside.{other}
@@ -16,8 +20,8 @@ use Rattle.table.specs.Inside.{Slices, Spans}
 use Rattle.table.specs.Accepted.{Balanced}
 use Rattle.table.proofs.Totals.{uses-few, grain-one}
 use Rattle.table.proofs.Accepted.{balanced}
-use Rattle.runs.specs.Inside.{scan_from, first_or, odd_at, Has}
-use Rattle.runs.proofs.Scan.{scan-below, spans-where, odd-tests}
+use Rattle.runs.specs.Inside.{first_where, odd_at, Has}
+use Rattle.runs.proofs.Scan.{first_of, scan, first-scan, spans-where, odd-tests}
 use Rattle.reading.specs.Inside.{Summed}
 
 -- ---- 9
@@ -38,21 +42,27 @@ module _ (h : Head) where
   odd_is k n = ap (λ (b : Bool). is_chance k && b) (neither (eqb n T) (eqb n U) ∙ ap not (sym (among-either h n)))
 
   module _ (S : Slices) (n : ℕ) (small : n ≤ 1024) (F : Forest ℕ) (spans : Spans S 0 n F) where
-    pub odd-scan : scan_from (odd_at S.kinds S.stops S.weights T U) 0 n ≡ unbalanced (totals h) F
+    pub odd-scan : scan (odd_at S.kinds S.stops S.weights T U) 0 n ≡ unbalanced (totals h) F
     odd-scan =
-        let z : n - 0 ≡ n = omega arith in
-        sym (rw z at (spans-where S _ (odd_at S.kinds S.stops S.weights T U) n (odd-tests S T U n small) 0 n F (omega arith) spans))
+        sym (spans-where S _ (odd_at S.kinds S.stops S.weights T U) n (odd-tests S T U n small) 0 n F (omega arith) spans)
         ∙ (λ i. nodes_where (λ (k : Kind) (f : Forest ℕ). odd_is k (weigh f) i) F)
 
     -- where no node is found
-    pub odd-none : n ≤ first_or n (scan_from (odd_at S.kinds S.stops S.weights T U) 0 n) → Balanced (totals h) F
-    odd-none l = balanced (totals h) F (sym odd-scan ∙ none (scan_from (odd_at S.kinds S.stops S.weights T U) 0 n) refl l)
+    pub odd-none : first_where (odd_at S.kinds S.stops S.weights T U) n ≡ None → Balanced (totals h) F
+    odd-none l =
+        balanced (totals h) F (sym odd-scan ∙ none (scan (odd_at S.kinds S.stops S.weights T U) 0 n) (sym (first-scan (odd_at S.kinds S.stops S.weights T U) n) ∙ l))
       where
-        none : (xs : List ℕ) → scan_from (odd_at S.kinds S.stops S.weights T U) 0 n ≡ xs → n ≤ first_or n xs → xs ≡ []
-        none [] e l = refl
-        none (x ∷ xs) e l = absurd (omega (arith, scan-below (odd_at S.kinds S.stops S.weights T U) 0 n x xs e))
+        none : (xs : List ℕ) → first_of xs ≡ None → xs ≡ []
+        none [] e = refl
+        none (x ∷ xs) e = cc
 
 -- ---- the grain count
+
+pub power_fits : (b j : ℕ) → b ≤ 64 → j ≤ 4 → b ^ j < 18446744073709551616
+power_fits b j h k = omega (arith, power_small b j h k)
+
+pub powers-fit : (a i b j : ℕ) → a ≤ 64 → i ≤ 4 → b ≤ 64 → j ≤ 4 → Fits w64 (a ^ i * b ^ j)
+powers-fit a i b j h k l m = omega (arith, mul-le-mul (power_small a i h k) (power_small b j l m))
 
 module _ (h : Head) (ks ss ws : List ℕ) (n most : ℕ) (S : Summed ks ss ws n most (totals h)) where
   abbrev F : Forest ℕ

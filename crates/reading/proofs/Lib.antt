@@ -1,4 +1,3 @@
-pub mod Copied
 pub mod Grains
 pub mod Complete
 pub mod Top

@@ -1,4 +1,4 @@
--- "Every table written is accepted by the reader". Assumes nothing.
+-- "Every table written is accepted by the reader".
 use Prim.Native.Nat.{ℕ, zero, suc, ◌-◌, ◌*◌, ◌^◌, ◌≤◌, ◌<◌}
 use mathlib.Core.Path.{◌≡◌, refl, sym, subst}
 use mathlib.Core.Bool.{Bool, true, false, cond}

@@ -1,4 +1,4 @@
--- The numbers of a recipe's table: how many C a path has, its grain count, its leaves. Assumes nothing.
+-- The numbers of a recipe's table: how many C a path has, its grain count, its leaves.
 use Prim.Native.Nat.{ℕ, zero, suc, ◌+◌, ◌*◌, ◌^◌, ◌<◌, max}
 use mathlib.Core.Path.{◌≡◌, refl, sym, ap, ◌∙◌}
 use mathlib.Core.Bool.{Bool, true, false, cond}

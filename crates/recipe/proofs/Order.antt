@@ -1,15 +1,15 @@
--- "Leaves take the next state .., in line order". Assumes nothing.
+-- "Leaves take the next state .., in line order".
 use Prim.Native.Nat.{ℕ, zero, suc, ◌+◌, ◌*◌, ◌^◌}
 use mathlib.Core.Path.{◌≡◌, refl, sym, ap, ap₂, ◌∙◌}
 use mathlib.Core.Bool.{Bool, true, false, cond}
 use mathlib.Core.List.{List, [], ◌∷◌, ◌++◌}
 use native.Mathlib.Omega.{arith}
 use native.Mathlib.Nat.{zero-mul, suc-mul, suc-add, zero-add, add_comm, one-mul, pow-zero, pow-succ'}
-use lib.Dec.{eqb}
 use lib.IntN.{ℤ, pos}
 use Rattle.line.specs.declared.Line.{Line}
 use Rattle.table.specs.Accepted.{flat, one}
 use Rattle.table.proofs.Runs.{code-inner}
+use Rattle.line.specs.Line.{is_leaf}
 use Rattle.recipe.specs.Recipe.{next_state, later, points, levels, chance_at, kind_at, nodes, row, recipe_table, worths, leaf_worths}
 
 worths-add : (m n s : ℕ) → worths (m + n) s ≡ worths m s ++ worths n (later m s)
@@ -20,7 +20,7 @@ worths-add (suc m) n s = rw (suc-add m n) (ap (λ (x : List ℤ). pos (points (n
 leaves-append : (a b : List Line) → leaf_worths (a ++ b) ≡ leaf_worths a ++ leaf_worths b
 unfolding leaf_worths
 leaves-append [] b = refl
-leaves-append (l ∷ a) b = go (eqb l.kind 0) (leaves-append a b)
+leaves-append (l ∷ a) b = go (is_leaf l.kind) (leaves-append a b)
   where
     go : (t : Bool) → leaf_worths (a ++ b) ≡ leaf_worths a ++ leaf_worths b
         → cond t (l.utility ∷ leaf_worths (a ++ b)) (leaf_worths (a ++ b)) ≡ cond t (l.utility ∷ leaf_worths a) (leaf_worths a) ++ leaf_worths b

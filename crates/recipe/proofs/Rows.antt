@@ -1,4 +1,4 @@
--- Lines with one parent, written one after another. Assumes nothing.
+-- Lines with one parent, written one after another.
 use Prim.Native.Nat.{ℕ, zero, suc, ◌+◌, ◌-◌, ◌*◌, ◌^◌, ◌≤◌, ◌<◌}
 use mathlib.Core.Path.{◌≡◌, refl, sym, ap, ap₂, ◌∙◌}
 use mathlib.Core.Bool.{Bool, true, false, cond}
@@ -13,7 +13,7 @@ use lib.IntN.{pos, nat_abs}
 use Rattle.field.proofs.Small.{choose}
 use Rattle.field.proofs.Stores.{part-stored}
 use Rattle.line.specs.declared.Line.{Line}
-use Rattle.table.specs.Tree.{code_of}
+use Rattle.table.specs.Tree.{line_kind}
 use Rattle.table.specs.Accepted.{flat, one}
 use Rattle.writing.specs.Text.{line_text, lines_text}
 use Rattle.writing.specs.Inside.{Short}
@@ -22,6 +22,8 @@ use Rattle.recipe.specs.declared.Place.{Place}
 use Rattle.recipe.specs.declared.Siblings.{Siblings}
 use Rattle.recipe.specs.Recipe.{next_state, later, points, chance_at, kind_at, weight_of, nodes, row}
 use Rattle.recipe.specs.Inside.{under_of, first_line, after_first, LineReady, size_of, RowReady, row_text, Rowed}
+use Rattle.line.specs.declared.Kind.{Kind}
+use Rattle.line.specs.declared.Kind.TheVariants.{Leaf}
 use Rattle.recipe.proofs.Rules.{nodes-leaf, nodes-more}
 
 -- ---- small numbers
@@ -81,14 +83,14 @@ module _ (b : ℕ) (dice : Bool) where
   state-step (suc r) s = rw (eqb-suc-zero r, suc-sub r, pow-succ' b r)
 
   -- a line; its text does not show how many C stand above it
-  abbrev line_of : ℕ → ℕ → ℕ → ℕ → ℕ → Line
+  abbrev line_of : ℕ → Kind → ℕ → ℕ → ℕ → Line
   line_of i k parent w v = record { node = i; kind = k; parent = parent; weight = w; utility = pos v; chances = 0 }
 
   abbrev text : ℕ → ℕ → Bool → ℕ → ℕ → ℕ → ℕ → ℕ → ℕ → ℕ → List ℕ
   text r l u p m c i s parent n = lines_text (flat parent n (row b dice r l u p m c i s))
 
   abbrev top : ℕ → ℕ → Bool → ℕ → ℕ → ℕ → ℕ → ℕ → Line
-  top r l u p c i s parent = line_of i (cond (eqb r 0) 0 (code_of (kind_at dice l))) parent (weight_of b u p c) (cond (eqb r 0) (points (next_state s)) 0)
+  top r l u p c i s parent = line_of i (cond (eqb r 0) Leaf (line_kind (kind_at dice l))) parent (weight_of b u p c) (cond (eqb r 0) (points (next_state s)) 0)
 
   text-none : (r l : ℕ) (u : Bool) (p c i s parent n : ℕ) → text r l u p 0 c i s parent n ≡ []
   unfolding row flat lines_text
@@ -96,17 +98,17 @@ module _ (b : ℕ) (dice : Bool) where
   text-none (suc r) l u p c i s parent n = refl
 
   text-leaf : (l : ℕ) (u : Bool) (p m c i s parent n : ℕ) → text 0 l u p (suc m) c i s parent n
-      ≡ line_text (line_of i 0 parent (weight_of b u p c) (points (next_state s))) ++ text 0 l u p m (suc c) (suc i) (next_state s) parent n
+      ≡ line_text (line_of i Leaf parent (weight_of b u p c) (points (next_state s))) ++ text 0 l u p m (suc c) (suc i) (next_state s) parent n
   unfolding row flat lines_text
   text-leaf l u p m c i s parent n = refl
 
   text-inner : (r l : ℕ) (u : Bool) (p m c i s parent n : ℕ) → text (suc r) l u p (suc m) c i s parent n
-      ≡ line_text (line_of i (code_of (kind_at dice l)) parent (weight_of b u p c) 0)
+      ≡ line_text (line_of i (line_kind (kind_at dice l)) parent (weight_of b u p c) 0)
       ++ (text r (suc l) (chance_at dice l) c b 1 (suc i) s i (n + one (kind_at dice l))
       ++ text (suc r) l u p m (suc c) (i + nodes b (suc r)) (later (b ^ suc r) s) parent n)
   unfolding row flat lines_text
   text-inner r l u p m c i s parent n =
-      ap (λ (z : List ℕ). line_text (line_of i (code_of (kind_at dice l)) parent (weight_of b u p c) 0) ++ z)
+      ap (λ (z : List ℕ). line_text (line_of i (line_kind (kind_at dice l)) parent (weight_of b u p c) 0) ++ z)
       (lines-append (flat i (n + one (kind_at dice l)) (row b dice r (suc l) (chance_at dice l) c b 1 (suc i) s)) (flat parent n (row b dice (suc r) l u p m (suc c) (i + nodes b (suc r)) (later (b ^ suc r) s))))
 
   text-step : (r l : ℕ) (u : Bool) (p m c i s parent n : ℕ) → text r l u p (suc m) c i s parent n

@@ -1,4 +1,4 @@
--- The lines of a recipe: how many they are, and that they keep the rules of document 01, 'The table on paper'. Assumes nothing.
+-- The lines of a recipe: how many they are, and that they keep the rules of document 01, 'The table on paper'.
 use Prim.Native.Nat.{ℕ, zero, suc, ◌+◌, ◌-◌, ◌*◌, ◌%◌, ◌^◌, ◌≤◌, ◌<◌}
 use mathlib.Core.Path.{◌≡◌, refl, sym, ap, subst, ◌∙◌}
 use mathlib.Core.Bool.{Bool, true, false, ◌&&◌, cond}
@@ -245,5 +245,6 @@ module _ (b : ℕ) where
       let p : 0 < 6 ^ r = one-le-pow r 6 (omega arith) in
       rw (nodes-more r, pow-suc 6 r) (omega (arith, six r h, mul-le-mul h (six r h)))
 
-  pub nodes-small : (r : ℕ) → b ≤ 5 → r ≤ 17 → nodes b r ≤ 6 ^ 17
-  nodes-small r h g = le_trans (six r h) (pow-le-pow_right (omega arith) g)
+  -- with one level more they fit a number
+  pub nodes-fit : (r n : ℕ) → n ≡ nodes b r → b ≤ 5 → r < 18 → b * n ≤ 5 * 6 ^ 17
+  nodes-fit r n e h g = let few : r ≤ 17 = omega arith in rw e (mul-le-mul h (le_trans (six r h) (pow-le-pow_right (omega arith) few)))

@@ -1,7 +1,7 @@
--- The text of a recipe's table, and what it takes to store it. Assumes nothing.
+-- The text of a recipe's table, and what it takes to store it.
 use Prim.Native.Nat.{ℕ, ◌+◌, ◌*◌, ◌≤◌}
 use mathlib.Core.Path.{◌≡◌, sym, ap, ◌∙◌}
-use mathlib.Core.Bool.{Bool, true, false}
+use mathlib.Core.Bool.{Bool, false}
 use mathlib.Core.List.{List, ◌++◌}
 use native.Mathlib.Omega.{arith}
 use native.Mathlib.Nat.{zero-add, one-mul}
@@ -15,14 +15,10 @@ use Rattle.writing.proofs.Reread.{text-length}
 use Rattle.recipe.specs.declared.Place.{Place}
 use Rattle.recipe.specs.declared.Siblings.{Siblings}
 use Rattle.recipe.specs.Recipe.{levels, nodes, recipe_head, recipe_tree, recipe_table}
-use Rattle.recipe.specs.Inside.{RowReady, row_text, Rowed, TableReady}
+use Rattle.recipe.specs.Inside.{row_text, Rowed, TableReady}
 use Rattle.recipe.proofs.Rules.{row-size}
-use Rattle.recipe.proofs.Accepted.{ranged, shallow, sound}
+use Rattle.recipe.proofs.Accepted.{ranged, sound}
 use Rattle.recipe.proofs.Rows.{then}
-
-pub levels-few : (dice : Bool) (depth : ℕ) → depth ≤ 9 → levels dice depth ≤ 18
-levels-few true depth h = omega arith
-levels-few false depth h = omega arith
 
 module _ (seed b depth : ℕ) (dice : Bool) where
   pub recipe-count : length (recipe_table b dice seed depth).lines ≡ nodes b (levels dice depth)
@@ -45,20 +41,6 @@ module _ (seed b depth : ℕ) (dice : Bool) where
   module _ (n room : ℕ) (T : TableReady seed b depth dice n room) where
     few-nodes : nodes b (levels dice depth) ≤ 1024
     few-nodes = omega (arith, T.count, T.few)
-
-    pub root-ready : RowReady b root 1 1 start room
-    root-ready =
-        let N : ℕ = nodes b (levels dice depth) in
-        record {
-          least = T.least;
-          most = T.most;
-          shallow = λ z. omega (arith, shallow b dice T.least T.most seed depth few-nodes);
-          numbers = omega arith;
-          parent = omega arith;
-          state = T.seed-small;
-          few = omega (arith, one-mul N, few-nodes);
-          fits = omega (arith, one-mul N, T.count, T.fits);
-        }
 
     -- the header and then the rows
     pub table-stored : (d d1 e : List ℕ) (q : Place) → length d ≡ room → d1 ≡ sets d 0 (header_text (recipe_head b dice) n) → Rowed b dice root 1 1 start d1 e q

@@ -1,8 +1,9 @@
 -- What the contracts of internal functions cite: rows of lines, stored in a lent buffer. No promise of a public call names these.
 use Rattle.std.specs.Prelude.{ℕ, ◌+◌, ◌-◌, ◌*◌, ◌^◌, ◌≤◌, ◌<◌, ◌≡◌, Bool, cond, List, eqb, length, pos}
 use Rattle.std.proofs.lemmas.List.Edits.{sets}
+use Rattle.line.specs.declared.Kind.TheVariants.{Leaf}
 use Rattle.line.specs.declared.Line.{Line}
-use Rattle.table.specs.Tree.{code_of}
+use Rattle.table.specs.Tree.{line_kind}
 use Rattle.table.specs.Accepted.{flat}
 use Rattle.writing.specs.Text.{lines_text}
 use Rattle.recipe.specs.declared.Place.{Place}
@@ -18,7 +19,7 @@ abbrev pub first_line : ℕ → Bool → Siblings → ℕ → Place → Line
 first_line b dice y c at =
     record {
       node = at.node;
-      kind = cond (eqb y.left 0) 0 (code_of (kind_at dice y.level));
+      kind = cond (eqb y.left 0) Leaf (line_kind (kind_at dice y.level));
       parent = y.parent;
       weight = weight_of b y.under y.play c;
       utility = pos (cond (eqb y.left 0) (points (next_state at.state)) 0);

@@ -2,6 +2,7 @@
 use Rattle.std.specs.Prelude.{ℕ, zero, suc, ◌+◌, ◌-◌, ◌*◌, ◌/◌, ◌%◌, ◌^◌, Bool, false, ◌&&◌, cond, List, [], ◌∷◌, eqb, ℤ, pos}
 use Rattle.line.specs.declared.Head.{Head}
 use Rattle.line.specs.declared.Line.{Line}
+use Rattle.line.specs.Line.{is_leaf}
 use Rattle.table.specs.Tree.{Kind, MAX, MIN, CHANCE, Forest, end, leaf, inner}
 use Rattle.table.specs.Table.{Table}
 use Rattle.table.specs.Accepted.{flat}
@@ -87,4 +88,4 @@ worths (suc n) s = pos (points (next_state s)) ∷ worths n (next_state s)
 -- the leaves' utilities, line by line
 unfoldable pub leaf_worths : List Line → List ℤ
 leaf_worths [] = []
-leaf_worths (l ∷ ls) = cond (eqb l.kind 0) (l.utility ∷ leaf_worths ls) (leaf_worths ls)
+leaf_worths (l ∷ ls) = cond (is_leaf l.kind) (l.utility ∷ leaf_worths ls) (leaf_worths ls)

@@ -1,11 +1,12 @@
--- The call as a whole: its refusals, and what it writes. Assumes nothing.
+-- The call as a whole: its refusals, and what it writes.
+use Rattle.std.proofs.Common.{Err, Ok, Result}
 use Prim.Native.Nat.{ℕ, ◌+◌, ◌*◌, ◌≤◌, ◌<◌}
 use mathlib.Core.Path.{◌≡◌, refl, sym, ap, subst, ◌∙◌}
 use mathlib.Core.Bool.{Bool, true, false, ◌||◌, cond}
 use mathlib.Core.List.{List}
 use native.Mathlib.Omega.{arith}
 use borrow.Author.Tests.{ltb-false, lt-ltb, le-ltb}
-use lib.Dec.{eqb, ltb}
+use lib.Dec.{ltb}
 use lib.ListN.{length}
 use lib.IntN.{ℤ, pos, negsuc}
 use lib.Signed.{lt_z}
@@ -22,8 +23,6 @@ use Rattle.recipe.specs.Recipe.{levels, nodes}
 use Rattle.recipe.specs.Inside.{TableReady}
 use Rattle.recipe.proofs.Accepted.{recipe-accepted}
 use Rattle.recipe.proofs.Written.{text-long}
-use Rattle.recipe_call.specs.declared.Made.{Made}
-use Rattle.recipe_call.specs.declared.Made.TheVariants.{Written, Refused}
 use Rattle.recipe_call.specs.Call.{beyond, out_of_range, with_dice, too_many, table_for, text_for, recipe_checks, recipe_of, made_of, bytes_of, recipe_call, recipe_bytes}
 
 -- ---- the ranges
@@ -37,11 +36,6 @@ pub record InRange (seed b depth : ℕ) : Type 0 where
   pub least : 2 ≤ b
   pub most : b ≤ 5
   pub shallow : depth ≤ 9
-
--- the same numbers
-pub ready-same : (s s2 b b2 d d2 k k2 n n2 room : ℕ) → s ≡ s2 → b ≡ b2 → d ≡ d2 → k ≡ k2 → n ≡ n2
-    → TableReady s2 b2 d2 (eqb k2 1) n2 room → TableReady s b d (eqb k 1) n room
-ready-same s s2 b b2 d d2 k k2 n n2 room p q r t u T = rw (p, q, r, t, u) T
 
 module _ (seed branching depth dice : ℤ) where
   pub in-range : out_of_range seed branching depth dice ≡ false → InRange (to_nat seed) (to_nat branching) (to_nat depth)
@@ -62,18 +56,18 @@ module _ (seed branching depth dice : ℤ) where
 
   -- ---- what is answered, and what is then in the buffer d
 
-  abbrev Answers : Made → List ℕ → List ℕ → Type 0
+  abbrev Answers : Result ℕ Refusal → List ℕ → List ℕ → Type 0
   Answers a d e = (a ≡ recipe_call seed branching depth dice (length d)) × (e ≡ laid (recipe_bytes seed branching depth dice (length d)) d)
 
   answers : (d : List ℕ) (v : Verdict (List ℕ)) → recipe_of seed branching depth dice (length d) ≡ v → Answers (made_of v) d (laid (bytes_of v) d)
   answers d v e = (sym (ap made_of e), sym (ap (λ (x : Verdict (List ℕ)). laid (bytes_of x) d) e))
 
-  pub out : (d : List ℕ) → out_of_range seed branching depth dice ≡ true → Answers (Refused BadRecipe) d d
+  pub out : (d : List ℕ) → out_of_range seed branching depth dice ≡ true → Answers (Err BadRecipe) d d
   unfolding unless
   out d e = answers d (refused BadRecipe) (rw e)
 
   module _ (fair : out_of_range seed branching depth dice ≡ false) where
-    pub many : (d : List ℕ) → 1024 < n → Answers (Refused BadRecipe) d d
+    pub many : (d : List ℕ) → 1024 < n → Answers (Err BadRecipe) d d
     unfolding unless
     many d h = answers d (refused BadRecipe) (rw (fair, lt-ltb 1024 n h))
 
@@ -83,15 +77,15 @@ module _ (seed branching depth dice : ℤ) where
           let R = in-range fair in
           text-long (to_nat seed) (to_nat branching) (to_nat depth) (with_dice dice) R.least R.most few
 
-      pub short : (d : List ℕ) → length d < 25 * n + 25 → Answers (Refused NoRoom) d d
+      pub short : (d : List ℕ) → length d < 25 * n + 25 → Answers (Err NoRoom) d d
       unfolding unless
       short d h = answers d (refused NoRoom) (rw (fair, le-ltb 1024 n few, lt-ltb (length d) (length text) (omega (arith, text-is))))
 
-      pub done : (d : List ℕ) → 25 * n + 25 ≤ length d → Answers (Written (25 * n + 25)) d (laid text d)
+      pub done : (d : List ℕ) → 25 * n + 25 ≤ length d → Answers (Ok (25 * n + 25)) d (laid text d)
       unfolding unless
       done d h =
           let A = answers d (fine text) (rw (fair, le-ltb 1024 n few, le-ltb (length d) (length text) (omega (arith, text-is)))) in
-          (ap Written (sym text-is) ∙ A.0, A.1)
+          (ap Ok (sym text-is) ∙ A.0, A.1)
 
       pub ready : (room : ℕ) → 25 * n + 25 ≤ room → TableReady (to_nat seed) (to_nat branching) (to_nat depth) (with_dice dice) n room
       ready room h =

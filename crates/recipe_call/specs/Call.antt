@@ -1,5 +1,6 @@
 -- What the call `write_recipe` answers. Document 02, Item 7.
-use Rattle.std.specs.Prelude.{ℕ, Bool, ◌||◌, List, [], ◌∷◌, eqb, ltb, length, ℤ, pos}
+use Rattle.line.specs.declared.Refusal.{Refusal}
+use Rattle.std.specs.Prelude.{ℕ, Bool, ◌||◌, List, [], ◌∷◌, eqb, ltb, length, ℤ, pos, Err, Ok, Result}
 use Rattle.std.specs.Int.Signed.{lt_z}
 use Rattle.line.specs.declared.Refusal.TheVariants.{BadRecipe, NoRoom}
 use Rattle.line.specs.Refusal.{Verdict, refused, fine, Check, unless, number_of, line_of}
@@ -7,8 +8,6 @@ use Rattle.line.specs.Line.{to_nat}
 use Rattle.table.specs.Table.{Table}
 use Rattle.writing.specs.Text.{table_text}
 use Rattle.recipe.specs.Recipe.{levels, nodes, recipe_table}
-use Rattle.recipe_call.specs.declared.Made.{Made}
-use Rattle.recipe_call.specs.declared.Made.TheVariants.{Written, Refused}
 
 -- a number below lo or above hi
 abbrev pub beyond : ℤ → ℤ → ℤ → Bool
@@ -47,26 +46,26 @@ module _ (seed branching depth dice : ℤ) where
   recipe_of room = unless (recipe_checks room) text_for
 
 -- how many bytes are written
-abbrev pub made_of : Verdict (List ℕ) → Made
-made_of (refused r) = Refused r
-made_of (fine s) = Written (length s)
+abbrev pub made_of : Verdict (List ℕ) → Result ℕ Refusal
+made_of (refused r) = Err r
+made_of (fine s) = Ok (length s)
 
 -- the bytes at the start of the buffer; nothing is written where the call is refused
 abbrev pub bytes_of : Verdict (List ℕ) → List ℕ
 bytes_of (refused r) = []
 bytes_of (fine s) = s
 
-abbrev pub recipe_call : (seed branching depth dice : ℤ) → ℕ → Made
+abbrev pub recipe_call : (seed branching depth dice : ℤ) → ℕ → Result ℕ Refusal
 recipe_call seed branching depth dice room = made_of (recipe_of seed branching depth dice room)
 
 abbrev pub recipe_bytes : (seed branching depth dice : ℤ) → ℕ → List ℕ
 recipe_bytes seed branching depth dice room = bytes_of (recipe_of seed branching depth dice room)
 
 -- the number and the line of every answer, 0 where there is no refusal
-abbrev pub made_number : Made → ℕ
-made_number (Written n) = 0
-made_number (Refused r) = number_of r
+abbrev pub made_number : Result ℕ Refusal → ℕ
+made_number (Ok n) = 0
+made_number (Err r) = number_of r
 
-abbrev pub made_line : Made → ℕ
-made_line (Written n) = 0
-made_line (Refused r) = line_of r
+abbrev pub made_line : Result ℕ Refusal → ℕ
+made_line (Ok n) = 0
+made_line (Err r) = line_of r

@@ -1,4 +1,4 @@
--- The cases of a position one after another: what is known where each is reached. Assumes nothing.
+-- The cases of a position one after another: what is known where each is reached.
 use Prim.Native.Nat.{ℕ, ◌≤◌, ◌<◌}
 use mathlib.Core.Path.{◌≡◌, refl, ap, ◌∙◌}
 use mathlib.Core.Bool.{Bool, true, false, not, cond}

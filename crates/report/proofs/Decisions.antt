@@ -1,4 +1,5 @@
--- A side's decisions are the positions whose root is of its kind with two children or more. Assumes nothing.
+-- A side's decisions are the positions whose root is of its kind with two children or more.
+use Rattle.std.proofs.Common.{None, Ok}
 use Prim.Native.Nat.{ℕ, ◌+◌, ◌≤◌}
 use mathlib.Core.Path.{◌≡◌, refl, sym, ap, ap₂, ◌∙◌}
 use mathlib.Core.Bool.{Bool, true, false, ◌&&◌, cond}
@@ -11,14 +12,12 @@ use lib.ListN.{length, get_or, take, drop}
 use lib.IntN.{ℤ}
 use Rattle.line.specs.declared.Line.{Line}
 use Rattle.line.specs.Refusal.{Verdict, refused, fine}
-use Rattle.line.specs.Line.{to_nat, value_of}
+use Rattle.line.specs.Line.{to_nat, value_of, code as line_code}
 use Rattle.table.specs.Tree.{code_of, forest}
 use Rattle.table.specs.Table.{Table, tree, read_text}
 use Rattle.table.specs.Slices.{kinds_of}
 use Rattle.table.specs.Root.{Side, AtM, AtN, to_play, root_of, numbered, child_count}
 use Rattle.worth.specs.Worth.{Share, worth_of}
-use Rattle.judge.specs.declared.Judged.TheVariants.{NoDecision}
-use Rattle.judge.specs.declared.Opinion.TheVariants.{Given}
 use Rattle.judge.specs.Judge.{child_worths, Judgement, no_decision, judged, judge_child, judge}
 use Rattle.judge.specs.Call.{told, judge_answer, judge_call}
 use Rattle.judge.proofs.Best.{kind_at}
@@ -37,7 +36,7 @@ kind-root : (side : Side) (t : Table) → get_or (kinds_of t) 0 0 ≡ code side 
 unfolding forest
 kind-root side t e = go side t.lines e
   where
-    go : (side : Side) (ls : List Line) → get_or (map (λ (l : Line). l.kind) ls) 0 0 ≡ code side
+    go : (side : Side) (ls : List Line) → get_or (map (λ (l : Line). line_code l.kind) ls) 0 0 ≡ code side
         → root_of (forest (λ (l : Line). l.utility) (length ls) ls) ≡ to_play side
     go AtM [] e = absurd (omega (arith, e))
     go AtN [] e = absurd (omega (arith, e))
@@ -73,13 +72,13 @@ module _ (side : Side) (s : List ℕ) (t : Table) (p : read_text s ≡ fine t) (
       and-true false = refl
 
 -- what the call answered is what judging says
-answer-none : (v : Verdict Judgement) → judge_answer v ≡ Given NoDecision → v ≡ fine no_decision
+answer-none : (v : Verdict Judgement) → judge_answer v ≡ Ok None → v ≡ fine no_decision
 answer-none (refused r) e = let z : ◌≡◌ {A = ℕ} 0 1 = cc in absurd (omega arith)
 answer-none (fine no_decision) e = refl
 answer-none (fine (judged loss level)) e = let z : ◌≡◌ {A = ℕ} 0 1 = cc in absurd (omega arith)
 
 -- its entry counts where there is a decision
-entry-decides : (side : Side) (s : List ℕ) (t : Table) → read_text s ≡ fine t → (i : ℤ) (j : Judgement) → judge_answer (judge t i) ≡ Given (told j)
+entry-decides : (side : Side) (s : List ℕ) (t : Table) → read_text s ≡ fine t → (i : ℤ) (j : Judgement) → judge_answer (judge t i) ≡ Ok (told j)
     → counts (code side) (λ x. 1) (row_of t j).kind (row_of t j).loss ≡ cond (decides (code side) t) 1 0
 entry-decides side s t p i no_decision e = sym (ap (λ (b : Bool). cond b 1 0) (none-counts side s t p i (answer-none (judge t i) e)))
 entry-decides side s t p i (judged loss level) e =

@@ -1,5 +1,5 @@
 -- Match files: each entry is its position's alone, a file made of two has the entries of both, and a refused position stops the report,
--- whatever follows it. Assumes nothing.
+-- whatever follows it.
 use Prim.Native.Nat.{ℕ, zero, suc, ◌+◌, ◌-◌, ◌*◌, ◌≤◌, ◌<◌}
 use mathlib.Core.Path.{◌≡◌, refl, sym, ap, ap₂, subst, ◌∙◌}
 use mathlib.Core.Bool.{Bool, true, false, not, ◌||◌}

@@ -1,4 +1,4 @@
--- Match files that differ in padding alone are reported alike. Document 02, Item 9. Assumes nothing.
+-- Match files that differ in padding alone are reported alike. Document 02, Item 9.
 use Prim.Native.Nat.{ℕ, zero, suc, ◌+◌, ◌*◌, ◌≤◌, ◌<◌}
 use mathlib.Core.Path.{◌≡◌, refl, sym, ap, ap₂, ◌∙◌}
 use mathlib.Core.Bool.{Bool, true, false, cond, not, ◌||◌}

@@ -1,4 +1,4 @@
--- What a match is refused with: 2 to 16 or 18, so never 1, a line of at most 1,024, a position of at most 501. Assumes nothing.
+-- What a match is refused with: 2 to 16 or 18, so never 1, a line of at most 1,024, a position of at most 501.
 use Prim.Native.Nat.{ℕ, zero, suc, ◌+◌, ◌*◌, ◌%◌, ◌≤◌, ◌<◌}
 use mathlib.Core.Path.{◌≡◌, refl, ap, subst, ◌∙◌}
 use mathlib.Core.Bool.{Bool, false, not, ◌||◌}

@@ -1,4 +1,5 @@
--- The entry of a position that is not refused; and the totals of entries. Assumes nothing.
+-- The entry of a position that is not refused; and the totals of entries.
+use Rattle.std.proofs.Common.{None, Option, Some}
 use Prim.Native.Nat.{ℕ, ◌+◌, ◌*◌, ◌≤◌}
 use mathlib.Core.Path.{◌≡◌, refl, ap₂, subst}
 use mathlib.Core.Bool.{Bool, true, false, cond}
@@ -12,8 +13,6 @@ use Rattle.line.specs.Refusal.{Verdict, refused, fine, next}
 use Rattle.line.specs.Line.{value_of}
 use Rattle.table.specs.Table.{Table, read_text, grain}
 use Rattle.judge.specs.Judge.{Judgement, judge}
-use Rattle.report.specs.declared.Loss.{Loss}
-use Rattle.report.specs.declared.Loss.TheVariants.{NoDecision, Thousandths}
 use Rattle.report.specs.declared.Row.{Row}
 use Rattle.report.specs.Report.{play_in, size_of, table_in, row_of, scored, position_of, loss_code, kinds_in, losses_in, counts, total_of, tally_of, totals_of}
 use Rattle.report.specs.Files.{counts_in, listed_total}
@@ -72,9 +71,9 @@ abbrev pub AllSmall : List Row → Type 0
 AllSmall [] = Unit {0}
 AllSmall (r ∷ rs) = SmallLoss r.loss × AllSmall rs
 
-counts-le : (side : ℕ) (n : ℕ → ℕ) (M kind : ℕ) (l : Loss) → ((m : ℕ) → m ≤ 2000000000 → n m ≤ M) → SmallLoss l → counts side n kind l ≤ M
-counts-le side n M kind NoDecision f h = omega arith
-counts-le side n M kind (Thousandths l) f h = at (eqb kind side)
+counts-le : (side : ℕ) (n : ℕ → ℕ) (M kind : ℕ) (l : Option ℕ) → ((m : ℕ) → m ≤ 2000000000 → n m ≤ M) → SmallLoss l → counts side n kind l ≤ M
+counts-le side n M kind None f h = omega arith
+counts-le side n M kind (Some l) f h = at (eqb kind side)
   where
     at : (b : Bool) → cond b (n l) 0 ≤ M
     at true = f l h
@@ -97,9 +96,9 @@ module _ (rs : List Row) (all : AllSmall rs) (few : length rs ≤ 500) where
   totals-small = record { positions = few; max = tally-small 1; min = tally-small 2 }
 
 -- the totals are those of the lists of kinds and losses
-loss-listed : (side : ℕ) (n : ℕ → ℕ) (kind : ℕ) (l : Loss) → counts_in side n kind (loss_code l) ≡ counts side n kind l
-loss-listed side n kind NoDecision = refl
-loss-listed side n kind (Thousandths m) = refl
+loss-listed : (side : ℕ) (n : ℕ → ℕ) (kind : ℕ) (l : Option ℕ) → counts_in side n kind (loss_code l) ≡ counts side n kind l
+loss-listed side n kind None = refl
+loss-listed side n kind (Some m) = refl
 
 pub totals-listed : (side : ℕ) (n : ℕ → ℕ) (rs : List Row) → listed_total side n (kinds_in rs) (losses_in rs) ≡ total_of side n rs
 unfolding listed_total total_of

@@ -1,4 +1,4 @@
--- A loss is at most the span, and so its thousandths fit. Assumes nothing.
+-- A loss is at most the span, and so its thousandths fit.
 use Prim.Native.Nat.{ℕ, ◌*◌, ◌≤◌}
 use mathlib.Core.Path.{◌≡◌, refl, subst}
 use mathlib.Core.Bool.{Bool, true, false, cond}

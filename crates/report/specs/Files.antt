@@ -1,11 +1,10 @@
 -- What the theorems on match files say (demands/specs/Matches and Forced). Document 02, Items 1 and 2.
-use Rattle.std.specs.Prelude.{ℕ, ◌+◌, ◌≤◌, ◌≡◌, Bool, false, ◌&&◌, cond, List, [], ◌∷◌, eqb, leb, length, get_or, take, drop, ℤ, pos, negsuc}
+use Rattle.std.specs.Prelude.{ℕ, ◌+◌, ◌≤◌, ◌≡◌, Bool, false, ◌&&◌, cond, List, [], ◌∷◌, eqb, leb, length, get_or, take, drop, ℤ, pos, negsuc, Ok}
 use Rattle.line.specs.Refusal.{Verdict, fine, unless}
 use Rattle.line.specs.Line.{value_of}
 use Rattle.table.specs.Table.{Table, read_text}
 use Rattle.table.specs.Slices.{kinds_of}
 use Rattle.table.specs.Root.{child_count}
-use Rattle.judge.specs.declared.Opinion.TheVariants.{Given}
 use Rattle.judge.specs.Judge.{Judgement}
 use Rattle.judge.specs.Call.{told, judge_call}
 use Rattle.report.specs.declared.Row.{Row}
@@ -17,7 +16,7 @@ pub record Alone (p : List ℕ) (r : Row) : Type 0 where
   pub judgement : Judgement
   pub long : length p ≡ size_of p
   pub read : read_text (drop 5 p) ≡ fine table
-  pub judged : judge_call (read_text (drop 5 p)) (value_of (play_in p)) ≡ Given (told judgement)
+  pub judged : judge_call (read_text (drop 5 p)) (value_of (play_in p)) ≡ Ok (told judgement)
   pub entry : r ≡ row_of table judgement
   pub alone : position_of p ≡ fine r
 

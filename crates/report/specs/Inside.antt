@@ -1,9 +1,7 @@
 -- What the contracts of internal functions cite: numbers that fit. No promise of a public call names these.
-use Rattle.std.specs.Prelude.{ℕ, ◌*◌, ◌≤◌, ◌<◌}
+use Rattle.std.specs.Prelude.{ℕ, ◌*◌, ◌≤◌, ◌<◌, None, Option, Some}
 use Rattle.line.specs.Line.{to_nat}
 use Rattle.judge.specs.Judge.{Judgement, no_decision, judged}
-use Rattle.report.specs.declared.Loss.{Loss}
-use Rattle.report.specs.declared.Loss.TheVariants.{NoDecision, Thousandths}
 use Rattle.report.specs.declared.Tally.{Tally}
 use Rattle.report.specs.declared.Totals.{Totals}
 
@@ -18,9 +16,9 @@ SmallJudgement G no_decision = Unit {0}
 SmallJudgement G (judged loss level) = Small G (to_nat loss)
 
 -- a listed loss: at most 2,000,000 points
-abbrev pub SmallLoss : Loss → Type 0
-SmallLoss NoDecision = Unit {0}
-SmallLoss (Thousandths n) = n ≤ 2000000000
+abbrev pub SmallLoss : Option ℕ → Type 0
+SmallLoss None = Unit {0}
+SmallLoss (Some n) = n ≤ 2000000000
 
 pub record SmallTally (t : Tally) : Type 0 where
   pub decisions : t.decisions ≤ 500

@@ -1,5 +1,5 @@
 -- A match file and its report. Document 02, Item 1.
-use Rattle.std.specs.Prelude.{ℕ, zero, suc, ◌+◌, ◌*◌, ◌/◌, Bool, not, ◌||◌, cond, List, [], ◌∷◌, ◌++◌, map, eqb, ltb, length, get_or, take, drop, ℤ, pos, negsuc}
+use Rattle.std.specs.Prelude.{ℕ, zero, suc, ◌+◌, ◌*◌, ◌/◌, Bool, not, ◌||◌, cond, List, [], ◌∷◌, ◌++◌, map, eqb, ltb, length, get_or, take, drop, ℤ, pos, negsuc, None, Option, Some}
 use Rattle.field.specs.declared.Field.{Field}
 use Rattle.field.specs.Field.{field_of}
 use Rattle.line.specs.declared.Refusal.{Refusal}
@@ -9,8 +9,6 @@ use Rattle.line.specs.Line.{is_ill, is_blank, outside, value_of, to_nat, count_o
 use Rattle.table.specs.Table.{Table, read_text, grain}
 use Rattle.table.specs.Slices.{kinds_of}
 use Rattle.judge.specs.Judge.{Judgement, no_decision, judged, judge}
-use Rattle.report.specs.declared.Loss.{Loss}
-use Rattle.report.specs.declared.Loss.TheVariants.{NoDecision, Thousandths}
 use Rattle.report.specs.declared.Row.{Row}
 use Rattle.report.specs.declared.Tally.{Tally}
 use Rattle.report.specs.declared.Totals.{Totals}
@@ -65,9 +63,9 @@ abbrev pub thousandths : (loss G : ℕ) → ℕ
 thousandths loss G = (loss * 1000) / G
 
 -- ""no decision" or the loss"; that a loss is never below zero is a theorem (judge/proofs/Judge.loss-natural)
-abbrev pub loss_of : (G : ℕ) → Judgement → Loss
-loss_of G no_decision = NoDecision
-loss_of G (judged loss level) = Thousandths (thousandths (to_nat loss) G)
+abbrev pub loss_of : (G : ℕ) → Judgement → Option ℕ
+loss_of G no_decision = None
+loss_of G (judged loss level) = Some (thousandths (to_nat loss) G)
 
 -- "for each position the root's kind, and "no decision" or the loss": the kind is 0 for L, 1 for M, 2 for N, 3 for C
 abbrev pub row_of : Table → Judgement → Row
@@ -118,17 +116,17 @@ abbrev pub kinds_in : List Row → List ℕ
 kinds_in rs = map (λ (r : Row). r.kind) rs
 
 -- in the list of losses -1 stands for "no decision"
-abbrev pub loss_code : Loss → ℤ
-loss_code NoDecision = negsuc 0
-loss_code (Thousandths n) = pos n
+abbrev pub loss_code : Option ℕ → ℤ
+loss_code None = negsuc 0
+loss_code (Some n) = pos n
 
 abbrev pub losses_in : List Row → List ℤ
 losses_in rs = map (λ (r : Row). loss_code r.loss) rs
 
 -- ""No decision" positions count for neither side": n of the listed loss, where the decision is of the side's kind
-abbrev pub counts : (side : ℕ) → (ℕ → ℕ) → (kind : ℕ) → Loss → ℕ
-counts side n kind NoDecision = 0
-counts side n kind (Thousandths l) = cond (eqb kind side) (n l) 0
+abbrev pub counts : (side : ℕ) → (ℕ → ℕ) → (kind : ℕ) → Option ℕ → ℕ
+counts side n kind None = 0
+counts side n kind (Some l) = cond (eqb kind side) (n l) 0
 
 unfoldable pub total_of : (side : ℕ) → (ℕ → ℕ) → List Row → ℕ
 total_of side n [] = 0

@@ -2,29 +2,22 @@
 // one position, `report_call` the call.
 #![tactic(auto)]
 
-// What is listed of a play: no decision, or the loss in thousandths of a point.
-#[derive(Clone, Copy)]
-pub enum Loss {
-    NoDecision,
-    Thousandths(u64),
-}
-
-// An entry: the root's kind as a number, and the loss.
+// An entry: the root's kind as the number that the caller's list gets, and the loss.
 #[derive(Clone, Copy)]
 pub struct Row {
     pub kind: u8,
-    pub loss: Loss,
+    pub loss: Option<u64>,
 }
 
 // The number of a side's decisions, and the sum of their listed losses.
-#[derive(Clone, Copy)]
+#[derive(Clone, Copy, Default)]
 pub struct Tally {
     pub decisions: u64,
     pub sum: u64,
 }
 
 // The number of positions, and the tallies of MAX, at M, and of MIN, at N.
-#[derive(Clone, Copy)]
+#[derive(Clone, Copy, Default)]
 pub struct Totals {
     pub positions: usize,
     pub max: Tally,

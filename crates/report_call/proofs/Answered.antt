@@ -1,4 +1,7 @@
--- What the call answers of any file: a refusal's number, line and position, or totals that fit. Assumes nothing.
+-- What the call answers of any file: a refusal's number, line and position, or totals that fit.
+use Rattle.std.proofs.Common.{Err, Ok, Result, sym, ap}
+use Rattle.mark.specs.declared.Marking.{Marking}
+use Rattle.report_call.specs.declared.Unreported.{Unreported}
 use Prim.Native.Nat.{ℕ, ◌≤◌}
 use mathlib.Core.Path.{◌≡◌, refl, subst}
 use mathlib.Core.Bool.{Bool, true, false, cond}
@@ -15,21 +18,18 @@ use Rattle.report.specs.Report.{Outcome, stopped, rows, match_of}
 use Rattle.report.specs.Inside.{SmallTotals}
 use Rattle.report.proofs.Rows.{totals-small}
 use Rattle.report.proofs.Refusals.{Named, match-refused, match-rows}
-use Rattle.mark.specs.declared.Choice.{Choice}
 use Rattle.mark.proofs.Marks.{choices}
-use Rattle.report_call.specs.declared.Reported.{Reported}
-use Rattle.report_call.specs.declared.Reported.TheVariants.{Done, Refused}
 use Rattle.report_call.specs.Call.{by_scale, fit, report_answer, report_call}
 
 -- by a scale that is known
-abbrev Sized : Reported → Type 0
-Sized (Refused r k) = (k ≤ 501) × Named 1024 r
-Sized (Done t) = SmallTotals t
+abbrev Sized : Result Totals Unreported → Type 0
+Sized (Err u) = (u.position ≤ 501) × Named 1024 u.refusal
+Sized (Ok t) = SmallTotals t
 
 -- by any scale
-abbrev pub Coded : Reported → Type 0
-Coded (Refused r k) = (k ≤ 501) × (2 ≤ number_of r) × (line_of r ≤ 1024)
-Coded (Done t) = Unit {0}
+abbrev pub Coded : Result Totals Unreported → Type 0
+Coded (Err u) = (u.position ≤ 501) × (2 ≤ number_of u.refusal) × (line_of u.refusal ≤ 1024)
+Coded (Ok t) = Unit {0}
 
 module _ (file : List ℕ) (room : ℕ) where
   known-sized : Sized (report_answer (fit room (match_of file)))
@@ -45,26 +45,26 @@ module _ (file : List ℕ) (room : ℕ) where
 
   module _ (scale : ℤ) where
     -- any answer, by the choice of the scale
-    answers : (P : Reported → Type 0) → (Sized (report_answer (fit room (match_of file))) → P (report_answer (fit room (match_of file))))
-        → ((scale ≡ pos 1 → ⊥) → (scale ≡ pos 2 → ⊥) → P (Refused BadScale 0)) → P (report_call file scale room)
+    answers : (P : Result Totals Unreported → Type 0) → (Sized (report_answer (fit room (match_of file))) → P (report_answer (fit room (match_of file))))
+        → ((scale ≡ pos 1 → ⊥) → (scale ≡ pos 2 → ⊥) → P (Err (record { refusal = BadScale; position = 0 }))) → P (report_call file scale room)
     answers P known unknown =
-        choices (λ (c : Choice). P (report_answer (by_scale c (fit room (match_of file))))) scale (λ e. known known-sized) (λ e. known known-sized) unknown
+        choices (λ (c : Result Marking Refusal). P (report_answer (by_scale c (fit room (match_of file))))) scale (λ e. known known-sized) (λ e. known known-sized) unknown
 
     -- "1 is not given here"; a line of at most 1,024, and a position of at most 501
-    pub report-refused : (r : Refusal) (k : ℕ) → report_call file scale room ≡ Refused r k → Coded (Refused r k)
+    pub report-refused : (r : Refusal) (k : ℕ) → report_call file scale room ≡ Err (record { refusal = r; position = k }) → Coded (Err (record { refusal = r; position = k }))
     report-refused r k =
-        answers (λ (a : Reported). a ≡ Refused r k → Coded (Refused r k))
+        answers (λ (a : Result Totals Unreported). a ≡ Err (record { refusal = r; position = k }) → Coded (Err (record { refusal = r; position = k })))
         (λ h e. let n = subst Sized e h in (n.0, n.1.0, n.1.2))
         (λ f g e. subst Coded e (omega arith, omega arith, omega arith))
 
-    pub report-totals : (t : Totals) → report_call file scale room ≡ Done t → SmallTotals t
+    pub report-totals : (t : Totals) → report_call file scale room ≡ Ok t → SmallTotals t
     report-totals t =
-        answers (λ (a : Reported). a ≡ Done t → SmallTotals t) (λ h e. subst Sized e h)
+        answers (λ (a : Result Totals Unreported). a ≡ Ok t → SmallTotals t) (λ h e. subst Sized e h)
         (λ f g e. let z : ◌≡◌ {A = ℕ} 0 1 = cc in absurd (omega arith))
 
     -- 20 is for another scale's number alone
-    pub report-twenty : (k : ℕ) → report_call file scale room ≡ Refused BadScale k → (scale ≡ pos 1 → ⊥) × (scale ≡ pos 2 → ⊥) × (k ≡ 0)
+    pub report-twenty : (k : ℕ) → report_call file scale room ≡ Err (record { refusal = BadScale; position = k }) → (scale ≡ pos 1 → ⊥) × (scale ≡ pos 2 → ⊥) × (k ≡ 0)
     report-twenty k =
-        answers (λ (a : Reported). a ≡ Refused BadScale k → (scale ≡ pos 1 → ⊥) × (scale ≡ pos 2 → ⊥) × (k ≡ 0))
+        answers (λ (a : Result Totals Unreported). a ≡ Err (record { refusal = BadScale; position = k }) → (scale ≡ pos 1 → ⊥) × (scale ≡ pos 2 → ⊥) × (k ≡ 0))
         (λ h e. let n = subst Sized e h in absurd (omega (arith, n.1.1 (omega arith))))
-        (λ f g e. (f, g, cc))
+        (λ f g e. let same : ◌≡◌ {A = Unreported} (record { refusal = BadScale; position = 0 }) (record { refusal = BadScale; position = k }) = cc in (f, g, sym (ap (λ (u : Unreported). u.position) same)))

@@ -1,4 +1,5 @@
--- The loop over a match: the rows read so far, and the rest of the file. Assumes nothing.
+-- The loop over a match: the rows read so far, and the rest of the file.
+use Rattle.std.proofs.Common.{Err, Ok, Result}
 use Prim.Native.Nat.{ℕ, suc, ◌+◌, ◌-◌, ◌≤◌, ◌<◌}
 use mathlib.Core.Path.{◌≡◌, refl, sym, ap, subst, ◌∙◌}
 use mathlib.Core.List.{List, [], ◌∷◌, ◌++◌, map, append-nil, map-append}
@@ -7,16 +8,18 @@ use native.Mathlib.Numerals.{add-one}
 use lib.ListN.{length, set, drop, length-append, length-drop, length-set, length-map, drop_of_length-le}
 use lib.Seq.{drop-drop}
 use lib.IntN.{ℤ}
+use Rattle.scoring.specs.declared.Scored.{Scored}
 use Rattle.line.specs.declared.Refusal.{Refusal}
 use Rattle.line.specs.declared.Refusal.TheVariants.{TooMany}
-use Rattle.line.specs.Refusal.{Verdict, refused, fine}
+use Rattle.line.specs.Refusal.{Verdict, fine}
 use Rattle.table.specs.Slices.{laid}
 use Rattle.table.proofs.Laid.{laid_more}
 use Rattle.report.specs.declared.Row.{Row}
 use Rattle.report.specs.declared.Totals.{Totals}
+use Rattle.scoring.specs.Inside.{said_at}
+use Rattle.scoring.proofs.Said.{said-fine, said-refused}
 use Rattle.mark.specs.declared.Marking.{Marking}
 use Rattle.mark.specs.Marks.{mark_code}
-use Rattle.report_call.specs.declared.Reported.TheVariants.{Done, Refused}
 use Rattle.report.specs.Report.{size_of, loss_code, position_of, Outcome, stopped, rows, after, reached, match_from, match_of, totals_of}
 use Rattle.report.specs.Inside.{SmallLoss, SmallTotals}
 use Rattle.report.proofs.Rows.{row_small, AllSmall, totals-small}
@@ -37,9 +40,6 @@ module _ {A : Type 0} (f : Row → A) (a : List A) where
   listed-none h = record { is = refl; room = h; kept = refl }
 
   module _ (rs : List Row) (b : List A) (n : ℕ) (L : Listed f rs a b) (few : n < 500) where
-    pub listed-room : n < length b
-    listed-room = omega (arith, L.room, L.kept, few)
-
     listed_more : (r : Row) → length rs ≡ n → Listed f (rs ++ (r ∷ [])) a (set b n (f r))
     listed_more r e =
         let m : length (map f rs) ≡ n = length-map rs f ∙ e in
@@ -67,8 +67,9 @@ loss-of r = loss_code r.loss
 abbrev pub mark_of : Marking → Row → ℕ
 mark_of scale r = mark_code scale r.loss
 
--- k₀, l₀ and m₀ are the lists as they came, k, l and m as they are
-pub record Going (file : List ℕ) (scale : Marking) (k₀ : List ℕ) (l₀ : List ℤ) (m₀ k : List ℕ) (l : List ℤ) (m : List ℕ) (t : Totals) (at : ℕ) : Type 0 where
+-- k₀, l₀ and m₀ are the lists as they came, k, l and m as they are; the reader stands at a place of the file, s
+pub record Going (file : List ℕ) (scale : Marking) (k₀ : List ℕ) (l₀ : List ℤ) (m₀ k : List ℕ) (l : List ℤ) (m : List ℕ) (t : Totals) (s : List ℕ) (at : ℕ) : Type 0 where
+  pub whole : s ≡ file
   pub done : List Row
   pub totals : t ≡ totals_of done
   pub few : length done ≤ 500
@@ -80,9 +81,10 @@ pub record Going (file : List ℕ) (scale : Marking) (k₀ : List ℕ) (l₀ : L
   pub from : match_of file ≡ after done (match_from (500 - length done) (suc (length done)) (drop at file))
 
 pub going-none : (file : List ℕ) (scale : Marking) (k : List ℕ) (l : List ℤ) (m : List ℕ) (t : Totals) → t ≡ totals_of [] → length k ≡ 500 → length l ≡ 500 → length m ≡ 500
-    → Going file scale k l m k l m t 0
+    → Going file scale k l m k l m t file 0
 going-none file scale k l m t e p q s =
     record {
+      whole = refl;
       done = [];
       totals = e;
       few = omega arith;
@@ -94,7 +96,7 @@ going-none file scale k l m t e p q s =
       from = after_none (match_from 500 1 file);
     }
 
-module _ (file : List ℕ) (scale : Marking) (k₀ : List ℕ) (l₀ : List ℤ) (m₀ k : List ℕ) (l : List ℤ) (m : List ℕ) (t : Totals) (at : ℕ) (G : Going file scale k₀ l₀ m₀ k l m t at) where
+module _ {file : List ℕ} {scale : Marking} {k₀ : List ℕ} {l₀ : List ℤ} {m₀ k : List ℕ} {l : List ℤ} {m : List ℕ} {t : Totals} {s : List ℕ} {at : ℕ} (G : Going file scale k₀ l₀ m₀ k l m t s at) where
   abbrev n : ℕ
   n = length G.done
 
@@ -108,24 +110,24 @@ module _ (file : List ℕ) (scale : Marking) (k₀ : List ℕ) (l₀ : List ℤ)
   going-small = subst SmallTotals (sym G.totals) (totals-small G.done G.small G.few)
 
   -- the file is read
-  pub going_end : length file ≤ at → Reads (match_of file) scale (Done t) k₀ l₀ m₀ k l m
+  pub going_end : length file ≤ at → Reads (match_of file) scale (Ok t) k₀ l₀ m₀ k l m
   going_end h =
       let e : match_of file ≡ rows G.done =
       G.from
       ∙ ap (λ (s : List ℕ). after G.done (match_from (500 - n) (suc n) s)) (drop_of_length-le file h)
       ∙ ap (after G.done) (match-end (500 - n) (suc n))
       ∙ ap rows (append-nil G.done) in
-      subst (λ (o : Outcome). Reads o scale (Done t) k₀ l₀ m₀ k l m) (sym e) (ap Done G.totals, G.kinds.is, G.losses.is, G.marks.is)
+      subst (λ (o : Outcome). Reads o scale (Ok t) k₀ l₀ m₀ k l m) (sym e) (ap Ok G.totals, G.kinds.is, G.losses.is, G.marks.is)
 
   -- a position begins
   module _ (here : at < length file) where
     begun : 0 < length left
     begun = omega (arith, length-drop at file)
 
-    refused-by : (q : Refusal) (p : ℕ) → match_of file ≡ stopped q p → Reads (match_of file) scale (Refused q p) k₀ l₀ m₀ k l m
-    refused-by q p e = subst (λ (o : Outcome). Reads o scale (Refused q p) k₀ l₀ m₀ k l m) (sym e) refl
+    refused-by : (q : Refusal) (p : ℕ) → match_of file ≡ stopped q p → Reads (match_of file) scale (Err (record { refusal = q; position = p })) k₀ l₀ m₀ k l m
+    refused-by q p e = subst (λ (o : Outcome). Reads o scale (Err (record { refusal = q; position = p })) k₀ l₀ m₀ k l m) (sym e) refl
 
-    pub going-full : t.positions ≡ 500 → Reads (match_of file) scale (Refused TooMany 501) k₀ l₀ m₀ k l m
+    pub going-full : t.positions ≡ 500 → Reads (match_of file) scale (Err (record { refusal = TooMany; position = 501 })) k₀ l₀ m₀ k l m
     going-full h =
         let z : n ≡ 500 = sym count-is ∙ h in
         refused-by TooMany 501 (
@@ -148,39 +150,55 @@ module _ (file : List ℕ) (scale : Marking) (k₀ : List ℕ) (l₀ : List ℤ)
       abbrev reaches : Verdict Row → Outcome
       reaches v = after G.done (reached (suc n) (match_from (500 - suc n) (suc (suc n)) (drop (size_of left) left)) v)
 
-      pub going-stopped : (q : Refusal) → position_of left ≡ refused q → Reads (match_of file) scale (Refused q (t.positions + 1)) k₀ l₀ m₀ k l m
-      going-stopped q e =
-          refused-by q (t.positions + 1) (next-from ∙ ap reaches e ∙ ap (stopped q) (ap suc (sym count-is) ∙ sym (add-one t.positions)))
+      read : {p : Result Scored Refusal} → p ≡ said_at s at → said_at file at ≡ p
+      read e = ap (λ (x : List ℕ). said_at x at) (sym G.whole) ∙ sym e
 
-      module _ (r : Row) (e : position_of left ≡ fine r) where
-        pub row-end : at + size_of left ≤ length file
-        row-end = omega (arith, row_within left r e, length-drop at file)
+      pub going-stopped : (q : Refusal) → Err q ≡ said_at s at → Reads (match_of file) scale (Err (record { refusal = q; position = t.positions + 1 })) k₀ l₀ m₀ k l m
+      going-stopped q e =
+          refused-by q (t.positions + 1) (next-from ∙ ap reaches (said-refused (size_of left) (position_of left) q (read e)) ∙ ap (stopped q) (ap suc (sym count-is) ∙ sym (add-one t.positions)))
+
+      -- it is the entry r, of so many bytes
+      module _ {p : Scored} (e : Ok p ≡ said_at s at) where
+        abbrev r : Row
+        r = p.row
+
+        abbrev size : ℕ
+        size = p.size
+
+        position-is : position_of left ≡ fine r
+        position-is = (said-fine (size_of left) (position_of left) p (read e)).0
+
+        size-is : size_of left ≡ size
+        size-is = (said-fine (size_of left) (position_of left) p (read e)).1
+
+        pub entry-small : SmallLoss r.loss
+        entry-small = row_small left r position-is
+
+        pub entry-end : (0 < size) × (at + size ≤ length file)
+        entry-end = (omega (arith, size-is), omega (arith, size-is, row_within left r position-is, length-drop at file))
 
         long : length (G.done ++ (r ∷ [])) ≡ suc n
         long = length-append G.done (r ∷ []) ∙ add-one n
 
-        pub going_on : Going file scale k₀ l₀ m₀ (set k t.positions (kind-of r)) (set l t.positions (loss-of r)) (set m t.positions (mark_of scale r)) (with_row t r) (at + size_of left)
-        going_on =
+        -- its loss, its mark and the totals as the code computes them
+        pub going_on : {z : ℤ} {x : ℕ} {t' : Totals} → z ≡ loss-of r → x ≡ mark_of scale r → t' ≡ with_row t r
+            → Going file scale k₀ l₀ m₀ (set k t.positions (kind-of r)) (set l t.positions z) (set m t.positions x) t' s (at + size)
+        going_on u q w =
             let c : n ≡ t.positions = sym count-is in
             let h : t.positions < 500 = omega (arith, count-is, less) in
-            record {
+            rw (u, q, w, ← size-is) (record {
+              whole = G.whole;
               done = G.done ++ (r ∷ []);
               totals = ap (λ (x : Totals). with_row x r) G.totals ∙ totals-more G.done r;
               few = omega (arith, long, less);
-              small = all_more G.done r G.small (row_small left r e);
-              place = row-end;
+              small = all_more G.done r G.small entry-small;
+              place = omega (arith, size-is, entry-end.1);
               kinds = listed_more kind-of k₀ G.done k t.positions G.kinds h r c;
               losses = listed_more loss-of l₀ G.done l t.positions G.losses h r c;
               marks = listed_more (mark_of scale) m₀ G.done m t.positions G.marks h r c;
               from = next-from
-                  ∙ ap reaches e
+                  ∙ ap reaches position-is
                   ∙ after-after G.done (r ∷ []) (match_from (500 - suc n) (suc (suc n)) (drop (size_of left) left))
                   ∙ ap (λ (s : List ℕ). after (G.done ++ (r ∷ [])) (match_from (500 - suc n) (suc (suc n)) s)) (drop-drop (size_of left) at file)
                   ∙ ap (λ (m : ℕ). after (G.done ++ (r ∷ [])) (match_from (500 - m) (suc m) (drop (at + size_of left) file))) (sym long);
-            }
-
--- the same of what the code computes: a listed loss, its mark, the totals and the place
-pub going-as : (file : List ℕ) (scale : Marking) (k₀ : List ℕ) (l₀ : List ℤ) (m₀ k : List ℕ) (l : List ℤ) (m : List ℕ) (n : ℕ) {z z' : ℤ} {x x' : ℕ} {t t' : Totals} {at at' : ℕ}
-    → z ≡ z' → x ≡ x' → t ≡ t' → at ≡ at'
-    → Going file scale k₀ l₀ m₀ k (set l n z) (set m n x) t at → Going file scale k₀ l₀ m₀ k (set l n z') (set m n x') t' at'
-going-as file scale k₀ l₀ m₀ k l m n p q r s G = subst (λ (X : Type 0). X) (λ i. Going file scale k₀ l₀ m₀ k (set l n (p i)) (set m n (q i)) (r i) (s i)) G
+            })

@@ -1,4 +1,3 @@
 pub mod Sums
 pub mod Going
-pub mod Written
 pub mod Answered

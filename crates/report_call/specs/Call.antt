@@ -1,21 +1,21 @@
 -- What the call `report` answers, and what it fills. Document 02, Items 1 and 11.
-use Rattle.std.specs.Prelude.{ℕ, min, cond, List, [], ltb, length, ℤ}
+use Rattle.mark.specs.declared.Marking.{Marking}
+use Rattle.line.specs.declared.Refusal.{Refusal}
+use Rattle.report.specs.declared.Totals.{Totals}
+use Rattle.report_call.specs.declared.Unreported.{Unreported}
+use Rattle.std.specs.Prelude.{ℕ, min, cond, List, [], ltb, length, ℤ, Err, Ok, Result}
 use Rattle.line.specs.declared.Refusal.TheVariants.{NoRoom}
 use Rattle.line.specs.Refusal.{number_of, line_of}
 use Rattle.report.specs.declared.Row.{Row}
 use Rattle.report.specs.Report.{Outcome, stopped, rows, match_of, kinds_in, losses_in, totals_of}
-use Rattle.mark.specs.declared.Choice
-use Rattle.mark.specs.declared.Choice.{Choice}
 use Rattle.mark.specs.Marks.{choice_of, marks_in}
-use Rattle.report_call.specs.declared.Reported.{Reported}
-use Rattle.report_call.specs.declared.Reported.TheVariants.{Done, Refused}
 
 -- ---- the refusals around those of the match
 
 -- Item 11: "Refused: 20, another scale number, before all else, line 0, position 0"
-abbrev pub by_scale : Choice → Outcome → Outcome
-by_scale (Choice.TheVariants.Refused r) o = stopped r 0
-by_scale (Choice.TheVariants.Known scale) o = o
+abbrev pub by_scale : Result Marking Refusal → Outcome → Outcome
+by_scale (Err r) o = stopped r 0
+by_scale (Ok scale) o = o
 
 -- "11, a list with fewer entries than positions, comes last. A refusal of no one position has position 0": `room` is how many entries there is
 -- room for
@@ -34,25 +34,25 @@ reported file scale room = by_scale (choice_of scale) (fit room (match_of file))
 -- ---- the answer
 
 -- "It returns the number of positions, and for M and N ..", or "that refusal with the position's number, from 1, and no totals"
-abbrev pub report_answer : Outcome → Reported
-report_answer (stopped r k) = Refused r k
-report_answer (rows rs) = Done (totals_of rs)
+abbrev pub report_answer : Outcome → Result Totals Unreported
+report_answer (stopped r k) = Err (record { refusal = r; position = k })
+report_answer (rows rs) = Ok (totals_of rs)
 
-abbrev pub report_call : List ℕ → (scale : ℤ) (room : ℕ) → Reported
+abbrev pub report_call : List ℕ → (scale : ℤ) (room : ℕ) → Result Totals Unreported
 report_call file scale room = report_answer (reported file scale room)
 
 -- the number, the line and the position of every answer, 0 where there is no refusal
-abbrev pub report_number : Reported → ℕ
-report_number (Done t) = 0
-report_number (Refused r k) = number_of r
+abbrev pub report_number : Result Totals Unreported → ℕ
+report_number (Ok t) = 0
+report_number (Err u) = number_of u.refusal
 
-abbrev pub report_line : Reported → ℕ
-report_line (Done t) = 0
-report_line (Refused r k) = line_of r
+abbrev pub report_line : Result Totals Unreported → ℕ
+report_line (Ok t) = 0
+report_line (Err u) = line_of u.refusal
 
-abbrev pub report_position : Reported → ℕ
-report_position (Done t) = 0
-report_position (Refused r k) = k
+abbrev pub report_position : Result Totals Unreported → ℕ
+report_position (Ok t) = 0
+report_position (Err u) = u.position
 
 -- ---- the lists
 
@@ -68,9 +68,9 @@ abbrev pub report_losses : List ℕ → (scale : ℤ) (room : ℕ) → List ℤ
 report_losses file scale room = losses_in (filled (reported file scale room))
 
 -- Item 11: "and lists a mark with each loss"
-abbrev pub marks_by : Choice → List Row → List ℕ
-marks_by (Choice.TheVariants.Refused r) rs = []
-marks_by (Choice.TheVariants.Known scale) rs = marks_in scale rs
+abbrev pub marks_by : Result Marking Refusal → List Row → List ℕ
+marks_by (Err r) rs = []
+marks_by (Ok scale) rs = marks_in scale rs
 
 abbrev pub report_marks : List ℕ → (scale : ℤ) (room : ℕ) → List ℕ
 report_marks file scale room = marks_by (choice_of scale) (filled (reported file scale room))

@@ -1,54 +1,60 @@
 // The public call of the match report. It takes any file, any scale and any lists, and ends with totals or a refusal.
 #![tactic(auto)]
 
-ghost use Rattle.std.specs.Prelude.{◌≡◌, [], ◌≤◌, length, take};
-ghost use Rattle.table.specs.Slices.{laid, fitted};
-ghost use Rattle.report.specs.Report.{loss_code, totals_of, match_of, kinds_in, losses_in};
+ghost use Rattle.std.specs.Prelude.{◌≡◌, length};
+ghost use Rattle.table.specs.Slices.{laid};
+ghost use Rattle.report.specs.Report.{loss_code, match_of, kinds_in, losses_in};
 ghost use Rattle.report.specs.Inside.{SmallLoss, SmallTally, SmallTotals};
 ghost use Rattle.mark.specs.Marks.{marks_in};
 ghost use Rattle.report_call.specs.Call.{room_in, report_answer, filled, report_call, report_kinds, report_losses, report_marks};
 ghost use Rattle.report_call.specs.Inside.{with_loss, with_row, Reads, match_in};
 
 use line::Refusal;
-use mark::{Choice, Marking};
-use numbers::min_of;
-use report::{Loss, Row, Tally, Totals};
-use scoring::Position;
+use mark::Marking;
+use report::{Row, Tally, Totals};
+use scoring::Match;
 
-// The totals; or a refusal with the position's number, from 1, and 0 for a refusal of no one position.
+// Why a match is not reported: a refusal with the position's number, from 1, and 0 for a refusal of no one position.
 #[derive(Clone, Copy)]
-pub enum Reported {
-    Done(Totals),
-    Refused(Refusal, usize),
+pub struct Unreported {
+    pub refusal: Refusal,
+    pub position: usize,
+}
+
+// Of no one position.
+impl From<Refusal> for Unreported {
+    ghost from_gives = { λ refusal gives. gives ≡ record { refusal = refusal; position = 0 } };
+
+    fn from(refusal: Refusal) -> Unreported {
+        Unreported {
+            refusal,
+            position: 0,
+        }
+    }
 }
 
 // A loss as it is listed.
-fn loss_code(l: Loss) -> i64
+fn loss_code(l: Option<u64>) -> i64
     requires { SmallLoss l }
     ensures { result ≡ loss_code l }
 {
     match l {
-        Loss::NoDecision => -1,
-        Loss::Thousandths(n) => n as i64,
+        None => -1,
+        Some(n) => n as i64,
     }
 }
 
 // The tally of a side with one entry more.
-fn with_loss(t: Tally, side: u8, kind: u8, loss: Loss) -> Tally
+fn with_loss(t: Tally, side: u8, kind: u8, loss: Option<u64>) -> Tally
     requires { SmallTally t × SmallLoss loss }
     ensures { result ≡ with_loss t side kind loss }
 {
     match loss {
-        Loss::NoDecision => t,
-        Loss::Thousandths(n) => {
-            if kind != side {
-                return t;
-            }
-            Tally {
-                decisions: t.decisions + 1,
-                sum: t.sum + n,
-            }
-        }
+        Some(n) if kind == side => Tally {
+            decisions: t.decisions + 1,
+            sum: t.sum + n,
+        },
+        _ => t,
     }
 }
 
@@ -56,30 +62,10 @@ fn with_row(t: Totals, r: Row) -> Totals
     requires { SmallTotals t × SmallLoss r.loss }
     ensures { result ≡ with_row t r }
 {
-    let max = t.max;
-    let min = t.min;
-    let loss = r.loss;
-    let m = with_loss(max, 1, r.kind, loss);
-    let n = with_loss(min, 2, r.kind, loss);
     Totals {
         positions: t.positions + 1,
-        max: m,
-        min: n,
-    }
-}
-
-// "An empty file gives zeros".
-fn zero_totals() -> Totals
-    ensures { result ≡ totals_of [] }
-{
-    let none = Tally {
-        decisions: 0,
-        sum: 0,
-    };
-    Totals {
-        positions: 0,
-        max: none,
-        min: none,
+        max: with_loss(t.max, 1, r.kind, r.loss),
+        min: with_loss(t.min, 2, r.kind, r.loss),
     }
 }
 
@@ -91,49 +77,40 @@ fn read_all(
     kinds: &mut [u8],
     losses: &mut [i64],
     marks: &mut [u8],
-) -> Reported
+) -> Result<Totals, Unreported>
     requires { (length kinds.old ≡ 500) × (length losses.old ≡ 500) × (length marks.old ≡ 500) }
     ensures { Reads (match_of file.now) scale result kinds.old losses.old marks.old kinds.new losses.new marks.new }
 {
-    let mut t = zero_totals();
-    let mut at: usize = 0;
-    while at < file.len() {
+    // "An empty file gives zeros"
+    let mut t = Totals::default();
+    let mut reader = Match { file, at: 0 };
+    while reader.at < file.len() {
         let n = t.positions;
         if n == 500 {
-            let many = Refusal::TooMany;
-            return Reported::Refused(many, 501);
+            let many = Unreported {
+                refusal: Refusal::TooMany,
+                position: 501,
+            };
+            return Err(many);
         }
-        match scoring::read_at(file, at) {
-            Position::Refused(r) => {
-                let k = n + 1;
-                return Reported::Refused(r, k);
+        match reader.here() {
+            Err(refusal) => {
+                let refused = Unreported {
+                    refusal,
+                    position: n + 1,
+                };
+                return Err(refused);
             }
-            Position::Entry(r, size) => {
-                let l = r.loss;
-                kinds[n] = r.kind;
-                losses[n] = loss_code(l);
-                marks[n] = mark::mark_code(scale, l);
-                at = at + size;
-                t = with_row(t, r);
+            Ok(p) => {
+                kinds[n] = p.row.kind;
+                losses[n] = loss_code(p.row.loss);
+                marks[n] = scale.mark_code(p.row.loss);
+                reader.at += p.size;
+                t = with_row(t, p.row);
             }
         }
     }
-    Reported::Done(t)
-}
-
-// The first n entries, or as many as there is room for, copied: `reading::keep8` for signed numbers.
-fn keep_losses(n: usize, from: &[i64], to: &mut [i64])
-    requires { n ≤ length from.now }
-    ensures { to.new ≡ fitted (take n from.now) to.old }
-{
-    let mut i = 0;
-    while i < n {
-        if to.len() <= i {
-            return;
-        }
-        to[i] = from[i];
-        i += 1;
-    }
+    Ok(t)
 }
 
 // The report by a scale that is known.
@@ -143,7 +120,7 @@ fn report_by(
     kinds: &mut [u8],
     losses: &mut [i64],
     marks: &mut [u8],
-) -> Reported
+) -> Result<Totals, Unreported>
     ensures answers { result ≡ report_answer (match_in file.now kinds.old losses.old marks.old) }
     ensures kinds { kinds.new ≡ laid (kinds_in (filled (match_in file.now kinds.old losses.old marks.old))) kinds.old }
     ensures losses { losses.new ≡ laid (losses_in (filled (match_in file.now kinds.old losses.old marks.old))) losses.old }
@@ -152,23 +129,15 @@ fn report_by(
     let mut own_kinds = [0u8; 500];
     let mut own_losses = [0i64; 500];
     let mut own_marks = [0u8; 500];
-    match read_all(file, scale, &mut own_kinds, &mut own_losses, &mut own_marks) {
-        Reported::Refused(r, k) => Reported::Refused(r, k),
-        Reported::Done(t) => {
-            let n = t.positions;
-            let room = min_of(
-                min_of(kinds.len() as u64, losses.len() as u64),
-                marks.len() as u64,
-            );
-            if room < n as u64 {
-                return Reported::Refused(Refusal::NoRoom, 0);
-            }
-            reading::keep8(n, &own_kinds, kinds);
-            keep_losses(n, &own_losses, losses);
-            reading::keep8(n, &own_marks, marks);
-            Reported::Done(t)
-        }
+    let t = read_all(file, scale, &mut own_kinds, &mut own_losses, &mut own_marks)?;
+    let n = t.positions;
+    if kinds.len().min(losses.len()).min(marks.len()) < n {
+        return Err(Unreported::from(Refusal::NoRoom));
     }
+    reading::keep(&own_kinds[..n], kinds);
+    reading::keep(&own_losses[..n], losses);
+    reading::keep(&own_marks[..n], marks);
+    Ok(t)
 }
 
 // The report: for any file, any scale's number and any lists. Each list gets an entry for each position, and keeps its others; a refused call
@@ -179,14 +148,12 @@ pub fn report(
     kinds: &mut [u8],
     losses: &mut [i64],
     marks: &mut [u8],
-) -> Reported
+) -> Result<Totals, Unreported>
     ensures answers { result ≡ report_call file.now scale (room_in kinds.old losses.old marks.old) }
     ensures kinds { kinds.new ≡ laid (report_kinds file.now scale (room_in kinds.old losses.old marks.old)) kinds.old }
     ensures losses { losses.new ≡ laid (report_losses file.now scale (room_in kinds.old losses.old marks.old)) losses.old }
     ensures marks { marks.new ≡ laid (report_marks file.now scale (room_in kinds.old losses.old marks.old)) marks.old }
 {
-    match mark::choice_of(scale) {
-        Choice::Refused(r) => Reported::Refused(r, 0),
-        Choice::Known(s) => report_by(file, s, kinds, losses, marks),
-    }
+    let scale = Marking::try_from(scale)?;
+    report_by(file, scale, kinds, losses, marks)
 }

@@ -1,4 +1,7 @@
--- What an answer of the rollouts tells of its sizes. Assumes nothing.
+-- What an answer of the rollouts tells of its sizes.
+use Rattle.std.proofs.Common.{Err, Ok, Result}
+use Rattle.rolled.specs.declared.RolledOut.{RolledOut}
+use Rattle.line.specs.declared.Refusal.{Refusal}
 use Prim.Native.Nat.{ℕ, ◌≤◌}
 use mathlib.Core.Path.{◌≡◌, refl, sym, ap₂, subst}
 use mathlib.Core.Bool.{Bool, true, false, ◌||◌}
@@ -14,14 +17,12 @@ use Rattle.table.proofs.Accepted.{accepted-size, accepted-leaves, accepted-leaf-
 use Rattle.table.proofs.Places.{refused-line}
 use Rattle.rollout.specs.Whole.{has_chance}
 use Rattle.rollout.proofs.Demand.{few-leaves}
-use Rattle.rolled.specs.declared.Rolled.{Rolled}
-use Rattle.rolled.specs.declared.Rolled.TheVariants.{Done, Refused}
 use Rattle.rolled.specs.Call.{rolls, roll_answer, roll_call}
 
 -- at most 1024 leaves are read, and the line of a refusal is at most 1024
-abbrev pub RollSized : Rolled → Type 0
-RollSized (Done worth n) = n ≤ 1024
-RollSized (Refused r) = line_of r ≤ 1024
+abbrev pub RollSized : Result RolledOut Refusal → Type 0
+RollSized (Ok w) = w.leaves ≤ 1024
+RollSized (Err r) = line_of r ≤ 1024
 
 module _ (s P : List ℕ) (list room : ℕ) where
   -- an accepted table t by its two tests

@@ -1,4 +1,4 @@
--- An accepted table can be rolled out, and what `rollouts` leaves is the rollouts of the table. Assumes nothing.
+-- An accepted table can be rolled out, and what `rollouts` leaves is the rollouts of the table.
 use Prim.Native.Nat.{ℕ, ◌*◌, ◌≤◌, ◌<◌}
 use mathlib.Core.Path.{◌≡◌, refl, sym, ap, subst, ◌∙◌}
 use mathlib.Core.List.{List, [], ◌∷◌, map}

@@ -1,4 +1,4 @@
--- No bound is ever above the highest end, over heights: so every record fits its number. Assumes nothing.
+-- No bound is ever above the highest end, over heights: so every record fits its number.
 use Prim.Native.Nat.{ℕ, suc, ◌+◌, ◌*◌, ◌≤◌, ◌<◌}
 use mathlib.Core.Path.{◌≡◌}
 use mathlib.Core.Bool.{Bool}

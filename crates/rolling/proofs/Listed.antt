@@ -1,4 +1,4 @@
--- Rollouts of an accepted table over two lists by node number, walk by walk: what the code's loop keeps. Assumes nothing.
+-- Rollouts of an accepted table over two lists by node number, walk by walk: what the code's loop keeps.
 use Prim.Native.Nat.{ℕ, zero, suc, ◌*◌, ◌-◌, min, max, ◌≤◌, ◌<◌}
 use mathlib.Core.Path.{◌≡◌, refl, sym, ap, ap₂, ◌∙◌, subst, subst₂}
 use mathlib.Core.Bool.{true, false}

@@ -1,4 +1,4 @@
--- The loop over the walks of an accepted table: what it keeps, from the first walk to the last. Assumes nothing.
+-- The loop over the walks of an accepted table: what it keeps, from the first walk to the last.
 use Prim.Native.Nat.{ℕ, suc, ◌+◌, ◌*◌, ◌≤◌, ◌<◌, min, max}
 use mathlib.Core.Path.{◌≡◌, refl, sym, ap, ap₂, subst, subst₂, ◌∙◌}
 use mathlib.Core.Bool.{true}
@@ -65,24 +65,18 @@ module _ {K S H : List ℕ} {G n : ℕ} {st0 : Store} (came P : List ℕ) (R : R
         leaves = refl;
       }
 
-  some : 0 < n
-  some = root-some (slices K S R.weights H) n F R.spans (heights-rooted R.text R.table R.accepted)
+  pub rolling-some : 0 < n
+  rolling-some = root-some (slices K S R.weights H) n F R.spans (heights-rooted R.text R.table R.accepted)
 
   module _ {used at : ℕ} {st : Store} {now : List ℕ} (L : Rolling used at st now) where
-    pub rolling-room : (0 < length st.low) × (0 < length st.high)
-    rolling-room =
-        let r = L.going.room in
-        (omega (arith, some, R.size, r.0), omega (arith, some, R.size, r.1))
-
-    pub rolling-end : (a b : ℕ) → a ≡ low_at st 0 → b ≡ high_at st 0 → b ≤ a
-        → RolledIn (roll_s (grain R.table) (leaves F) P F st0) st used came now
-    rolling-end a b ea eb le =
+    pub rolling-end : high_at st 0 ≤ low_at st 0 → RolledIn (roll_s (grain R.table) (leaves F) P F st0) st used came now
+    rolling-end le =
         subst (λ d. RolledIn d st used came now)
-        (sym (going_end R.text R.table R.accepted P st0 L.read (drop at P) st L.going (le-ltb (low_at st 0) (high_at st 0) (omega (arith, ea, eb)))))
+        (sym (going_end R.text R.table R.accepted P st0 L.read (drop at P) st L.going (le-ltb (low_at st 0) (high_at st 0) le)))
         (record { store = refl; used = L.count; leaves = L.leaves })
 
-    module _ (a b : ℕ) (ea : a ≡ low_at st 0) (eb : b ≡ high_at st 0) (o : a < b) where
-      pub rolling-ready : ReadyNode K S H G 0 a b st
+    module _ (o : low_at st 0 < high_at st 0) where
+      pub rolling-ready : ReadyNode K S H G 0 (low_at st 0) (high_at st 0) st
       rolling-ready =
           let s = R.text in
           let t = R.table in
@@ -93,9 +87,9 @@ module _ {K S H : List ℕ} {G n : ℕ} {st0 : Store} (came P : List ℕ) (R : R
             nodes = F;
             upto = n;
             spans = R.spans;
-            some = some;
+            some = rolling-some;
             sound = subst (λ (g : ℕ). Sound (keep g F st)) (sym R.grained) (going-sound s t h P st0 L.read (drop at P) st L.going);
-            live = subst₂ (λ (x y : ℕ). candidate natural x y (low_at st 0) (high_at st 0) ≡ true) (sym ea) (sym eb) (own-window (low_at st 0) (high_at st 0) (omega (arith, ea, eb)));
+            live = own-window (low_at st 0) (high_at st 0) o;
             grain = omega (arith, R.grained, accepted-grain s t h);
             kinds = R.kinds;
             stops = R.stops;
@@ -109,15 +103,14 @@ module _ {K S H : List ℕ} {G n : ℕ} {st0 : Store} (came P : List ℕ) (R : R
       one = walk_s (grain R.table) (low_at st 0) (high_at st 0) 0 (drop at P) F st
 
       -- r and st2 are what a walk left
-      module _ (r : Step) (st2 : Store) (told : Walked K S H G a b (drop at P) st r P st2) where
+      module _ (r : Step) (st2 : Store) (told : Walked K S H G (low_at st 0) (high_at st 0) (drop at P) st r P st2) where
         walked : WalkLeft one r P st2
         unfolding rolling-ready
         walked =
-            subst₂ (λ (x y : ℕ). WalkLeft (walk_s (grain R.table) x y 0 (drop at P) F st) r P st2) ea eb
-            (subst (λ (g : ℕ). WalkLeft (walk_s g a b 0 (drop at P) F st) r P st2) R.grained (told rolling-ready))
+            subst (λ (g : ℕ). WalkLeft (walk_s g (low_at st 0) (high_at st 0) 0 (drop at P) F st) r P st2) R.grained (told rolling-ready)
 
         next : (m : ℕ) × (one.read ≡ m ∷ []) × (length L.read < leaves F) × Going R.text R.table R.accepted P st0 (L.read ++ (m ∷ [])) one.policy one.store
-        next = going-walk R.text R.table R.accepted P st0 L.read (drop at P) st L.going (lt-ltb (low_at st 0) (high_at st 0) (omega (arith, ea, eb)))
+        next = going-walk R.text R.table R.accepted P st0 L.read (drop at P) st L.going (lt-ltb (low_at st 0) (high_at st 0) o)
 
         pub rolling-less : used < length came
         rolling-less = omega (arith, L.count, next.2, R.space)
@@ -132,8 +125,8 @@ module _ {K S H : List ℕ} {G n : ℕ} {st0 : Store} (came P : List ℕ) (R : R
         pub rolling-small : r.leaf < 1024
         rolling-small = walked.small
 
-        pub rolling-on : (later : List ℕ) → later ≡ set now used r.leaf → Rolling (used + 1) r.used st2 later
-        rolling-on later e =
+        pub rolling-on : Rolling (used + 1) r.used st2 (set now used r.leaf)
+        rolling-on =
             let l = L.read in
             let m : ℕ = next.0 in
             let same : m ≡ r.leaf = ap (first_or 0) (sym next.1 ∙ walked.read) in
@@ -145,6 +138,6 @@ module _ {K S H : List ℕ} {G n : ℕ} {st0 : Store} (came P : List ℕ) (R : R
                   (subst (λ (x : ℕ). Going R.text R.table R.accepted P st0 (l ++ (x ∷ [])) one.policy one.store) same g);
               count = omega (arith, L.count, length-append l (r.leaf ∷ []));
               leaves =
-                  e ∙ ap₂ (λ (y : List ℕ) (k : ℕ). set y k r.leaf) L.leaves L.count
+                  ap₂ (λ (y : List ℕ) (k : ℕ). set y k r.leaf) L.leaves L.count
                   ∙ laid_more l came r.leaf (omega (arith, L.count, rolling-less));
             }

@@ -1,4 +1,4 @@
--- A walk's way down to a leaf and up again: what the two loops keep. Assumes nothing.
+-- A walk's way down to a leaf and up again: what the two loops keep.
 use Prim.Native.Nat.{ℕ, zero, suc, ◌+◌, ◌-◌, ◌*◌, ◌≤◌, ◌<◌}
 use mathlib.Core.Path.{◌≡◌, refl, sym, ap, ap₂, subst, ◌∙◌}
 use mathlib.Core.List.{List}
@@ -9,9 +9,9 @@ use Rattle.table.specs.Tree.{kind_of}
 use Rattle.rollout.specs.Rollout.{spend, over}
 use Rattle.rollout.specs.Inside.Heights.{natural}
 use Rattle.rolling.specs.declared.Step.{Step}
-use Rattle.rolling.specs.Inside.Lists.{Store, WalkS, put_both, walk_s}
-use Rattle.rolling.specs.Inside.Contracts.{stored, Siblings, bounds_in, Children, Updated, ReadyNode, WalkLeft, read_at, updated, Rung, Up, Landed, Climb, Climbed}
-use Rattle.rolling.proofs.Walks.{Window, Choosing, ready-leaf, inner-rung, inner-child, child-ready, child-upto, inner-walk}
+use Rattle.rolling.specs.Inside.Lists.{Store, WalkS, walk_s}
+use Rattle.rolling.specs.Inside.Contracts.{stored, bounds_in, Children, Updated, ReadyNode, WalkLeft, read_at, updated, Rung, Up, Landed, Climb, Climbed}
+use Rattle.rolling.proofs.Walks.{Own, Choosing, ready-leaf, inner-rung, inner-child, child-ready, child-upto, inner-walk}
 
 -- ---- the updates on the way up
 
@@ -53,37 +53,51 @@ pub descent-begin : {K S H : List ℕ} {G α β : ℕ} {st : Store} (P Q : List 
 unfolding Up
 descent-begin P Q at R = record { ready = R; within = omega arith; deep = omega arith; rungs = refl }
 
-module _ {K S H : List ℕ} {G upto : ℕ} {whole : WalkS} {st : Store} {P Q : List ℕ} {c depth at α β : ℕ} (D : Descent K S H G upto whole st P Q c depth at α β)
-    (long : 1024 ≤ length Q) where
-  pub descent-fits : depth < length Q
-  descent-fits = let R = D.ready in omega (arith, D.deep, R.some, R.few)
+-- entry c is a node, and it has `depth` nodes above it
+pub record Within (K : List ℕ) (st : Store) (c depth : ℕ) : Type 0 where
+  pub nodes : c < length K
+  pub low : c < length st.low
+  pub high : c < length st.high
+  pub few : c < 1024
+  pub deep : depth ≤ c
 
-  pub descent-end : (y : ℕ) → y ≡ get_or K c 0 → y ≡ 0 → Landed K S H G upto whole st P Q (record { leaf = c; depth = depth; used = at })
-  descent-end y q z =
+module _ {K S H : List ℕ} {G upto : ℕ} {whole : WalkS} {st : Store} {P Q : List ℕ} {c depth at α β : ℕ} (D : Descent K S H G upto whole st P Q c depth at α β) where
+  pub descent-within : Within K st c depth
+  descent-within =
+      let R = D.ready in
       record {
-        rungs = subst (λ (w : WalkS). Up K S Q upto whole depth w) (ready-leaf D.ready y q z (drop at P)) D.rungs;
-        some = let R = D.ready in omega (arith, R.some, D.within);
-        deep = omega (arith, descent-fits);
+        nodes = omega (arith, R.some, R.kinds);
+        low = omega (arith, R.some, R.low);
+        high = omega (arith, R.some, R.high);
+        few = omega (arith, R.some, R.few);
+        deep = D.deep;
       }
 
-  module _ {y e a b : ℕ} (w : Window K S st c α β y e a b) {j i : ℕ} (g : Choosing S c e a b st (drop at P) j i) where
+  pub descent-end : depth ≤ length Q → get_or K c 0 ≡ 0 → Landed K S H G upto whole st P Q (record { leaf = c; depth = depth; used = at })
+  descent-end room z =
+      record {
+        rungs = subst (λ (w : WalkS). Up K S Q upto whole depth w) (ready-leaf D.ready z (drop at P)) D.rungs;
+        some = let R = D.ready in omega (arith, R.some, D.within);
+        deep = room;
+      }
+
+  module _ {e a b : ℕ} (w : Own K S st c α β e a b) {j i : ℕ} (g : Choosing S c e a b st (drop at P) j i) where
     pub descent-later : c < i
     descent-later = omega (arith, (inner-child D.ready w g).from)
 
-    pub descent-turn : (u : ℕ) → drop u P ≡ spend (drop at P) → (Q' : List ℕ) → Q' ≡ set Q depth c → Descent K S H G upto whole st P Q' i (depth + 1) u a b
-    descent-turn u eu Q' eq =
+    pub descent-turn : depth < length Q → (u : ℕ) → drop u P ≡ spend (drop at P) → Descent K S H G upto whole st P (set Q depth c) i (depth + 1) u a b
+    descent-turn room u eu =
         let R = D.ready in
         let r = inner-rung R w in
         let up : Rung S c upto = record { under = r.under; row = r.row; some = r.some; within = omega (arith, r.within, D.within) } in
-        subst (λ (q : List ℕ). Descent K S H G upto whole st P q i (depth + 1) u a b) (sym eq)
-        (record {
+        record {
           ready = child-ready R w g;
           within = omega (arith, child-upto R w g, D.within);
           deep = omega (arith, D.deep, descent-later);
           rungs =
-              up_one K S Q upto whole depth c (walk_s G a b 0 (drop u P) (child-ready R w g).nodes st) descent-fits up
+              up_one K S Q upto whole depth c (walk_s G a b 0 (drop u P) (child-ready R w g).nodes st) room up
               (subst (λ (v : WalkS). Up K S Q upto whole depth v) (inner-walk R w g (drop u P) eu) D.rungs);
-        })
+        }
 
 -- ---- up
 
@@ -130,63 +144,55 @@ module _ {K S Q : List ℕ} {d : ℕ} {st : Store} (C : Climb K S Q d st) where
       rung =
           subst (λ (x : ℕ). (r : Rung S x C.upto) × Up K S Q C.upto C.whole (d - 1) (updated (kind_of (get_or K x 0)) r.under x C.last)) (sym ec) both
 
-      pub climb-within : c < C.upto
-      climb-within = let r = rung.0 in omega (arith, r.some, r.within)
+      pub climb-children : let e : ℕ = get_or S c 0 in Children S (c + 1) e × (c + 1 < e) × (e ≤ length st.low) × (e ≤ length st.high)
+      climb-children =
+          let r = rung.0 in (
+            record { nodes = r.under; row = r.row; room = omega (arith, r.within, C.stops); few = omega (arith, r.within, C.few) },
+            r.some,
+            omega (arith, r.within, C.low),
+            omega (arith, r.within, C.high),
+          )
 
-      -- and where its run stops as e
-      module _ (e : ℕ) (ee : e ≡ get_or S c 0) where
-        row-to : Siblings S (c + 1) e rung.0.under
-        row-to = subst (λ (x : ℕ). Siblings S (c + 1) x rung.0.under) (sym ee) rung.0.row
+      -- and it is updated
+      module _ (low high : List ℕ) (el : Updated (kind_of (get_or K c 0)) S c (get_or S c 0) st.low low) (eh : Updated (kind_of (get_or K c 0)) S c (get_or S c 0) st.high high) where
+        -- a list of bounds with the node's extreme
+        abbrev now_of : List ℕ → List ℕ
+        now_of came = set came c (over natural (kind_of (get_or K c 0)) 0 (bounds_in rung.0.under came))
 
-        pub climb-children : Children S (c + 1) e × (c + 1 < e) × (e ≤ length st.low) × (e ≤ length st.high)
-        climb-children =
-            let r = rung.0 in (
-              record { nodes = r.under; row = row-to; room = omega (arith, ee, r.within, C.stops); few = omega (arith, ee, r.within, C.few) },
-              omega (arith, ee, r.some),
-              omega (arith, ee, r.within, C.low),
-              omega (arith, ee, r.within, C.high),
-            )
+        long : (came : List ℕ) → length (now_of came) ≡ length came
+        long came = length-set came c (over natural (kind_of (get_or K c 0)) 0 (bounds_in rung.0.under came))
 
-        -- y is its kind, and it is updated
-        module _ (y : ℕ) (ey : y ≡ get_or K c 0) (low high : List ℕ) (el : Updated (kind_of y) S c e st.low low) (eh : Updated (kind_of y) S c e st.high high) where
-          set_is : (came now : List ℕ) → Updated (kind_of y) S c e came now → now ≡ set came c (over natural (kind_of (get_or K c 0)) 0 (bounds_in rung.0.under came))
-          set_is came now h =
-              h rung.0.under row-to
-              ∙ ap (λ (k : ℕ). set came c (over natural (kind_of k) 0 (bounds_in rung.0.under came))) ey
+        climb-on : Climb K S Q (d - 1) (stored low high)
+        climb-on =
+            let l : low ≡ now_of st.low = el rung.0.under rung.0.row in
+            let h : high ≡ now_of st.high = eh rung.0.under rung.0.row in
+            record {
+              upto = C.upto;
+              whole = C.whole;
+              last = updated (kind_of (get_or K c 0)) rung.0.under c C.last;
+              rungs = rung.1;
+              store = ap (λ (s : Store). stored (now_of s.low) (now_of s.high)) C.store ∙ sym (ap₂ stored l h);
+              path = omega (arith, C.path);
+              kinds = C.kinds;
+              stops = C.stops;
+              low = omega (arith, C.low, ap length l, long st.low);
+              high = omega (arith, C.high, ap length h, long st.high);
+              few = C.few;
+            }
 
-          long : (came now : List ℕ) → Updated (kind_of y) S c e came now → length now ≡ length came
-          long came now h = ap length (set_is came now h) ∙ length-set came c (over natural (kind_of (get_or K c 0)) 0 (bounds_in rung.0.under came))
-
-          climb-on : Climb K S Q (d - 1) (stored low high)
-          climb-on =
-              record {
-                upto = C.upto;
-                whole = C.whole;
-                last = updated (kind_of (get_or K c 0)) rung.0.under c C.last;
-                rungs = rung.1;
-                store =
-                    ap (λ (s : Store). put_both s c (over natural (kind_of (get_or K c 0)) 0 (bounds_in rung.0.under s.low)) (over natural (kind_of (get_or K c 0)) 0 (bounds_in rung.0.under s.high))) C.store
-                    ∙ sym (ap₂ stored (set_is st.low low el) (set_is st.high high eh));
-                path = omega (arith, C.path);
-                kinds = C.kinds;
-                stops = C.stops;
-                low = omega (arith, C.low, long st.low low el);
-                high = omega (arith, C.high, long st.high high eh);
-                few = C.few;
-              }
-
-          climb-whole : climb-on.whole ≡ C.whole
-          unfolding climb-on
-          climb-whole = refl
+        climb-whole : climb-on.whole ≡ C.whole
+        unfolding climb-on
+        climb-whole = refl
 
 -- d nodes of the path are left of those that C has, and the store is now st
 abbrev pub Climbing : {K S Q : List ℕ} {n : ℕ} {came : Store} → Climb K S Q n came → ℕ → Store → Type 0
 Climbing {K} {S} {Q} C d st = (D : Climb K S Q d st) × (D.whole ≡ C.whole)
 
 pub climbing-on : {K S Q : List ℕ} {n : ℕ} {came : Store} (C : Climb K S Q n came) {d : ℕ} {st : Store} → Climbing C d st → (o : 0 < d)
-    → (c : ℕ) → c ≡ get_or Q (d - 1) 0 → (y : ℕ) → y ≡ get_or K c 0 → (e : ℕ) → e ≡ get_or S c 0
-    → (low high : List ℕ) → Updated (kind_of y) S c e st.low low → Updated (kind_of y) S c e st.high high → Climbing C (d - 1) (stored low high)
-climbing-on C (D, same) o c ec y ey e ee low high el eh = (climb-on D o c ec e ee y ey low high el eh, climb-whole D o c ec e ee y ey low high el eh ∙ same)
+    → (c : ℕ) → c ≡ get_or Q (d - 1) 0 → (low high : List ℕ)
+    → Updated (kind_of (get_or K c 0)) S c (get_or S c 0) st.low low → Updated (kind_of (get_or K c 0)) S c (get_or S c 0) st.high high
+    → Climbing C (d - 1) (stored low high)
+climbing-on C (D, same) o c ec low high el eh = (climb-on D o c ec low high el eh, climb-whole D o c ec low high el eh ∙ same)
 
 -- ---- the whole walk
 

@@ -1,11 +1,13 @@
--- The children of a node, entry by entry: what the loops over them keep. Assumes nothing.
+-- The children of a node, entry by entry: what the loops over them keep.
 use Prim.Native.Nat.{ℕ, zero, suc, pred, ◌+◌, ◌-◌, ◌≤◌, ◌<◌}
-use mathlib.Core.Path.{◌≡◌, refl, sym, ap, ap₂, subst, ◌∙◌}
+use mathlib.Core.Path.{◌≡◌, refl, sym, ap, subst, ◌∙◌}
 use mathlib.Core.Bool.{Bool, true, false, ◌&&◌, cond}
 use mathlib.Core.List.{List, [], ◌∷◌}
 use native.Mathlib.Omega.{arith}
+use borrow.Author.Tests.{ne_eqb}
 use lib.Dec.{eqb}
 use lib.ListN.{get_or}
+use mir.Val.{bool_byte}
 use Rattle.line.proofs.Signs.{true-ne-false}
 use Rattle.table.specs.Tree.{MAX, MIN, CHANCE, Kind, Forest, end, leaf, inner}
 use Rattle.table.specs.Inside.{Slices, Spans}
@@ -67,7 +69,11 @@ spans-row t c e (inner n w k under rest) h =
 
 -- ---- the definitions, one node at a time
 
-pub one_more : (b : Bool) (x : ℕ) → cond b (suc x) x ≡ cond b 1 0 + x
+pub one-most : (b : Bool) → bool_byte b ≤ 1
+one-most true = omega arith
+one-most false = omega arith
+
+pub one_more : (b : Bool) (x : ℕ) → cond b (suc x) x ≡ bool_byte b + x
 one_more true x = omega arith
 one_more false x = omega arith
 
@@ -77,7 +83,7 @@ module _ (α β : ℕ) (st : Store) where
   live c = candidate natural α β (low_at st c) (high_at st c)
 
   pub candidates-first : (S : List ℕ) (c e : ℕ) (F : Forest ℕ) → Siblings S c e F → c < e
-      → candidates_s α β F st ≡ cond (live c) 1 0 + candidates_s α β (rest_of F) st
+      → candidates_s α β F st ≡ bool_byte (live c) + candidates_s α β (rest_of F) st
   unfolding Siblings candidates_s
   candidates-first S c e end h lt = absurd (omega arith)
   candidates-first S c e (leaf n w x rest) h lt = rw h.0 (one_more (live c) (candidates_s α β rest st))
@@ -115,20 +121,16 @@ pub record Counting (S : List ℕ) (e α β : ℕ) (st : Store) (F : Forest ℕ)
   pub row : Siblings S i e nodes
   pub count : candidates_s α β F st ≡ m + candidates_s α β nodes st
 
-pub count-start : (S : List ℕ) (c e α β : ℕ) (st : Store) (F : Forest ℕ) → Siblings S c e F → Counting S e α β st F 0 c
-count-start S c e α β st F h = record { nodes = F; row = h; count = omega arith }
-
 module _ {S : List ℕ} {e α β : ℕ} {st : Store} {F : Forest ℕ} {m i : ℕ} (C : Counting S e α β st F m i) where
   pub count-first : i < e → First S i e C.nodes
   count-first lt = first S i e C.nodes C.row lt
 
-  pub count_turn : i < e → (b : Bool) (o i' : ℕ) → b ≡ live α β st i → o ≡ cond b 1 0 → i' ≡ get_or S i 0 → Counting S e α β st F (m + o) i'
-  count_turn lt b o i' p q r =
-      let one : o ≡ cond (live α β st i) 1 0 = q ∙ ap (λ (x : Bool). cond x 1 0) p in
+  pub count_turn : i < e → (o i' : ℕ) → o ≡ bool_byte (live α β st i) → i' ≡ get_or S i 0 → Counting S e α β st F (m + o) i'
+  count_turn lt o i' q r =
       record {
         nodes = rest_of C.nodes;
         row = subst (λ (n : ℕ). Siblings S n e (rest_of C.nodes)) (sym r) (count-first lt).rest;
-        count = omega (arith, C.count, one, candidates-first α β st S i e C.nodes C.row lt);
+        count = omega (arith, C.count, candidates-first α β st S i e C.nodes C.row lt);
       }
 
   pub count-end : e ≤ i → m ≡ candidates_s α β F st
@@ -152,12 +154,12 @@ candidates-some α β st S c e (leaf n w x rest) h lt = let r = row-le S (get_or
 candidates-some α β st S c e (inner n w k under rest) h lt = let r = row-le S (get_or S c 0) e rest h.2 in omega (arith, h.1)
 
 -- counted down
-pub down_is : (b : Bool) (j : ℕ) → cond b (pred j) j ≡ j - cond b 1 0
+pub down_is : (b : Bool) (j : ℕ) → cond b (pred j) j ≡ j - bool_byte b
 down_is true zero = refl
 down_is true (suc j) = omega arith
 down_is false j = omega arith
 
-pub down-some : (b : Bool) (j m : ℕ) → (b && eqb j 0) ≡ false → j < cond b 1 0 + m → (cond b 1 0 ≤ j) × (j - cond b 1 0 < m)
+pub down-some : (b : Bool) (j m : ℕ) → (b && eqb j 0) ≡ false → j < bool_byte b + m → (bool_byte b ≤ j) × (j - bool_byte b < m)
 down-some true zero m e l = absurd (true-ne-false e)
 down-some true (suc j) m e l = (omega arith, omega arith)
 down-some false j m e l = (omega arith, omega arith)
@@ -169,31 +171,33 @@ module _ {S : List ℕ} {e α β : ℕ} {st : Store} {F : Forest ℕ} {j left i 
   pub seek-first : First S i e C.nodes
   seek-first = first S i e C.nodes C.row seek-within
 
-  pub seek_found : (b : Bool) → b ≡ live α β st i → (b && eqb left 0) ≡ true → i ≡ chosen α β j F st
-  seek_found b p t =
-      sym (C.same ∙ chosen-first α β st S i e left C.nodes C.row seek-within
-      ∙ ap (λ (x : Bool). cond x i (chosen α β (cond (live α β st i) (pred left) left) (rest_of C.nodes) st)) (ap (λ (x : Bool). x && eqb left 0) (sym p) ∙ t))
+  pub seek_found : live α β st i ≡ true → left ≡ 0 → i ≡ chosen α β j F st
+  seek_found p z =
+      sym (C.same ∙ chosen-first α β st S i e left C.nodes C.row seek-within ∙ rw (p, z) refl)
 
-  -- the node is not the one that is sought: o is 1 if it is a candidate
-  module _ (b : Bool) (p : b ≡ live α β st i) (t : (b && eqb left 0) ≡ false) (o : ℕ) (q : o ≡ cond b 1 0) where
-    less : (cond b 1 0 ≤ left) × (left - cond b 1 0 < candidates_s α β (rest_of C.nodes) st)
-    less =
-        down-some b left (candidates_s α β (rest_of C.nodes) st) t
-        (omega (arith, C.some, candidates-first α β st S i e C.nodes C.row seek-within, ap {B = ℕ} (λ (x : Bool). cond x 1 0) p))
+  -- the node is not the one that is sought
+  module _ (i' : ℕ) (r : i' ≡ get_or S i 0) where
+    row-on : Siblings S i' e (rest_of C.nodes)
+    row-on = subst (λ (n : ℕ). Siblings S n e (rest_of C.nodes)) (sym r) seek-first.rest
 
-    pub seek-sub : o ≤ left
-    seek-sub = omega (arith, less.0)
-
-    pub seek-turn : (i' : ℕ) → i' ≡ get_or S i 0 → Seeking S e α β st F j (left - o) i'
-    seek-turn i' r =
-        let down : cond (live α β st i) (pred left) left ≡ left - o = ap (λ (x : Bool). cond x (pred left) left) (sym p) ∙ down_is b left ∙ ap (λ (x : ℕ). left - x) (sym q) in
+    pub seek-past : live α β st i ≡ false → Seeking S e α β st F j left i'
+    seek-past p =
         record {
           nodes = rest_of C.nodes;
-          row = subst (λ (n : ℕ). Siblings S n e (rest_of C.nodes)) (sym r) seek-first.rest;
-          some = omega (arith, less.1, q);
-          same =
-              C.same ∙ chosen-first α β st S i e left C.nodes C.row seek-within
-              ∙ ap₂ (λ (x : Bool) (y : ℕ). cond x i (chosen α β y (rest_of C.nodes) st)) (ap (λ (x : Bool). x && eqb left 0) (sym p) ∙ t) down;
+          row = row-on;
+          some = omega (arith, C.some, rw p at (candidates-first α β st S i e C.nodes C.row seek-within));
+          same = C.same ∙ chosen-first α β st S i e left C.nodes C.row seek-within ∙ rw p refl;
+        }
+
+    pub seek-less : live α β st i ≡ true → (left ≡ 0 → ⊥) → Seeking S e α β st F j (left - 1) i'
+    seek-less p o =
+        let other : eqb left 0 ≡ false = ne_eqb left 0 o in
+        let down : pred left ≡ left - 1 = down_is true left in
+        record {
+          nodes = rest_of C.nodes;
+          row = row-on;
+          some = omega (arith, C.some, rw p at (candidates-first α β st S i e C.nodes C.row seek-within));
+          same = C.same ∙ chosen-first α β st S i e left C.nodes C.row seek-within ∙ rw (p, other, down) refl;
         }
 
 -- ---- the extreme of the bounds of F: x up to entry i
@@ -203,15 +207,13 @@ pub record Folding (k : Kind) (S : List ℕ) (e : ℕ) (b : List ℕ) (F : Fores
   pub row : Siblings S i e nodes
   pub same : over natural k 0 (bounds_in F b) ≡ runs k x (bounds_in nodes b)
 
-pub fold_start : (k : Kind) (S : List ℕ) (c e : ℕ) (b : List ℕ) (F : Forest ℕ) → Siblings S c e F → c < e → (x i : ℕ) → x ≡ get_or b c 0 → i ≡ get_or S c 0
-    → Folding k S e b F x i
-fold_start k S c e b F h lt x i p q =
+pub fold_start : (k : Kind) (S : List ℕ) (c e : ℕ) (b : List ℕ) (F : Forest ℕ) → Siblings S c e F → c < e → (i : ℕ) → i ≡ get_or S c 0 → Folding k S e b F (get_or b c 0) i
+fold_start k S c e b F h lt i q =
     record {
       nodes = rest_of F;
       row = subst (λ (n : ℕ). Siblings S n e (rest_of F)) (sym q) (first S c e F h lt).rest;
       same =
-          ap (over natural k 0) (bounds-first S c e F b h lt) ∙ over_runs k 0 (get_or b c 0) (bounds_in (rest_of F) b)
-          ∙ ap (λ (y : ℕ). runs k y (bounds_in (rest_of F) b)) (sym p);
+          ap (over natural k 0) (bounds-first S c e F b h lt) ∙ over_runs k 0 (get_or b c 0) (bounds_in (rest_of F) b);
     }
 
 runs-more : (k : Kind) (x y : ℕ) (l : List ℕ) → runs k x (y ∷ l) ≡ runs k (joined natural k x y) l
@@ -226,14 +228,14 @@ module _ {k : Kind} {S : List ℕ} {e : ℕ} {b : List ℕ} {F : Forest ℕ} {x 
   pub fold-first : i < e → First S i e C.nodes
   fold-first lt = first S i e C.nodes C.row lt
 
-  pub fold-turn : i < e → (y x' i' : ℕ) → y ≡ get_or b i 0 → x' ≡ joined natural k x y → i' ≡ get_or S i 0 → Folding k S e b F x' i'
-  fold-turn lt y x' i' p q r =
+  pub fold-turn : i < e → (x' i' : ℕ) → x' ≡ joined natural k x (get_or b i 0) → i' ≡ get_or S i 0 → Folding k S e b F x' i'
+  fold-turn lt x' i' q r =
       record {
         nodes = rest_of C.nodes;
         row = subst (λ (n : ℕ). Siblings S n e (rest_of C.nodes)) (sym r) (fold-first lt).rest;
         same =
             C.same ∙ ap (runs k x) (bounds-first S i e C.nodes b C.row lt) ∙ runs-more k x (get_or b i 0) (bounds_in (rest_of C.nodes) b)
-            ∙ ap (λ (z : ℕ). runs k z (bounds_in (rest_of C.nodes) b)) (ap (joined natural k x) (sym p) ∙ sym q);
+            ∙ ap (λ (z : ℕ). runs k z (bounds_in (rest_of C.nodes) b)) (sym q);
       }
 
   pub fold_end : e ≤ i → x ≡ over natural k 0 (bounds_in F b)

@@ -1,4 +1,4 @@
--- Rollouts over two lists by node number are rollouts over the tree that keeps its bounds. Assumes nothing.
+-- Rollouts over two lists by node number are rollouts over the tree that keeps its bounds.
 use Prim.Native.Nat.{ℕ, zero, suc, pred, ◌+◌, ◌*◌, min, max, ◌≤◌, ◌<◌}
 use mathlib.Core.Path.{◌≡◌, refl, ap, ap₂, ◌∙◌, subst, subst₂}
 use mathlib.Core.Logic.{◌≢◌}

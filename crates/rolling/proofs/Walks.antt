@@ -1,4 +1,4 @@
--- One walk: what it does at a leaf, at an inner node, and where it goes on. Assumes nothing.
+-- One walk: what it does at a leaf, at an inner node, and where it goes on.
 use Prim.Native.Nat.{ℕ, suc, pred, ◌+◌, ◌*◌, ◌≤◌, ◌<◌, min, max}
 use mathlib.Core.Path.{◌≡◌, refl, sym, ap, ap₂, subst, subst₂, ◌∙◌}
 use mathlib.Core.Bool.{Bool, true, false, ◌&&◌, cond}
@@ -188,10 +188,9 @@ module _ (t : Slices) (G α β c upto : ℕ) (st : Store) where
 
 -- ---- the calls of a walk
 
--- at an inner node c, whose kind was read as y, and where its run stops as e: its own window a, b
-pub record Window (K S : List ℕ) (st : Store) (c α β y e a b : ℕ) : Type 0 where
-  pub kind : y ≡ get_or K c 0
-  pub inside : y ≡ 0 → ⊥
+-- at an inner node c, where its run stops was read as e: its own window a, b
+pub record Own (K S : List ℕ) (st : Store) (c α β e a b : ℕ) : Type 0 where
+  pub inside : get_or K c 0 ≡ 0 → ⊥
   pub stop : e ≡ get_or S c 0
   pub alpha : a ≡ max α (low_at st c)
   pub beta : b ≡ min β (high_at st c)
@@ -205,15 +204,14 @@ module _ {K S H : List ℕ} {G c α β : ℕ} {st : Store} (R : ReadyNode K S H 
   abbrev at : Slices
   at = slices K S R.weights H
 
-  -- y is the kind that was read
-  pub ready-leaf : (y : ℕ) → y ≡ get_or K c 0 → y ≡ 0 → (p : List ℕ) → walk_s G α β 0 p R.nodes st ≡ read_at st c (get_or H c 0 * G) p
-  ready-leaf y q z p = at_leaf at G α β c R.upto st R.nodes R.spans R.some (sym q ∙ z) R.live p
+  pub ready-leaf : get_or K c 0 ≡ 0 → (p : List ℕ) → walk_s G α β 0 p R.nodes st ≡ read_at st c (get_or H c 0 * G) p
+  ready-leaf z p = at_leaf at G α β c R.upto st R.nodes R.spans R.some z R.live p
 
-  module _ {y e a b : ℕ} (w : Window K S st c α β y e a b) where
+  module _ {e a b : ℕ} (w : Own K S st c α β e a b) where
     pub node : Inner at G α β c R.upto st a b R.nodes
     node =
         subst₂ (λ (x v : ℕ). Inner at G α β c R.upto st x v R.nodes) (sym w.alpha) (sym w.beta)
-        (at_inner at G α β c R.upto st R.nodes R.spans R.some (λ o. w.inside (w.kind ∙ o)) R.sound R.live)
+        (at_inner at G α β c R.upto st R.nodes R.spans R.some w.inside R.sound R.live)
 
     abbrev under : Forest ℕ
     under = node.under

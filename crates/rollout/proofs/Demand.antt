@@ -1,4 +1,4 @@
--- What is demanded of rollouts, for every accepted table without C and every policy list. Assumes nothing.
+-- What is demanded of rollouts, for every accepted table without C and every policy list.
 use Prim.Native.Nat.{ℕ, ◌*◌, ◌≤◌}
 use mathlib.Core.Path.{◌≡◌, sym, ap, ap₂, ◌∙◌, subst, subst₂}
 use mathlib.Core.Bool.{true, false}

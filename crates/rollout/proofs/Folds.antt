@@ -1,4 +1,4 @@
--- The maximum or minimum over two lists, entry beside entry. Assumes nothing.
+-- The maximum or minimum over two lists, entry beside entry.
 use Prim.Native.Nat.{ℕ, min, max, ◌≤◌}
 use mathlib.Core.Path.{◌≡◌, refl}
 use mathlib.Core.List.{List, [], ◌∷◌}

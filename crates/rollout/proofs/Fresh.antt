@@ -1,4 +1,4 @@
--- Before the first walk, over heights: what holds of the bounds, the worths and the unread leaves of a table's tree. Assumes nothing.
+-- Before the first walk, over heights: what holds of the bounds, the worths and the unread leaves of a table's tree.
 use Prim.Native.Nat.{ℕ, suc, ◌+◌, ◌*◌, min, max, ◌≤◌, ◌<◌}
 use mathlib.Core.Path.{◌≡◌, refl, sym, ap, ap₂, ◌∙◌}
 use mathlib.Core.Bool.{Bool, false}

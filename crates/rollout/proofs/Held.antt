@@ -1,4 +1,4 @@
--- Every store that rollouts leave holds the worth of every node. Assumes nothing.
+-- Every store that rollouts leave holds the worth of every node.
 use Prim.Native.Nat.{ℕ, suc, ◌+◌, ◌≤◌}
 use mathlib.Core.Path.{◌≡◌, refl, sym, ap, ap₂, ◌∙◌}
 use mathlib.Core.Bool.{Bool}

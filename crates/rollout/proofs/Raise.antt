@@ -1,4 +1,4 @@
--- A map that keeps the order commutes with rollouts. Assumes nothing.
+-- A map that keeps the order commutes with rollouts.
 use Prim.Native.Nat.{ℕ, zero, suc, pred}
 use mathlib.Core.Path.{◌≡◌, refl, sym, ap, ap₂, ◌∙◌}
 use mathlib.Core.Bool.{Bool, ◌&&◌, cond}

@@ -1,4 +1,4 @@
--- Walks one after another, over heights: they end closed on the worth, and no leaf is read twice. Assumes nothing.
+-- Walks one after another, over heights: they end closed on the worth, and no leaf is read twice.
 use Prim.Native.Nat.{ℕ, zero, suc, min, max, ◌≤◌, ◌<◌}
 use mathlib.Core.Path.{◌≡◌, refl, ap, ◌∙◌}
 use mathlib.Core.Bool.{Bool, true, false, cond}

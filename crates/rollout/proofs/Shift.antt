@@ -1,4 +1,4 @@
--- Rollouts of a table over the integers are those over heights, every bound above the lowest end. Assumes nothing.
+-- Rollouts of a table over the integers are those over heights, every bound above the lowest end.
 use Prim.Native.Nat.{ℕ, suc, ◌+◌, ◌*◌, ◌<◌, ◌≤◌}
 use mathlib.Core.Path.{◌≡◌, refl, sym, ap, ap₂, ◌∙◌}
 use mathlib.Core.Bool.{Bool, false, not}

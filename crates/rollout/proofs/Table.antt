@@ -1,4 +1,4 @@
--- Rollouts of an accepted table, over heights: where they begin, that they end on the worth, and which leaves they read. Assumes nothing.
+-- Rollouts of an accepted table, over heights: where they begin, that they end on the worth, and which leaves they read.
 use Prim.Native.Nat.{ℕ, zero, suc, ◌*◌, ◌≤◌}
 use mathlib.Core.Path.{◌≡◌, refl, ap, ◌∙◌, subst}
 use mathlib.Core.Bool.{false}

@@ -1,4 +1,4 @@
--- A walk over heights reads one leaf that was unread, and recomputes the bounds above it: document 003, Lemma 3. Assumes nothing.
+-- A walk over heights reads one leaf that was unread, and recomputes the bounds above it: document 003, Lemma 3.
 use Prim.Native.Nat.{ℕ, zero, suc, pred, min, max, ◌≤◌, ◌<◌}
 use mathlib.Core.Path.{◌≡◌, refl}
 use mathlib.Core.Bool.{Bool, true, false, ◌&&◌, cond}

@@ -1,4 +1,4 @@
--- Rollouts on table A of document 01: the worth and the leaves read, by computation. Assumes nothing.
+-- Rollouts on table A of document 01: the worth and the leaves read, by computation.
 use Prim.Native.Nat.{ℕ}
 use mathlib.Core.Path.{◌≡◌, refl}
 use mathlib.Core.List.{List, [], ◌∷◌}

@@ -1,4 +1,4 @@
--- Runs by the parents' numbers: from child to child, and all of them in a slice. Assumes nothing.
+-- Runs by the parents' numbers: from child to child, and all of them in a slice.
 use Prim.Native.Nat.{ℕ, zero, suc, ◌+◌, ◌≤◌, ◌<◌}
 use mathlib.Core.Path.{◌≡◌, refl, sym, ap, ◌∙◌}
 use mathlib.Core.Bool.{Bool, true, false, cond}

@@ -1,12 +1,14 @@
--- The nodes that meet a condition, found entry by entry. Assumes nothing.
+-- The nodes that meet a condition, found entry by entry.
 use Prim.Native.Nat.{ℕ, zero, suc, ◌+◌, ◌-◌, ◌*◌, ◌≤◌, ◌<◌}
 use mathlib.Core.Path.{◌≡◌, refl, sym, ap, subst, ◌∙◌}
 use mathlib.Core.Bool.{Bool, true, false, not, ◌&&◌, cond}
-use mathlib.Core.List.{List, [], ◌∷◌, ◌++◌, append_assoc}
+use mathlib.Core.List.{List, [], ◌∷◌, ◌++◌}
 use native.Mathlib.Omega.{arith}
-use native.Mathlib.Numerals.{add-one}
 use borrow.Author.Tests.{eq-eqb, ne_eqb, lt-ltb, le-ltb}
 use lib.ListN.{get_or}
+use Rattle.std.specs.Prelude.{Option, None, Some, MatchOption}
+use Rattle.std.specs.List.{filter, find, range_with_len}
+use Rattle.std.proofs.lemmas.List.Elements.{filter-append}
 use lib.Dec.{eqb}
 use native.Mathlib.Decide.{dec_le}
 use Rattle.table.specs.Tree.{Kind, Forest, end, leaf, inner, code_of, is_chance, is_end, weigh, nodes_where}
@@ -14,50 +16,68 @@ use Rattle.table.specs.Inside.{Slices, Spans}
 use Rattle.table.proofs.Runs.{code-inner, code-chance}
 use Rattle.table.proofs.Spans.{spans-le}
 use Rattle.table.proofs.Nodes.{code-pos}
-use Rattle.runs.specs.Inside.{scan_from, first_or, bare_at, weigh_at, odd_at, Has}
+use Rattle.runs.specs.Inside.{first_where, bare_at, weigh_at, odd_at, Has}
+
+abbrev pub first_of : List ℕ → Option ℕ
+first_of [] = None
+first_of (x ∷ xs) = Some x
 
 module _ (test : ℕ → Bool) where
-  -- what is found lies within
-  pub scan-below : (i m x : ℕ) (xs : List ℕ) → scan_from test i m ≡ x ∷ xs → x < i + m
-  unfolding scan_from
-  scan-below i zero x xs e = let z : ◌≡◌ {A = ℕ} 0 1 = cc in absurd (omega arith)
-  scan-below i (suc m) x xs e = go (scan-below (suc i) m x xs) (test i) refl
+  -- the first of the m numbers from i on that meets it
+  first_from : (i m : ℕ) (r : Option ℕ)
+      → MatchOption r ((k : ℕ) → i ≤ k → k < i + m → test k ≡ false) (λ x. (i ≤ x) × (x < i + m) × (test x ≡ true) × ((k : ℕ) → i ≤ k → k < x → test k ≡ false))
+      → r ≡ find test (range_with_len i m)
+  first_from i zero None h = refl
+  first_from i zero (Some x) h = absurd (omega (arith, h))
+  first_from i (suc m) None h =
+      rw (h i (omega arith) (omega arith)) (first_from (i + 1) m None (λ k a b. h k (omega arith) (omega arith)))
+  first_from i (suc m) (Some x) h = go (test i) refl (dec_le (i + 1) x) (first_from (i + 1) m (Some x))
     where
-      go : (scan_from test (suc i) m ≡ x ∷ xs → x < suc i + m) → (b : Bool) → test i ≡ b → x < i + suc m
-      go ih true h = let f : i ∷ scan_from test (suc i) m ≡ x ∷ xs = rw h at e in let g : i ≡ x = cc in omega arith
-      go ih false h = omega (arith, ih (rw h at e))
+      go : (b : Bool) → test i ≡ b → Dec (i + 1 ≤ x)
+          → ((i + 1 ≤ x) × (x < i + 1 + m) × (test x ≡ true) × ((k : ℕ) → i + 1 ≤ k → k < x → test k ≡ false) → Some x ≡ find test (range_with_len (i + 1) m))
+          → Some x ≡ cond (test i) (Some i) (find test (range_with_len (i + 1) m))
+      go true e (yes l) ih = let z : true ≡ false = sym e ∙ h.3 i (omega arith) (omega (arith, l)) in cc
+      go true e (no l) ih = let z : x ≡ i = omega (arith, h.0) in rw (e, z)
+      go false e (yes l) ih = rw e (ih (l, omega (arith, h.1), h.2, λ k a b. h.3 k (omega arith) b))
+      go false e (no l) ih = let z : x ≡ i = omega (arith, h.0) in let f : true ≡ false = sym (rw z at h.2) ∙ e in cc
 
-  pub scan-here : (n i m : ℕ) → 0 < m → test i ≡ true → first_or n (scan_from test i m) ≡ i
-  unfolding scan_from
-  scan-here n i zero l e = absurd (omega arith)
-  scan-here n i (suc m) l e = rw e
+  pub first_is : (n : ℕ) (r : Option ℕ)
+      → MatchOption r ((k : ℕ) → 0 ≤ k → k < n → test k ≡ false) (λ x. (0 ≤ x) × (x < n) × (test x ≡ true) × ((k : ℕ) → 0 ≤ k → k < x → test k ≡ false))
+      → r ≡ first_where test n
+  first_is n r h = let e : 0 + n ≡ n = omega arith in first_from 0 n r (rw e h)
 
-  pub scan-on : (i m : ℕ) → 0 < m → test i ≡ false → scan_from test i m ≡ scan_from test (i + 1) (m - 1)
-  unfolding scan_from
-  scan-on i zero l e = absurd (omega arith)
-  scan-on i (suc m) l e = let s : suc m - 1 ≡ m = omega arith in rw (e, s, add-one)
+  -- those from c on and below e that meet it
+  abbrev pub scan : ℕ → ℕ → List ℕ
+  scan c e = filter test (range_with_len c (e - c))
 
-  pub scan-none : (n i m : ℕ) → m ≡ 0 → first_or n (scan_from test i m) ≡ n
-  unfolding scan_from
-  scan-none n i zero e = refl
-  scan-none n i (suc m) e = absurd (omega arith)
+  first-filtered : (xs : List ℕ) → find test xs ≡ first_of (filter test xs)
+  first-filtered [] = refl
+  first-filtered (x ∷ xs) = go (test x) (first-filtered xs)
+    where
+      go : (b : Bool) → find test xs ≡ first_of (filter test xs) → cond b (Some x) (find test xs) ≡ first_of (cond b (x ∷ filter test xs) (filter test xs))
+      go true ih = refl
+      go false ih = ih
 
-  scan-split : (i m k : ℕ) → scan_from test i (m + k) ≡ scan_from test i m ++ scan_from test (i + m) k
-  unfolding scan_from
-  scan-split i zero k = let a : 0 + k ≡ k = omega arith in let b : i + 0 ≡ i = omega arith in rw (a, b)
-  scan-split i (suc m) k =
+  pub first-scan : (n : ℕ) → first_where test n ≡ first_of (scan 0 n)
+  first-scan n = let e : n - 0 ≡ n = omega arith in rw e (first-filtered (range_with_len 0 n))
+
+  range-split : (i m k : ℕ) → range_with_len i (m + k) ≡ range_with_len i m ++ range_with_len (i + m) k
+  range-split i zero k = let a : 0 + k ≡ k = omega arith in let b : i + 0 ≡ i = omega arith in rw (a, b)
+  range-split i (suc m) k =
       let a : suc m + k ≡ suc (m + k) = omega arith in
-      let b : suc i + m ≡ i + suc m = omega arith in
-      rw (a, scan-split (suc i) m k, b, append_assoc)
+      let b : i + 1 + m ≡ i + suc m = omega arith in
+      rw (a, range-split (i + 1) m k, b)
 
   -- a node, what is under it, and what comes after
-  scan-node : (c x e : ℕ) → c < x → x ≤ e
-      → scan_from test c (e - c) ≡ cond (test c) (c ∷ []) [] ++ (scan_from test (c + 1) (x - (c + 1)) ++ scan_from test x (e - x))
-  unfolding scan_from
+  scan-node : (c x e : ℕ) → c < x → x ≤ e → scan c e ≡ cond (test c) (c ∷ []) [] ++ (scan (c + 1) x ++ scan x e)
   scan-node c x e p q =
       let a : e - c ≡ suc (x - (c + 1) + (e - x)) = omega arith in
-      let b : suc c + (x - (c + 1)) ≡ x = omega arith in
-      rw (a, scan-split (suc c) (x - (c + 1)) (e - x), b, add-one)
+      let b : c + 1 + (x - (c + 1)) ≡ x = omega arith in
+      rw (a, range-split (c + 1) (x - (c + 1)) (e - x), b, here (test c) (filter test (range_with_len (c + 1) (x - (c + 1)) ++ range_with_len x (e - x))), filter-append test (range_with_len (c + 1) (x - (c + 1))) (range_with_len x (e - x)))
+    where
+      here : (t : Bool) (l : List ℕ) → cond t (c ∷ l) l ≡ cond t (c ∷ []) [] ++ l
+      here true l = refl
+      here false l = refl
 
 module _ (S : Slices) where
   pub spans-weigh : (k c e : ℕ) (f : Forest ℕ) → Spans S c e f → e ≤ c + k → weigh_at S.stops S.weights k c e ≡ weigh f
@@ -82,8 +102,8 @@ module _ (S : Slices) where
         → Spans S (c + 1) (get_or S.stops c 0) under → test c ≡ bad k under
 
   pub spans-where : (bad : Kind → Forest ℕ → Bool) (test : ℕ → Bool) (N : ℕ) → Tests bad test N → (c e : ℕ) (f : Forest ℕ) → e ≤ N → Spans S c e f
-      → nodes_where bad f ≡ scan_from test c (e - c)
-  unfolding Spans nodes_where scan_from
+      → nodes_where bad f ≡ scan test c e
+  unfolding Spans nodes_where
   spans-where bad test N t c e end l h = let z : e - c ≡ 0 = omega arith in rw z
   spans-where bad test N t c e (leaf n w v rest) l h =
       let b = spans-le S (c + 1) e rest h.5 in

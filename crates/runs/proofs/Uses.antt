@@ -1,4 +1,4 @@
--- The uses of a total on a path, counted from child to child. Assumes nothing.
+-- The uses of a total on a path, counted from child to child.
 use Prim.Native.Nat.{ℕ, ◌+◌, max, ◌≤◌, ◌<◌}
 use mathlib.Core.Path.{◌≡◌, refl, sym, ap, subst, ◌∙◌}
 use mathlib.Core.Bool.{◌&&◌}

@@ -1,5 +1,6 @@
 -- Runs of nodes in the slices, the nodes that 8 or 9 is for, and the uses of a total: what the contracts cite. No promise of a public call names these.
-use Rattle.std.specs.Prelude.{ℕ, zero, suc, ◌+◌, ◌≤◌, ◌<◌, Bool, not, ◌&&◌, cond, List, [], ◌∷◌, ◌++◌, ◌≡◌, length, get_or, drop, leb, ltb, eqb}
+use Rattle.std.specs.Prelude.{ℕ, zero, suc, ◌+◌, ◌≤◌, ◌<◌, Bool, not, ◌&&◌, cond, List, [], ◌∷◌, ◌≡◌, length, get_or, drop, leb, ltb, eqb, Option}
+use Rattle.std.specs.List.{find, range_with_len}
 use Rattle.table.specs.Tree.{Forest, uses}
 use Rattle.table.specs.Inside.{Spans}
 
@@ -25,13 +26,9 @@ HasStops U stops j = (i : ℕ) → j ≤ i → i < length U → get_or stops i 0
 
 -- ---- the nodes that meet a condition
 
-unfoldable pub scan_from : (ℕ → Bool) → ℕ → ℕ → List ℕ
-scan_from test i zero = []
-scan_from test i (suc m) = cond (test i) (i ∷ []) [] ++ scan_from test (suc i) m
-
-abbrev pub first_or : ℕ → List ℕ → ℕ
-first_or n [] = n
-first_or n (x ∷ xs) = x
+-- the first of n nodes that meets it
+abbrev pub first_where : (ℕ → Bool) → ℕ → Option ℕ
+first_where test n = find test (range_with_len 0 n)
 
 -- 8: a node that is no leaf and whose run is itself alone
 abbrev pub bare_at : List ℕ → List ℕ → ℕ → Bool

@@ -1,4 +1,4 @@
--- Grains over the lowest end in signed numbers of 64 bits: each step fits, and the bits hold the number. Assumes nothing.
+-- Grains over the lowest end in signed numbers of 64 bits: each step fits, and the bits hold the number.
 use Prim.Native.Nat.{ℕ, zero, suc, ◌+◌, ◌*◌, ◌^◌, ◌≤◌, ◌<◌}
 use native.Mathlib.Nat.{mul-le-mul}
 use native.Mathlib.Omega.{arith}

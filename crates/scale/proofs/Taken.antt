@@ -1,4 +1,5 @@
--- What the reading of an accepted text leaves: its numbers are small, and the slices hold its table. Assumes nothing.
+-- What the reading of an accepted text leaves: its numbers are small, and the slices hold its table.
+use Rattle.std.proofs.Common.{Err, Ok, Result}
 use Prim.Native.Nat.{ℕ, ◌≤◌}
 use mathlib.Core.Path.{◌≡◌, sym, ap, subst, ◌∙◌}
 use mathlib.Core.List.{List}
@@ -14,8 +15,6 @@ use Rattle.line.specs.declared.Line.{Line}
 use Rattle.line.specs.declared.Refusal.{Refusal}
 use Rattle.line.specs.Refusal.{Verdict, refused, fine}
 use Rattle.table.specs.declared.Summary.{Summary}
-use Rattle.table.specs.declared.Reading.{Reading}
-use Rattle.table.specs.declared.Reading.TheVariants.{Accepted, Refused}
 use Rattle.table.specs.Table.{Table, read_text, summary, answer}
 use Rattle.table.specs.Slices.{kinds_of, stops_of, weights_of, heights_of, height_of, laid, fitted, decoded}
 use Rattle.table.proofs.Laid.{fitted-all}
@@ -24,10 +23,11 @@ use Rattle.table.proofs.Accepted.{answer-accepted, answer-refused, accepted-rang
 use Rattle.reading.specs.Inside.{Decoded}
 use Rattle.scale.specs.Inside.{Spread}
 pub use Rattle.scale.specs.Inside.{zeros, Taken}
+use Rattle.line.specs.Line.{code}
 use Rattle.scale.proofs.Sums.{read_back, grains-back}
 
 -- t is the summary of an accepted text s
-pub spread : (s : List ℕ) (t : Summary) → answer (read_text s) ≡ Accepted t → Spread t
+pub spread : (s : List ℕ) (t : Summary) → answer (read_text s) ≡ Ok t → Spread t
 spread s t e =
     let (T, p, q) = answer-accepted (read_text s) t e in
     let r = accepted-ranged s T p in
@@ -43,11 +43,11 @@ pub zeros-enough : (s : List ℕ) (T : Table) → read_text s ≡ fine T → len
 zeros-enough s T p = (accepted-size s T p).1
 
 -- from the reading's contract
-decoded-answer : (v : Verdict Table) (r : Reading) (K S W H : List ℕ) → Decoded v r zeros zeros zeros zeros K S W H → r ≡ answer v
+decoded-answer : (v : Verdict Table) (r : Result Summary Refusal) (K S W H : List ℕ) → Decoded v r zeros zeros zeros zeros K S W H → r ≡ answer v
 decoded-answer (refused x) r K S W H d = d
 decoded-answer (fine T) r K S W H d = d.0
 
-pub refused-by : (s : List ℕ) (r : Reading) (x : Refusal) (K S W H : List ℕ) → Decoded (read_text s) r zeros zeros zeros zeros K S W H → r ≡ Refused x
+pub refused-by : (s : List ℕ) (r : Result Summary Refusal) (x : Refusal) (K S W H : List ℕ) → Decoded (read_text s) r zeros zeros zeros zeros K S W H → r ≡ Err x
     → read_text s ≡ refused x
 refused-by s r x K S W H d e = answer-refused (read_text s) x (sym (decoded-answer (read_text s) r K S W H d) ∙ e)
 
@@ -56,7 +56,7 @@ all_fit : (s : List ℕ) (T : Table) → read_text s ≡ fine T → (f : Table �
     → X ≡ fitted (decoded f (read_text s)) zeros
 all_fit s T p f n e = e ∙ sym (fitted-all (f T) zeros (omega (arith, n, zeros-enough s T p))) ∙ ap (λ (v : Verdict Table). fitted (decoded f v) zeros) (sym p)
 
-pub taken-by : (s : List ℕ) {r : Reading} {t : Summary} {K S W H : List ℕ} → Decoded (read_text s) r zeros zeros zeros zeros K S W H → r ≡ Accepted t
+pub taken-by : (s : List ℕ) {r : Result Summary Refusal} {t : Summary} {K S W H : List ℕ} → Decoded (read_text s) r zeros zeros zeros zeros K S W H → r ≡ Ok t
     → Taken s t K S W H
 taken-by s {r} {t} {K} {S} {W} {H} d e =
     let a = sym (decoded-answer (read_text s) r K S W H d) ∙ e in
@@ -64,7 +64,7 @@ taken-by s {r} {t} {K} {S} {W} {H} d e =
     let f = subst (λ (v : Verdict Table). Decoded v r zeros zeros zeros zeros K S W H) p d in
     record {
       accepted = a;
-      kinds = all_fit s T p kinds_of (length-map T.lines (λ (l : Line). l.kind)) f.1;
+      kinds = all_fit s T p kinds_of (length-map T.lines (λ (l : Line). code l.kind)) f.1;
       stops = all_fit s T p stops_of (stops-long T.lines) f.2;
       weights = all_fit s T p weights_of (length-map T.lines (λ (l : Line). l.weight)) f.3;
       heights = all_fit s T p heights_of (length-map T.lines (height_of T.head.lowest)) f.4;

@@ -20,7 +20,7 @@ pub fn span_of(t: Summary) -> u64
     requires { Spread t }
     ensures { (result ≡ to_nat (t.highest -ℤ t.lowest)) × (result ≤ 2000002) }
 {
-    line::natural(t.highest - t.lowest)
+    (t.highest - t.lowest).max(0).unsigned_abs()
 }
 
 // The scale that the worths and bounds of an accepted table are taken by.

@@ -1,10 +1,10 @@
--- The number of nodes that a header gives; and the line of the play number. Assumes nothing.
+-- The number of nodes that a header gives; and the line of the play number.
 use Prim.Native.Nat.{ℕ, ◌≤◌, ◌<◌}
-use mathlib.Core.Path.{◌≡◌, refl, sym, ap, ◌∙◌}
+use mathlib.Core.Path.{◌≡◌, refl, sym, ap}
 use mathlib.Core.Bool.{Bool, true, false, not, ◌||◌, cond}
 use mathlib.Core.List.{List, [], ◌∷◌}
 use native.Mathlib.Omega.{arith}
-use borrow.Author.Tests.{ltb-true, lt-ltb, le-ltb, eq-eqb, ne_eqb}
+use borrow.Author.Tests.{ltb-true, eq-eqb, ne_eqb}
 use lib.Dec.{eqb, ltb}
 use lib.ListN.{length, get_or}
 use lib.IntN.{pos, negsuc}
@@ -15,8 +15,9 @@ use Rattle.line.specs.declared.Head.{Head}
 use Rattle.line.specs.declared.Refusal.TheVariants.{IllWritten, OutOfRange, Misnumbered}
 use Rattle.line.specs.Refusal.{Verdict, refused, fine, unless}
 use Rattle.line.specs.Line.{is_ill, is_blank, has_number, outside, count_of, heading_of, ill_heading, wide_heading, head_of, header}
+use Rattle.std.proofs.lemmas.Bool.Decides.{nat_tests}
 use Rattle.line.proofs.Signs.{true-ne-false}
-use Rattle.report.specs.Report.{play_in, bad_start, head_checks}
+use Rattle.report.specs.Report.{bad_start, head_checks}
 use Rattle.report.proofs.Cases.{count-well, count-range}
 use Rattle.scoring.specs.Inside.{claim_of}
 
@@ -35,18 +36,8 @@ wrong-count Ill i b = absurd (true-ne-false i)
 wrong-count (Number (pos m)) i b = wrong-cases m (ltb m 1) (ltb 1024 m) refl refl
 wrong-count (Number (negsuc m)) i b = refl
 
-pub claim-low : (f : Field) → count_of f < 1 → 1 ≡ claim_of f
-claim-low f h = ap (λ (x : Bool). cond x 1 (cond (ltb 1024 (count_of f)) 1 (count_of f))) (sym (lt-ltb (count_of f) 1 h))
-
-module _ (f : Field) (h : 1 ≤ count_of f) where
-  past-low : cond (ltb 1024 (count_of f)) 1 (count_of f) ≡ claim_of f
-  past-low = ap (λ (x : Bool). cond x 1 (cond (ltb 1024 (count_of f)) 1 (count_of f))) (sym (le-ltb (count_of f) 1 h))
-
-  pub claim-high : 1024 < count_of f → 1 ≡ claim_of f
-  claim-high l = ap (λ (x : Bool). cond x 1 (count_of f)) (sym (lt-ltb 1024 (count_of f) l)) ∙ past-low
-
-  pub claim-is : count_of f ≤ 1024 → count_of f ≡ claim_of f
-  claim-is l = ap (λ (x : Bool). cond x 1 (count_of f)) (sym (le-ltb 1024 (count_of f) l)) ∙ past-low
+claim-is : (f : Field) → 1 ≤ count_of f → count_of f ≤ 1024 → count_of f ≡ claim_of f
+claim-is f h l = grind (arith, nat_tests)
 
 -- ---- the header
 
@@ -77,19 +68,5 @@ nodes-told line =
 
 -- ---- the line of the play number
 
-module _ (s : List ℕ) where
-  pub play-short : length s < 30 → true ≡ bad_start s
-  play-short h = ap (λ (b : Bool). b || not (eqb (get_or s 4 0) 10) || is_ill (play_in s) || is_blank (play_in s)) (sym (lt-ltb (length s) 30 h))
-
-  module _ (long : 30 ≤ length s) where
-    past-short : (not (eqb (get_or s 4 0) 10) || is_ill (play_in s) || is_blank (play_in s)) ≡ bad_start s
-    past-short = ap (λ (b : Bool). b || not (eqb (get_or s 4 0) 10) || is_ill (play_in s) || is_blank (play_in s)) (sym (le-ltb (length s) 30 long))
-
-    pub play-newline : (get_or s 4 0 ≡ 10 → ⊥) → true ≡ bad_start s
-    play-newline h = ap (λ (b : Bool). not b || is_ill (play_in s) || is_blank (play_in s)) (sym (ne_eqb (get_or s 4 0) 10 h)) ∙ past-short
-
-    pub play-field : get_or s 4 0 ≡ 10 → (f : Field) → play_in s ≡ f → (is_ill f || is_blank f) ≡ bad_start s
-    play-field h f e =
-        ap (λ (f : Field). is_ill f || is_blank f) (sym e)
-        ∙ ap (λ (b : Bool). not b || is_ill (play_in s) || is_blank (play_in s)) (sym (eq-eqb (get_or s 4 0) 10 h))
-        ∙ past-short
+pub play-short : (s : List ℕ) → length s < 30 → true ≡ bad_start s
+play-short s h = grind (arith, nat_tests)

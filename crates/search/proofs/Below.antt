@@ -1,4 +1,4 @@
--- What holds of `below`, by which plays are compared. Document 02, Item 6. Assumes nothing.
+-- What holds of `below`, by which plays are compared. Document 02, Item 6.
 use Prim.Native.Nat.{ℕ, ◌≤◌}
 use mathlib.Core.Path.{◌≡◌, refl, sym, ap₂}
 use mathlib.Core.Bool.{Bool, true, false, not, ◌&&◌, ◌||◌}

@@ -1,4 +1,4 @@
--- What the search with running sums gives lies between the ends, and no number of it is large. Assumes nothing.
+-- What the search with running sums gives lies between the ends, and no number of it is large.
 use Prim.Native.Nat.{ℕ, ◌+◌, ◌*◌, ◌-◌, ◌≤◌, ◌<◌}
 use mathlib.Core.List.{List}
 use native.Mathlib.Nat.{le-div_iff_mul-le, div-le_of_le-mul, mul-div-le, mul-le-mul_left, mul-sub, le_refl, le_trans, min-le_left}

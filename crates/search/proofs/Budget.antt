@@ -1,4 +1,4 @@
--- A search with a budget is the search without one, as far as the budget goes, over any arithmetic. Document 02, Item 3. Assumes nothing.
+-- A search with a budget is the search without one, as far as the budget goes, over any arithmetic. Document 02, Item 3.
 use Prim.Native.Nat.{ℕ, min, ◌≤◌, ◌<◌}
 use mathlib.Core.Path.{◌≡◌, refl, sym, ap, ◌∙◌}
 use mathlib.Core.Bool.{Bool, true, false, not, cond}

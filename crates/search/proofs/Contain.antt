@@ -1,4 +1,4 @@
--- What the search returns contains the worth. Assumes nothing.
+-- What the search returns contains the worth.
 use Prim.Native.Nat.{ℕ, ◌+◌, ◌*◌, ◌-◌, min, max, ◌≤◌}
 use mathlib.Core.List.{List}
 use native.Mathlib.Nat.{le-div_iff_mul-le, div-le_of_le-mul, mul-le-mul_left, mul-div-le, mul-sub, le_trans}

@@ -1,4 +1,4 @@
--- Every bound of the search is divided by what divides the worths. Assumes nothing.
+-- Every bound of the search is divided by what divides the worths.
 use Prim.Native.Nat.{ℕ, ◌*◌, ◌/◌, min, max, ◌≤◌, ◌<◌, ◌∣◌}
 use mathlib.Core.Path.{◌≡◌}
 use mathlib.Core.List.{List}

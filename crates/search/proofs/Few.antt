@@ -1,4 +1,4 @@
--- A search reads some of the leaves, in line order, and its play is a node of the table. Assumes nothing.
+-- A search reads some of the leaves, in line order, and its play is a node of the table.
 use Prim.Native.Nat.{ℕ, ◌+◌, ◌≤◌, ◌<◌}
 use mathlib.Core.Path.{◌≡◌, refl, sym, ap, subst, ◌∙◌}
 use mathlib.Core.List.{List, [], ◌∷◌, ◌++◌, append-nil, append_assoc}

@@ -1,4 +1,4 @@
--- What divides the heights of an accepted table, in grains. Assumes nothing.
+-- What divides the heights of an accepted table, in grains.
 use Prim.Native.Nat.{ℕ, ◌*◌, ◌∣◌}
 use mathlib.Core.Path.{◌≡◌, ap}
 use native.Mathlib.Nat.{dvd-mul_left_of_dvd, dvd-mul_left, dvd_trans, dvd-zero}

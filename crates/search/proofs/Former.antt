@@ -1,4 +1,4 @@
--- Whatever the rule for the play is, the bounds and the leaves are the same. Document 02, Item 6. Assumes nothing.
+-- Whatever the rule for the play is, the bounds and the leaves are the same. Document 02, Item 6.
 use Prim.Native.Nat.{ℕ}
 use mathlib.Core.Path.{◌≡◌, refl, sym, ap, ap₂, ◌∙◌}
 use mathlib.Core.Bool.{Bool, cond}

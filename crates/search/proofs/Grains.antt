@@ -1,4 +1,4 @@
--- What an accepted table's tree of heights, in grains, has: every height within the ends, and weights of at least 1. Assumes nothing.
+-- What an accepted table's tree of heights, in grains, has: every height within the ends, and weights of at least 1.
 use Prim.Native.Nat.{ℕ, suc, ◌+◌, ◌*◌, ◌≤◌}
 use mathlib.Core.Path.{◌≡◌, refl, ap, ap₂, ◌∙◌}
 use mathlib.Core.Bool.{Bool, true}

@@ -1,4 +1,4 @@
--- Trees of heights that the search can take, and their worth child by child. Assumes nothing.
+-- Trees of heights that the search can take, and their worth child by child.
 use Prim.Native.Nat.{ℕ, ◌≤◌, ◌<◌}
 use mathlib.Core.Path.{◌≡◌}
 use lib.IntN.{ℤ, pos, ◌+ℤ◌}

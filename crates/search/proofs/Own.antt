@@ -1,5 +1,5 @@
 -- The search of an accepted table with its index is a search of the same tree, over heights and over the integers: what the general theorems ask of its frames,
--- and what they say of it. Document 02, Item 14. Assumes nothing.
+-- and what they say of it. Document 02, Item 14.
 use Prim.Native.Nat.{ℕ, ◌+◌, ◌*◌, min, max, ◌≤◌, ◌<◌, ◌∣◌}
 use mathlib.Core.Path.{◌≡◌, refl, sym, ap, ap₂, subst, ◌∙◌}
 use mathlib.Core.Bool.{Bool, true, false, not}

@@ -1,4 +1,4 @@
--- The divisions of lines 20 and 21 leave no remainder: over heights, and so over the integers, where both searches are walked side by side. Assumes nothing.
+-- The divisions of lines 20 and 21 leave no remainder: over heights, and so over the integers, where both searches are walked side by side.
 use Prim.Native.Nat.{ℕ, ◌+◌, ◌*◌, ◌-◌, ◌/◌, ◌≤◌, ◌<◌}
 use mathlib.Core.Path.{◌≡◌, refl, sym, ap, ◌∙◌}
 use mathlib.Core.Bool.{Bool, false, not}

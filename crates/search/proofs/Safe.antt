@@ -1,4 +1,4 @@
--- No number of the search is above the highest end, and no difference is below zero. Assumes nothing.
+-- No number of the search is above the highest end, and no difference is below zero.
 use Prim.Native.Nat.{ℕ, ◌+◌, ◌*◌, ◌-◌, ◌/◌, max, ◌≤◌, ◌<◌}
 use mathlib.Core.Path.{◌≡◌}
 use mathlib.Core.Bool.{Bool, true, false, cond}

@@ -1,5 +1,5 @@
 -- The search over the integers is the search over heights, from the lowest end up: with the windows of document 01, and with those of document 02, Item 14,
--- where a new alpha is also at most the greatest value and a new beta at least the least. Assumes nothing.
+-- where a new alpha is also at most the greatest value and a new beta at least the least.
 use Prim.Native.Nat.{ℕ, ◌+◌, ◌*◌, ◌-◌, ◌/◌, min, max, ◌≤◌, ◌<◌}
 use mathlib.Core.Path.{◌≡◌, refl, sym, ap, ap₂, subst, ◌∙◌}
 use mathlib.Core.Bool.{Bool, true, false, not, ◌&&◌, cond, true≢false, false≢true}

@@ -1,4 +1,4 @@
--- The steps of `scan` and of `scan_sums` as the lemmas name them. Assumes nothing.
+-- The steps of `scan` and of `scan_sums` as the lemmas name them.
 use Prim.Native.Nat.{ℕ}
 use mathlib.Core.Path.{◌≡◌, refl}
 use mathlib.Core.Bool.{Bool, true, false, cond}

@@ -1,4 +1,4 @@
--- Running sums in the search of an accepted table, over heights and in whole grains. Document 02, Item 4. Assumes nothing.
+-- Running sums in the search of an accepted table, over heights and in whole grains. Document 02, Item 4.
 use Prim.Native.Nat.{ℕ, ◌+◌, ◌*◌, ◌-◌, ◌/◌, min, max}
 use mathlib.Core.Path.{◌≡◌, refl, sym, ap, ◌∙◌}
 use mathlib.Core.Bool.{Bool, false}

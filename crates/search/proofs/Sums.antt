@@ -1,5 +1,5 @@
 -- The search with running sums, over any arithmetic: before each child the sums are T times Algorithm 1's low and high, and every result is as before.
--- Document 02, Item 4. Assumes nothing.
+-- Document 02, Item 4.
 use Prim.Native.Nat.{ℕ, ◌*◌, ◌<◌}
 use mathlib.Core.Path.{◌≡◌, refl, sym, ap, ap₂, subst, ◌∙◌}
 use mathlib.Core.Bool.{Bool, false, not, ◌&&◌, cond}

@@ -1,5 +1,5 @@
 -- The search of an accepted table is the search over heights, from the lowest end up; no more leaves are read than there are, its play is a node of the
--- table, and its divisions by a C's own sum leave no remainder. Document 01, 'The search' and 'Grains'. Assumes nothing.
+-- table, and its divisions by a C's own sum leave no remainder. Document 01, 'The search' and 'Grains'.
 use Prim.Native.Nat.{ℕ, ◌+◌, ◌-◌, ◌*◌, ◌≤◌, ◌<◌}
 use mathlib.Core.Path.{◌≡◌, refl, sym, ap, subst, ◌∙◌}
 use mathlib.Core.Bool.{Bool, false}

@@ -1,4 +1,4 @@
--- T times numbers: order, sums and differences are kept, and dividing by T gives the number back. Assumes nothing.
+-- T times numbers: order, sums and differences are kept, and dividing by T gives the number back.
 use Prim.Native.Nat.{ℕ, ◌+◌, ◌*◌, ◌-◌, min, max, ◌≤◌, ◌<◌}
 use mathlib.Core.Path.{◌≡◌, sym, ap, ap₂, ◌∙◌}
 use mathlib.Core.Bool.{Bool, cond}

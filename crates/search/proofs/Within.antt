@@ -1,4 +1,4 @@
--- The search of an accepted table with a budget, against document 01's search of it. Document 02, Item 3. Assumes nothing.
+-- The search of an accepted table with a budget, against document 01's search of it. Document 02, Item 3.
 use Prim.Native.Nat.{ℕ, min, ◌≤◌}
 use mathlib.Core.Path.{◌≡◌, sym, ap, ◌∙◌}
 use mathlib.Core.Bool.{false}

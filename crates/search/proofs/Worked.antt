@@ -1,4 +1,4 @@
--- The running sums of a C by computation. Document 02, Item 4. Assumes nothing.
+-- The running sums of a C by computation. Document 02, Item 4.
 use Prim.Native.Nat.{ℕ}
 use mathlib.Core.Path.{◌≡◌, refl}
 use mathlib.Core.List.{[], ◌∷◌}

@@ -1,4 +1,5 @@
--- What the search of an accepted text gives. Assumes nothing.
+-- What the search of an accepted text gives.
+use Rattle.std.proofs.Common.{Ok}
 use Prim.Native.Nat.{ℕ, zero, suc, min, ◌-◌, ◌≤◌, ◌<◌}
 use mathlib.Core.Path.{◌≡◌, refl, sym, ap, ap₂, subst, ◌∙◌}
 use mathlib.Core.Bool.{true, false}
@@ -39,7 +40,6 @@ use Rattle.steps.specs.declared.Found.{Found}
 use Rattle.searching.specs.Inside.{way, ReadyRoot, Shows, Searched}
 use Rattle.searching.proofs.Ready.{accepted-search-ready, accepted-searched}
 use Rattle.search_call.specs.Inside.{rule_for, ends_for, bounds_for}
-use Rattle.search_call.specs.declared.Bounded.TheVariants.{Found as Given}
 use Rattle.search_call.specs.Call.{beyond, bad_margin, bad_budget, Sought, sought, sought_within, bounds_of, search_answer, search_list, within_call, within_reads}
 
 -- ---- the search's own refusals
@@ -139,7 +139,7 @@ shown-bounds T f n r a w lent order (low, high, play, read, spent) =
       low = is-low i;
       high = is-high i;
       difference = (difference-is base f.low f.high (omega (arith, w.low, w.high)) ∙ ap₂ ◌-ℤ◌ is-high is-low) i;
-      play = (ap play_of (w.play ∙ sym play)) i;
+      play = (w.play ∙ ap play_of (sym play)) i;
       leaves = (count ∙ sym (ap length read)) i;
       spent = (w.spent ∙ sym spent) i;
       grain = grain T;
@@ -148,22 +148,22 @@ shown-bounds T f n r a w lent order (low, high, play, read, spent) =
 -- g is the rule, v the ends, and n how many leaves may be read
 module _ {s : List ℕ} {t : Summary} {K S W H : List ℕ} (G : Taken s t K S W H) (m b : ℤ) (x : bad_margin m ≡ false) (y : bad_budget b ≡ false)
     {g : Rule} (is_g : g ≡ rule_for (scale_for t) m) {v : Ends} (is_v : v ≡ ends_for (scale_for t)) where
-  pub search-ready : ReadyRoot (slices K S W H) (way g v H []) v t.nodes
+  pub search-ready : ReadyRoot (slices K S W H) (way g v [] []) v t.nodes
   search-ready =
       rw (is_g, is_v)
-      (of-table G (λ t K S W H. ReadyRoot (slices K S W H) (way (rule_for (scale_for t) m) (ends_for (scale_for t)) H []) (ends_for (scale_for t)) t.nodes) (λ T p.
+      (of-table G (λ t K S W H. ReadyRoot (slices K S W H) (way (rule_for (scale_for t) m) (ends_for (scale_for t)) [] []) (ends_for (scale_for t)) t.nodes) (λ T p.
       let z = zeros-enough s T p in accepted-search-ready s T p (to_nat m) (inside-small 40000000000000 m x) zeros zeros zeros zeros z z z z))
 
   -- f is what `search` gave, with the first n entries of the list as they came and as they are now
   module _ (f : Found) (n : ℕ) (came now : List ℕ) (is_n : n ≡ min (to_nat b) (length came)) (enough : t.leaves ≤ length came)
-      (told : Searched (slices K S W H) (way g v H []) v t.nodes f (take n came) now) where
+      (told : Searched (slices K S W H) (way g v [] []) v t.nodes f (take n came) now) where
     lent : length (take n came) ≡ n
     lent = part_length n (to_nat b) came is_n
 
     of-shown : (C : Summary → Type 0)
         → ((T : Table) → read_text s ≡ fine T → leaves (tree T) ≤ length came → Shows f (height_searched T (to_nat m) (limited n)) (take n came) now → C (summary T)) → C t
     of-shown C show =
-        of-table G (λ t K S W H. t.leaves ≤ length came → Searched (slices K S W H) (way (rule_for (scale_for t) m) (ends_for (scale_for t)) H []) (ends_for (scale_for t)) t.nodes f (take n came) now → C t) (λ T p few told.
+        of-table G (λ t K S W H. t.leaves ≤ length came → Searched (slices K S W H) (way (rule_for (scale_for t) m) (ends_for (scale_for t)) [] []) (ends_for (scale_for t)) t.nodes f (take n came) now → C t) (λ T p few told.
         let z = zeros-enough s T p in
         show T p (rw (accepted-leaves s T p) few)
         (subst (λ (k : ℕ). Shows f (height_searched T (to_nat m) (limited k)) (take n came) now) lent
@@ -180,11 +180,11 @@ module _ {s : List ℕ} {t : Summary} {K S W H : List ℕ} (G : Taken s t K S W 
     seen-within : (T : Table) → read_text s ≡ fine T → leaves (tree T) ≤ length came → searched_until T (to_nat m) (limited n) ≡ searched_within T (to_nat m) (to_nat b)
     seen-within T p few = ap (λ (k : ℕ). searched_within T (to_nat m) k) is_n ∙ budget-met s T p (to_nat m) (to_nat b) (length came) few
 
-    pub given-at : Given (bounds_for t f n) ≡ within_call (read_text s) m b (length came)
+    pub given-at : Ok (bounds_for t f n) ≡ within_call (read_text s) m b (length came)
     given-at =
-        of-shown (λ t. Given (bounds_for t f n) ≡ within_call (read_text s) m b (length came)) (λ T p few w.
-        ap Given (shown-bounds T f n (height_searched T (to_nat m) (limited n)) (searched_until T (to_nat m) (limited n)) w lent (heights-order s T p (to_nat m) (limited n)).0 (shifted s T p (to_nat m) (limited n)))
-        ∙ ap (λ (r : Seen ℤ). Given (bounds_of (record { table = T; seen = r }))) (seen-within T p few)
+        of-shown (λ t. Ok (bounds_for t f n) ≡ within_call (read_text s) m b (length came)) (λ T p few w.
+        ap Ok (shown-bounds T f n (height_searched T (to_nat m) (limited n)) (searched_until T (to_nat m) (limited n)) w lent (heights-order s T p (to_nat m) (limited n)).0 (shifted s T p (to_nat m) (limited n)))
+        ∙ ap (λ (r : Seen ℤ). Ok (bounds_of (record { table = T; seen = r }))) (seen-within T p few)
         ∙ sym (ap search_answer (ap (λ (v : Verdict Table). sought_within v m b (length came)) p ∙ sought-fine T m b (length came) x y few)))
 
     pub reads_at : now ++ drop n came ≡ laid (within_reads (read_text s) m b (length came)) came

@@ -1,5 +1,6 @@
 -- What the calls `search_table` and `search_within` answer. Document 01, 'The search' and 'Refused tables and calls'; document 02, Item 3.
-use Rattle.std.specs.Prelude.{ℕ, Bool, ◌||◌, List, [], ◌∷◌, ltb, length, ℤ, pos, ◌-ℤ◌}
+use Rattle.line.specs.declared.Refusal.{Refusal}
+use Rattle.std.specs.Prelude.{ℕ, Bool, ◌||◌, List, [], ◌∷◌, ltb, length, ℤ, pos, ◌-ℤ◌, Err, Ok, Result}
 use Rattle.std.specs.Int.Signed.{lt_z}
 use Rattle.line.specs.declared.Refusal.TheVariants.{NoRoom, BadMargin, BadBudget}
 use Rattle.line.specs.Refusal.{Verdict, refused, fine, unless, next, number_of, line_of}
@@ -9,8 +10,6 @@ use Rattle.table.specs.Table.{Table, tree, grain}
 use Rattle.table.specs.Root.{play_of}
 use Rattle.search.specs.Search.{Seen, node_of}
 use Rattle.search.specs.Whole.{searched, searched_within}
-use Rattle.search_call.specs.declared.Bounded
-use Rattle.search_call.specs.declared.Bounded.{Bounded}
 use Rattle.search_call.specs.declared.Bounds.{Bounds}
 
 -- z is none of the whole numbers from 0 to top
@@ -64,32 +63,32 @@ bounds_of s =
       grain = grain s.table;
     }
 
-abbrev pub search_answer : Verdict Sought → Bounded
-search_answer (refused r) = Bounded.TheVariants.Refused r
-search_answer (fine s) = Bounded.TheVariants.Found (bounds_of s)
+abbrev pub search_answer : Verdict Sought → Result Bounds Refusal
+search_answer (refused r) = Err r
+search_answer (fine s) = Ok (bounds_of s)
 
 -- "their node numbers fill the lent list in reading sequence"; nothing is written where the call is refused
 abbrev pub search_list : Verdict Sought → List ℕ
 search_list (refused r) = []
 search_list (fine s) = s.seen.read
 
-abbrev pub search_call : Verdict Table → ℤ → ℕ → Bounded
+abbrev pub search_call : Verdict Table → ℤ → ℕ → Result Bounds Refusal
 search_call v m room = search_answer (sought v m room)
 
 abbrev pub search_reads : Verdict Table → ℤ → ℕ → List ℕ
 search_reads v m room = search_list (sought v m room)
 
-abbrev pub within_call : Verdict Table → ℤ → ℤ → ℕ → Bounded
+abbrev pub within_call : Verdict Table → ℤ → ℤ → ℕ → Result Bounds Refusal
 within_call v m b room = search_answer (sought_within v m b room)
 
 abbrev pub within_reads : Verdict Table → ℤ → ℤ → ℕ → List ℕ
 within_reads v m b room = search_list (sought_within v m b room)
 
 -- the documents' number and line of every answer, 0 where there is no refusal
-abbrev pub search_number : Bounded → ℕ
-search_number (Bounded.TheVariants.Found b) = 0
-search_number (Bounded.TheVariants.Refused r) = number_of r
+abbrev pub search_number : Result Bounds Refusal → ℕ
+search_number (Ok b) = 0
+search_number (Err r) = number_of r
 
-abbrev pub search_line : Bounded → ℕ
-search_line (Bounded.TheVariants.Found b) = 0
-search_line (Bounded.TheVariants.Refused r) = line_of r
+abbrev pub search_line : Result Bounds Refusal → ℕ
+search_line (Ok b) = 0
+search_line (Err r) = line_of r

@@ -1,18 +1,16 @@
 -- What the contracts of internal functions cite; no promise of a public call names these.
-use Rattle.std.specs.Prelude.{ℕ, ◌-◌, ◌≤◌, ◌≡◌, false, List, length, ℤ, pos, ◌+ℤ◌, ◌*ℤ◌}
+use Rattle.std.specs.Prelude.{ℕ, ◌-◌, ◌≤◌, ◌≡◌, false, List, length, ℤ, pos, ◌+ℤ◌, ◌*ℤ◌, Ok}
 use Rattle.line.specs.Line.{to_nat}
 use Rattle.table.specs.declared.Summary.{Summary}
 use Rattle.table.specs.Table.{read_text}
 use Rattle.table.specs.Slices.{laid}
-use Rattle.table.specs.Root.{play_of}
+use Rattle.table.specs.Inside.{Slices}
 use Rattle.scale.specs.declared.Scale.{Scale}
 use Rattle.scale.specs.Inside.{Taken}
 use Rattle.steps.specs.declared.Rule.{Rule}
 use Rattle.steps.specs.declared.Ends.{Ends}
 use Rattle.steps.specs.declared.Found.{Found}
-use Rattle.steps.specs.Inside.{play_at}
 use Rattle.search_call.specs.declared.Bounds.{Bounds}
-use Rattle.search_call.specs.declared.Bounded.TheVariants.{Found as Given}
 use Rattle.search_call.specs.Call.{bad_margin, bad_budget, within_call, within_reads}
 
 -- the numbers that a search goes by
@@ -30,22 +28,22 @@ bounds_for t f reads =
       low = t.lowest *ℤ pos t.grain +ℤ pos f.low;
       high = t.lowest *ℤ pos t.grain +ℤ pos f.high;
       difference = pos (f.high - f.low);
-      play = play_of (play_at f.play);
+      play = f.play;
       leaves = reads - f.left;
       spent = f.spent;
       grain = t.grain;
     }
 
--- a table that was read from some text into these four slices, and a margin, a budget and a leaf list of which nothing is refused
-pub record Ready (K S W H : List ℕ) (t : Summary) (m b : ℤ) (room : ℕ) : Type 0 where
+-- a table that was read from some text into these slices, and a margin, a budget and a leaf list of which nothing is refused
+pub record Ready (S : Slices) (t : Summary) (m b : ℤ) (room : ℕ) : Type 0 where
   pub text : List ℕ
-  pub taken : Taken text t K S W H
+  pub taken : Taken text t S.kinds S.stops S.weights S.heights
   pub margin : bad_margin m ≡ false
   pub budget : bad_budget b ≡ false
   pub long : t.leaves ≤ room
 
 -- the answer a and the list, as it came and as it is now, are those of the call on any text that is so read
-abbrev pub Answers : (K S W H : List ℕ) → Summary → (m b : ℤ) → Bounds → (came now : List ℕ) → Type 0
-Answers K S W H t m b a came now =
-    (s : List ℕ) → Taken s t K S W H
-    → (Given a ≡ within_call (read_text s) m b (length came)) × (now ≡ laid (within_reads (read_text s) m b (length came)) came)
+abbrev pub Answers : Slices → Summary → (m b : ℤ) → Bounds → (came now : List ℕ) → Type 0
+Answers S t m b a came now =
+    (s : List ℕ) → Taken s t S.kinds S.stops S.weights S.heights
+    → (Ok a ≡ within_call (read_text s) m b (length came)) × (now ≡ laid (within_reads (read_text s) m b (length came)) came)

@@ -4,17 +4,17 @@
 ghost use Rattle.std.specs.Prelude.{◌≡◌, ◌-◌, min, ◌≤◌, length, pos};
 ghost use Rattle.line.specs.Line.{to_nat};
 ghost use Rattle.table.specs.Table.{read_text};
+ghost use Rattle.table.specs.Nodes.{slices_in};
 ghost use Rattle.table.specs.Slices.{laid};
-ghost use Rattle.table.specs.Root.{play_of, node_number};
+ghost use Rattle.table.specs.Root.{node_number};
 ghost use Rattle.scale.specs.Inside.{Spread};
-ghost use Rattle.steps.specs.Inside.{play_at};
 ghost use Rattle.search_call.specs.Inside.{rule_for, ends_for, bounds_for, Ready, Answers};
 ghost use Rattle.search_call.specs.Call.{beyond, search_call, search_reads, within_call, within_reads};
 
 use line::Refusal;
 use scale::Scale;
 use steps::{Ends, Found, Rule};
-use table::{Play, Reading, Summary};
+use table::{Node, Play, Summary};
 
 // What a search answers: two bounds and how far apart they are, the best root child entered, how many leaves were read, whether the budget was
 // spent, and G.
@@ -29,18 +29,11 @@ pub struct Bounds {
     pub grain: u64,
 }
 
-// The bounds, or a refusal.
-#[derive(Clone, Copy)]
-pub enum Bounded {
-    Found(Bounds),
-    Refused(Refusal),
-}
-
 // Whether z is none of the numbers from 0 to top.
 pub fn is_beyond(top: i64, z: i64) -> bool
     ensures { result ≡ beyond top z }
 {
-    (z < 0) | (top < z)
+    !(0..=top).contains(&z)
 }
 
 // The numbers that a search goes by.
@@ -48,7 +41,7 @@ pub fn rule_of(s: Scale, margin: i64) -> Rule
     ensures { result ≡ rule_for s margin }
 {
     Rule {
-        margin: line::natural(margin),
+        margin: margin.max(0).unsigned_abs(),
         grain: s.grain,
     }
 }
@@ -58,8 +51,7 @@ pub fn rule_of(s: Scale, margin: i64) -> Rule
 fn reads_of(budget: i64, room: usize) -> usize
     ensures { result ≡ min (to_nat budget) room }
 {
-    let b = line::natural(budget) as usize;
-    if b < room { b } else { room }
+    room.min(budget.max(0).unsigned_abs() as usize)
 }
 
 // The ends of a table.
@@ -70,16 +62,6 @@ pub fn ends_of(s: Scale) -> Ends
         bottom: 0,
         top: s.top,
     }
-}
-
-// A node number as a play, where 0 stands for none.
-fn play_at(node: usize) -> Play
-    ensures { result ≡ play_of (play_at node) }
-{
-    if node == 0 {
-        return Play::NoPlay;
-    }
-    Play::Child(node)
 }
 
 // A play as a node number, 0 for none.
@@ -105,16 +87,12 @@ pub fn bounds_of(t: Summary, f: Found, reads: usize) -> Bounds
     requires { Spread t × (f.low ≤ f.high) × (f.high ≤ 35184372088832) × (f.left ≤ reads) }
     ensures { result ≡ bounds_for t f reads }
 {
-    let low = scale::in_grains(t.lowest, t.grain, f.low);
-    let high = scale::in_grains(t.lowest, t.grain, f.high);
-    let difference = apart(f.low, f.high);
-    let read = reads - f.left;
     Bounds {
-        low: low,
-        high: high,
-        difference: difference,
-        play: play_at(f.play),
-        leaves: read,
+        low: scale::in_grains(t.lowest, t.grain, f.low),
+        high: scale::in_grains(t.lowest, t.grain, f.high),
+        difference: apart(f.low, f.high),
+        play: f.play,
+        leaves: reads - f.left,
         spent: f.spent,
         grain: t.grain,
     }
@@ -122,70 +100,51 @@ pub fn bounds_of(t: Summary, f: Found, reads: usize) -> Bounds
 
 // The search of a decoded table, where nothing is refused.
 pub fn search_decoded(
-    kind: &[u8],
-    stop: &[u16],
-    weight: &[u8],
-    height: &[u32],
+    nodes: &[Node],
     t: Summary,
     margin: i64,
     budget: i64,
     leaves: &mut [u16],
 ) -> Bounds
-    requires { Ready kind.now stop.now weight.now height.now t margin budget (length leaves.old) }
-    ensures { Answers kind.now stop.now weight.now height.now t margin budget result leaves.old leaves.new }
+    requires { Ready (slices_in nodes.now) t margin budget (length leaves.old) }
+    ensures { Answers (slices_in nodes.now) t margin budget result leaves.old leaves.new }
 {
-    // no index
-    let none = [0u32; 0];
     let s = scale::scale_of(t);
     let g = rule_of(s, margin);
     let v = ends_of(s);
     // lent as many entries as leaves may be read
     let n = reads_of(budget, leaves.len());
-    let f = searching::search(
-        kind,
-        stop,
-        weight,
-        height,
-        &none,
-        &mut leaves[..n],
-        t.nodes,
-        g,
-        v,
-    );
+    let f = searching::search(nodes, &[], &[], &mut leaves[..n], t.nodes, g, v);
     bounds_of(t, f, n)
 }
 
 // The bounded search within a budget of leaf reads: for any text, any margin, any budget and any list. The list gets the leaves read in reading
 // sequence, and keeps its other entries; a refused call writes nothing.
-pub fn search_within(text: &[u8], margin: i64, budget: i64, leaves: &mut [u16]) -> Bounded
+pub fn search_within(
+    text: &[u8],
+    margin: i64,
+    budget: i64,
+    leaves: &mut [u16],
+) -> Result<Bounds, Refusal>
     ensures answers { result ≡ within_call (read_text text.now) margin budget (length leaves.old) }
     ensures lists { leaves.new ≡ laid (within_reads (read_text text.now) margin budget (length leaves.old)) leaves.old }
 {
-    let mut kind = [0u8; 1024];
-    let mut stop = [0u16; 1024];
-    let mut weight = [0u8; 1024];
-    let mut height = [0u32; 1024];
-    match reading::decode(text, &mut kind, &mut stop, &mut weight, &mut height) {
-        Reading::Refused(r) => Bounded::Refused(r),
-        Reading::Accepted(t) => {
-            if is_beyond(40000000000000, margin) {
-                return Bounded::Refused(Refusal::BadMargin);
-            }
-            if is_beyond(1024, budget) {
-                return Bounded::Refused(Refusal::BadBudget);
-            }
-            if leaves.len() < t.leaves {
-                return Bounded::Refused(Refusal::NoRoom);
-            }
-            Bounded::Found(search_decoded(
-                &kind, &stop, &weight, &height, t, margin, budget, leaves,
-            ))
-        }
+    let mut nodes = [Node::NONE; 1024];
+    let t = reading::decode(text, &mut nodes)?;
+    if is_beyond(40000000000000, margin) {
+        return Err(Refusal::BadMargin);
     }
+    if is_beyond(1024, budget) {
+        return Err(Refusal::BadBudget);
+    }
+    if leaves.len() < t.leaves {
+        return Err(Refusal::NoRoom);
+    }
+    Ok(search_decoded(&nodes, t, margin, budget, leaves))
 }
 
 // The bounded search of document 01: no table has more leaves than the greatest budget, so that it is never spent.
-pub fn search_table(text: &[u8], margin: i64, leaves: &mut [u16]) -> Bounded
+pub fn search_table(text: &[u8], margin: i64, leaves: &mut [u16]) -> Result<Bounds, Refusal>
     ensures answers { result ≡ search_call (read_text text.now) margin (length leaves.old) }
     ensures lists { leaves.new ≡ laid (search_reads (read_text text.now) margin (length leaves.old)) leaves.old }
 {

@@ -1,11 +1,10 @@
--- The code's states stand for those of Algorithm 1 over heights, with the running sums of a C. Assumes nothing.
+-- The code's states stand for those of Algorithm 1 over heights, with the running sums of a C.
 -- Of the best child the code keeps the number and the bound by which a tie is broken: its low is the low of an M so far, and its high the high of an N.
-use Prim.Native.Nat.{ℕ, ◌+◌, ◌*◌, ◌≤◌, ◌<◌}
+use Prim.Native.Nat.{ℕ, ◌+◌, ◌*◌, ◌≤◌}
 use mathlib.Core.Path.{◌≡◌, refl, sym, ap, ap₂, ◌∙◌}
-use mathlib.Core.Bool.{Bool, true, false, cond}
+use mathlib.Core.Bool.{Bool, true, false, ◌||◌, cond}
 use mathlib.Core.List.{List, [], ◌∷◌, ◌++◌, append-nil, append_assoc}
 use native.Mathlib.Omega.{arith}
-use borrow.Author.Tests.{ne_eqb}
 use lib.Dec.{ltb, leb, leb→le, le→leb}
 use lib.ListN.{length, length-append}
 use Rattle.numbers.proofs.Signs.{same_test}
@@ -18,11 +17,13 @@ use Rattle.search.specs.Sums.{SumArith, on_sums, scaled, keep, leave, scan_sums}
 use Rattle.search.specs.Inside.{natural, natural_sums, height_sums, grained}
 use Rattle.search.proofs.Steps.{cond_map, sums_under, sums_after}
 use Rattle.search.proofs.Below.{below-le, below-ge}
+use Rattle.table.specs.Root.{play_of}
+use Rattle.table.specs.declared.Play as found
+use Rattle.table.specs.declared.Play.TheVariants.{Child, NoPlay}
 use Rattle.steps.specs.declared.Ends.{Ends}
 use Rattle.steps.specs.declared.State.{State}
 use Rattle.steps.specs.declared.Window.{Window}
-use Rattle.steps.specs.Inside.{frame_at, lift, window_for, takes, after, play_at, leaf_seen}
-use Rattle.steps.proofs.Takes.{first_taken, later-taken}
+use Rattle.steps.specs.Inside.{frame_at, lift, window_for, is_first, takes, after, leaf_seen}
 use Rattle.searching.specs.Inside.{Way, rules_of, seen_in, node_seen}
 
 -- ---- the leaves read before change nothing else
@@ -193,44 +194,51 @@ Best CHANCE s l h = ⊥
 
 -- p is the play of the state s
 abbrev pub Plays : Frame ℕ → Kind → State → Play ℕ → Type 0
-Plays e k s no_play = (s.play ≡ 0) × Fresh e k s
-Plays e k s (child m l h) = (s.play ≡ m) × (0 < m) × Best k s l h
+Plays e k s no_play = (s.play ≡ NoPlay) × Fresh e k s
+Plays e k s (child m l h) = (s.play ≡ Child m) × Best k s l h
 
-pub plays-number : (e : Frame ℕ) (k : Kind) (s : State) (p : Play ℕ) → Plays e k s p → play_at s.play ≡ node_of p
-plays-number e k s no_play h = ap play_at h.0
-plays-number e k s (child m l x) h = ap play_at h.0 ∙ rw (ne_eqb m 0 (λ e. omega (arith, h.1))) refl
+pub plays-number : (e : Frame ℕ) (k : Kind) (s : State) (p : Play ℕ) → Plays e k s p → s.play ≡ play_of (node_of p)
+plays-number e k s no_play h = h.0
+plays-number e k s (child m l x) h = h.0
 
-module _ (e : Frame ℕ) (i w m low high : ℕ) (s : State) (q : s.play ≡ m) (p : 0 < m) (z : 0 < i) where
+-- the first child is taken; later ones where they beat the best
+first_taken : {play : found.Play} (b : Bool) → play ≡ NoPlay → (is_first play || b) ≡ true
+first_taken b e = rw e refl
+
+later-taken : {play : found.Play} {m : ℕ} (b c : Bool) → play ≡ Child m → b ≡ c → (is_first play || b) ≡ c
+later-taken b c p q = rw (p, q) refl
+
+module _ (e : Frame ℕ) (i w m low high : ℕ) (s : State) (q : s.play ≡ Child m) where
   -- a later child of an M: it is better than the best so far, or not
   max_later : (b : Bool) → below ltb s.low low s.other high ≡ b
       → Plays e MAX (after e MAX i w s low high) (cond b (child i low high) (child m s.low s.other))
   unfolding update
   max_later true t =
-      let x : takes MAX s low high ≡ true = later-taken s.play _ true (λ z. omega arith) t in
-      (rw x refl, z, (omega (arith, below-le s.low low s.other high t), rw x refl))
+      let x : takes MAX s low high ≡ true = later-taken _ true q t in
+      (rw x refl, (omega (arith, below-le s.low low s.other high t), rw x refl))
   max_later false t =
-      let x : takes MAX s low high ≡ false = later-taken s.play _ false (λ z. omega arith) t in
-      (rw x q, p, (omega (arith, below-ge s.low low s.other high t), rw x refl))
+      let x : takes MAX s low high ≡ false = later-taken _ false q t in
+      (rw x q, (omega (arith, below-ge s.low low s.other high t), rw x refl))
 
   min_later : (b : Bool) → below ltb high s.high low s.other ≡ b
       → Plays e MIN (after e MIN i w s low high) (cond b (child i low high) (child m s.other s.high))
   unfolding update
   min_later true t =
-      let x : takes MIN s low high ≡ true = later-taken s.play _ true (λ z. omega arith) t in
-      (rw x refl, z, (omega (arith, below-le high s.high low s.other t), rw x refl))
+      let x : takes MIN s low high ≡ true = later-taken _ true q t in
+      (rw x refl, (omega (arith, below-le high s.high low s.other t), rw x refl))
   min_later false t =
-      let x : takes MIN s low high ≡ false = later-taken s.play _ false (λ z. omega arith) t in
-      (rw x q, p, (omega (arith, below-ge high s.high low s.other t), rw x refl))
+      let x : takes MIN s low high ≡ false = later-taken _ false q t in
+      (rw x q, (omega (arith, below-ge high s.high low s.other t), rw x refl))
 
 -- A is what the child i gave
-pub plays-after : (e : Frame ℕ) (k : Kind) (i w : ℕ) (s : State) (p : Play ℕ) (A : Seen ℕ) → 0 < i → e.bottom ≤ A.low → A.high ≤ e.top → Plays e k s p
+pub plays-after : (e : Frame ℕ) (k : Kind) (i w : ℕ) (s : State) (p : Play ℕ) (A : Seen ℕ) → e.bottom ≤ A.low → A.high ≤ e.top → Plays e k s p
     → Plays e k (after e k i w s A.low A.high) (prefer natural_sums k i p A)
 unfolding prefer safer update
-plays-after e MAX i w s no_play A z low high h =
-    let x : takes MAX s A.low A.high ≡ true = first_taken s.play _ h.0 in (rw x refl, z, (omega (arith, h.1), rw x refl))
-plays-after e MIN i w s no_play A z low high h =
-    let x : takes MIN s A.low A.high ≡ true = first_taken s.play _ h.0 in (rw x refl, z, (omega (arith, h.1), rw x refl))
-plays-after e CHANCE i w s no_play A z low high h = (h.0, tt)
-plays-after e CHANCE i w s (child m l x) A z low high h = absurd h.2
-plays-after e MAX i w s (child m l x) A z low high h = rw (h.2.0, h.2.1) (max_later e i w m A.low A.high s h.0 h.1 z _ refl)
-plays-after e MIN i w s (child m l x) A z low high h = rw (h.2.0, h.2.1) (min_later e i w m A.low A.high s h.0 h.1 z _ refl)
+plays-after e MAX i w s no_play A low high h =
+    let x : takes MAX s A.low A.high ≡ true = first_taken _ h.0 in (rw x refl, (omega (arith, h.1), rw x refl))
+plays-after e MIN i w s no_play A low high h =
+    let x : takes MIN s A.low A.high ≡ true = first_taken _ h.0 in (rw x refl, (omega (arith, h.1), rw x refl))
+plays-after e CHANCE i w s no_play A low high h = (h.0, tt)
+plays-after e CHANCE i w s (child m l x) A low high h = absurd h.1
+plays-after e MAX i w s (child m l x) A low high h = rw (h.1.0, h.1.1) (max_later e i w m A.low A.high s h.0 _ refl)
+plays-after e MIN i w s (child m l x) A low high h = rw (h.1.0, h.1.1) (min_later e i w m A.low A.high s h.0 _ refl)

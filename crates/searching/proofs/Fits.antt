@@ -1,4 +1,4 @@
--- Nodes that can be searched are what the laws of the search ask for; what the search of one gives. Assumes nothing.
+-- Nodes that can be searched are what the laws of the search ask for; what the search of one gives.
 use Prim.Native.Nat.{ℕ, ◌+◌, ◌*◌, ◌≤◌}
 use mathlib.Core.Path.{◌≡◌, refl, sym, ap, ◌∙◌}
 use mathlib.Core.Bool.{false}

@@ -1,4 +1,4 @@
--- The search with sums looks at frames at the tree's own inner nodes alone; so what the code reads of them from two slices is what they are. Assumes nothing.
+-- The search with sums looks at frames at the tree's own inner nodes alone; so what the code reads of them from two slices is what they are.
 use Prim.Native.Nat.{ℕ, ◌*◌}
 use mathlib.Core.Path.{◌≡◌, refl, sym, ap, ◌∙◌}
 use mathlib.Core.Bool.{Bool, cond}

@@ -1,3 +1,4 @@
+pub mod Read
 pub mod Bridge
 pub mod Fits
 pub mod Rules

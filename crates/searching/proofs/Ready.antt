@@ -1,4 +1,4 @@
--- An accepted table can be searched, and what `search` gives for it is the search of the table. Assumes nothing.
+-- An accepted table can be searched, and what `search` gives for it is the search of the table.
 use Prim.Native.Nat.{ℕ, suc, ◌+◌, ◌*◌, ◌≤◌, ◌<◌}
 use mathlib.Core.Path.{◌≡◌, refl, sym, ap, subst, ◌∙◌}
 use mathlib.Core.Bool.{Bool}
@@ -96,10 +96,10 @@ module _ (g : Way) (left T K : ℕ) (ok : ℕ → Type 0) where
 
 -- ---- an accepted table by its slices, whose inner nodes have the frames fr
 
-module _ (s : List ℕ) (t : Table) (h : read_text s ≡ fine t) (ε : ℕ) (small : ε ≤ 40000000000000) (u : Slices) (tops : List ℕ)
+module _ (s : List ℕ) (t : Table) (h : read_text s ≡ fine t) (ε : ℕ) (small : ε ≤ 40000000000000) (u : Slices) (rises tops : List ℕ)
     (spans : Spans u 0 (length t.lines) (height_tree t)) (holds : Holds u (length t.lines)) (fr : ℕ → Forest ℕ → Frame ℕ) where
   abbrev W : Way
-  W = way_of t ε u.heights tops
+  W = way_of t ε rises tops
 
   -- as many reads as the list has entries
   module _ (left : ℕ) (same : SameAt height_sums natural (rules_of W left).frame fr ε (limited left) (grained (grain t) (height_tree t)))
@@ -150,7 +150,7 @@ module _ (s : List ℕ) (t : Table) (h : read_text s ≡ fine t) (ε : ℕ) (sma
   far = span t.head * grain t
 
   abbrev plainly : Way
-  plainly = way_of t ε u.heights []
+  plainly = way_of t ε [] []
 
   spans : Spans u 0 (length t.lines) (height_tree t)
   spans = accepted-lent s t h K S W H room_k room_s room_w room_h
@@ -159,14 +159,14 @@ module _ (s : List ℕ) (t : Table) (h : read_text s ≡ fine t) (ε : ℕ) (sma
   holds = accepted-holds s t h K S W H room_k room_s room_w room_h
 
   same : (left : ℕ) → SameAt height_sums natural (rules_of plainly left).frame (plain far) ε (limited left) (grained (grain t) (height_tree t))
-  same left = plain-same t ε u.heights left (grained (grain t) (height_tree t))
+  same left = plain-same t ε [] left (grained (grain t) (height_tree t))
 
   pub accepted-search-ready : ReadyRoot u plainly (ends_of t) (length t.lines)
-  accepted-search-ready = table-ready s t h ε small u [] spans holds (plain far) 0 (same 0) (each-listed plainly (height_tree t) refl) (tree-within s t h)
+  accepted-search-ready = table-ready s t h ε small u [] [] spans holds (plain far) 0 (same 0) (each-listed plainly (height_tree t) refl) (tree-within s t h)
 
   -- what was found is the search of the table, within a budget of as many reads as the list has entries
   pub accepted-searched : (r : Found) (came now : List ℕ) → Searched u plainly (ends_of t) (length t.lines) r came now → Shows r (height_searched t ε (limited (length came))) came now
   unfolding met_spent
   accepted-searched r came now told =
       subst (λ (a : Seen ℕ). Shows r a came now) (heights-summed s t h ε (limited (length came)))
-      (table-searched s t h ε small u [] spans holds (plain far) (length came) (same (length came)) (each-listed plainly (height_tree t) refl) (tree-within s t h) (λ n x. refl) r came now refl told)
+      (table-searched s t h ε small u [] [] spans holds (plain far) (length came) (same (length came)) (each-listed plainly (height_tree t) refl) (tree-within s t h) (λ n x. refl) r came now refl told)

@@ -1,4 +1,4 @@
--- The search of a whole table: what the calls at the root ask, and what they give. Assumes nothing.
+-- The search of a whole table: what the calls at the root ask, and what they give.
 use Prim.Native.Nat.{ℕ, suc, ◌-◌, ◌≤◌, ◌<◌}
 use mathlib.Core.Path.{◌≡◌, refl, sym, ap, subst, ◌∙◌}
 use mathlib.Core.List.{List, [], ◌∷◌}
@@ -6,7 +6,10 @@ use native.Mathlib.Nat.{le_refl, le_trans}
 use native.Mathlib.Omega.{arith}
 use lib.ListN.{length, get_or, set}
 use Rattle.table.specs.Tree.{MAX, Forest, end, leaf, inner}
+use Rattle.std.proofs.lemmas.List.{length-map}
 use Rattle.table.specs.Inside.{Slices, Spans}
+use Rattle.table.specs.declared.Node.{Node}
+use Rattle.table.specs.Nodes.{slices_in}
 use Rattle.table.specs.Slices.{laid}
 use Rattle.table.proofs.Nodes.{code-pos, root-stop, root-some}
 use Rattle.search.specs.Search.{Seen}
@@ -59,18 +62,16 @@ module _ {t : Slices} {g : Way} {v : Ends} {n : ℕ} (R : ReadyRoot t g v n) whe
   pub root-first : (room : ℕ) → ReadyNode t g v (record { alpha = 0; beta = 0 }) 0 n room room
   root-first room = root-at (record { alpha = 0; beta = 0 }) (omega arith) (omega arith) room
 
-  -- y is the kind that was read
-  pub root-ready : (room : ℕ) {y : ℕ} → y ≡ get_or t.kinds 0 0 → (y ≡ 0 → ⊥) → {u : Ends} → u ≡ g.own 0 → ReadyNode t g v (root_window u) 0 n room room
-  root-ready room q ne {u} is =
-      let own = ready-nested (root-first room) (λ h. ne (q ∙ h)) in
+  pub root-ready : (room : ℕ) → (get_or t.kinds 0 0 ≡ 0 → ⊥) → {u : Ends} → u ≡ g.own 0 → ReadyNode t g v (root_window u) 0 n room room
+  root-ready room ne {u} is =
+      let own = ready-nested (root-first room) ne in
       let h : u.top ≤ limit = subst (λ (v : Ends). v.top ≤ limit) (sym is) (le_trans own.top R.ends.top) in
       let b : u.bottom ≤ limit = le_trans (subst (λ (v : Ends). v.bottom ≤ v.top) (sym is) own.order) h in
       root-at (root_window u) b h room
 
-  pub root-long : (0 < length t.kinds) × (0 < length t.heights)
-  root-long =
-      let x = root-some t n R.nodes R.spans R.rooted in
-      (omega (arith, x, R.holds.kinds), omega (arith, x, R.holds.heights))
+pub root-long : (ns : List Node) {g : Way} {v : Ends} {n : ℕ} → ReadyRoot (slices_in ns) g v n → 0 < length ns
+root-long ns {g} {v} {n} R =
+    omega (arith, root-some (slices_in ns) n R.nodes R.spans R.rooted, R.holds.heights, length-map ns (λ (n : Node). n.height))
 
 shown : (r : Found) (a : Seen ℕ) (came now : List ℕ) → Gives (length came) r a came now → Shows r a came now
 shown r a came now G =

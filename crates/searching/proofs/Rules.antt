@@ -1,9 +1,10 @@
--- One child of a node, and one node, on plain values: what the proofs of the three searches cite. Assumes nothing.
+-- One child of a node, and one node, on plain values: what the proofs of the three searches cite.
 use Prim.Native.Nat.{ℕ, suc, ◌+◌, ◌-◌, ◌*◌, ◌≤◌, ◌<◌}
 use mathlib.Core.Path.{◌≡◌, refl, sym, ap, ap₂, subst, subst₂, ◌∙◌}
 use mathlib.Core.Bool.{Bool, true, false, cond}
 use mathlib.Core.List.{List, [], ◌∷◌, ◌++◌}
-use native.Mathlib.Nat.{suc-add, add-suc, add-zero, le_trans, mul-le-mul, mul-div_right}
+use Rattle.std.proofs.lemmas.List.{length-map}
+use native.Mathlib.Nat.{suc-add, add-suc, add-zero, le_trans, mul-le-mul}
 use native.Mathlib.Omega.{arith}
 use lib.ListN.{length, get_or, set, length-set, length-append}
 use lib.Dec.{eqb, leb}
@@ -11,6 +12,10 @@ use borrow.Author.Tests.{ne_eqb, lt-leb}
 use Rattle.line.proofs.Signs.{true-ne-false}
 use Rattle.table.specs.Tree.{Kind, MAX, MIN, CHANCE, Forest, end, leaf, inner, code_of, is_chance, is_end, weigh}
 use Rattle.table.specs.Inside.{Slices, Spans, Holds}
+use Rattle.table.specs.declared.Node.{Node}
+use Rattle.table.specs.declared.Play as found
+use Rattle.table.specs.declared.Play.TheVariants.{NoPlay}
+use Rattle.table.specs.Nodes.{kinds_in, heights_in, slices_in}
 use Rattle.table.proofs.Nodes.{code-inj, code-pos, stop_of, rest_of, number_of, weight_of, weigh-split, Step, step, spans-last, spans-more, spans-lt, spans-same}
 use Rattle.runs.specs.Inside.{weigh_at}
 use Rattle.runs.proofs.Scan.{spans-weigh}
@@ -67,18 +72,6 @@ pub record ReadyNode (t : Slices) (g : Way) (v : Ends) (w : Window) (c x left ro
   pub holds : Holds t x
   pub within : left ≤ room
 
-code-three : (j : Kind) → (code_of j ≡ 1 → ⊥) → (code_of j ≡ 2 → ⊥) → code_of j ≡ 3
-code-three MAX p q = absurd (p refl)
-code-three MIN p q = absurd (q refl)
-code-three CHANCE p q = refl
-
-spans-three : (t : Slices) (c e : ℕ) (F : Forest ℕ) → Spans t c e F → c < e
-    → (get_or t.kinds c 0 ≡ 0 → ⊥) → (get_or t.kinds c 0 ≡ 1 → ⊥) → (get_or t.kinds c 0 ≡ 2 → ⊥) → get_or t.kinds c 0 ≡ 3
-unfolding Spans
-spans-three t c e end h lt p q r = absurd (omega arith)
-spans-three t c e (leaf i w x rest) h lt p q r = absurd (p h.1)
-spans-three t c e (inner i w j under rest) h lt p q r = h.1 ∙ code-three j (λ z. q (h.1 ∙ z)) (λ z. r (h.1 ∙ z))
-
 -- a leaf's height
 spans-leaf : (t : Slices) (g : Way) (v : Ends) (k : Kind) (c e : ℕ) (F : Forest ℕ) → Spans t c e F → c < e → Fit g v k F → get_or t.kinds c 0 ≡ 0
     → get_or t.heights c 0 * g.rule.grain ≤ v.top
@@ -100,7 +93,6 @@ module _ (t : Slices) (g : Way) (v : Ends) (w : Window) (c x left room : ℕ) wh
       record {
         nodes = under;
         spans = is_u;
-        later = omega arith;
         some = spans-lt t (c + 1) x under is_u f.1;
         fit = subst₂ (λ (n : ℕ) (y : Kind). Fit g (g.own n) y under) h.0 same f.4;
         light = subst (λ (y : Kind). Light y under) same f.2;
@@ -153,10 +145,6 @@ module _ {t : Slices} {g : Way} {v : Ends} {w : Window} {c x left room : ℕ} (N
   pub ready-nested : (get_or t.kinds c 0 ≡ 0 → ⊥) → Nested g v c
   ready-nested z = ready-room t g v w c x left room N.parent N.upto N.nodes N.spans N.fit N.some z
 
-  -- y is the kind that was read
-  pub ready-three : (y : ℕ) → y ≡ get_or t.kinds c 0 → (y ≡ 0 → ⊥) → (y ≡ 1 → ⊥) → (y ≡ 2 → ⊥) → get_or t.kinds c 0 ≡ 3
-  ready-three y q n0 n1 n2 = spans-three t c N.upto N.nodes N.spans N.some (λ z. n0 (q ∙ z)) (λ z. n1 (q ∙ z)) (λ z. n2 (q ∙ z))
-
   pub ready-leaf : get_or t.kinds c 0 ≡ 0 → get_or t.heights c 0 * g.rule.grain < 9223372036854775808
   ready-leaf z =
       omega (arith, spans-leaf t g v N.parent c N.upto N.nodes N.spans N.some N.fit z, N.ends.top)
@@ -207,8 +195,8 @@ told-spent t g {v} k w c e {left} {came} {r} z q F is =
 
 -- before the first child of a node whose weights sum to N
 abbrev pub start_at : Kind → Ends → (N : ℕ) → Window → State
-start_at MAX v N w = record { alpha = w.alpha; beta = w.beta; low = v.bottom; high = v.bottom; play = 0; other = 0 }
-start_at MIN v N w = record { alpha = w.alpha; beta = w.beta; low = v.top; high = v.top; play = 0; other = 0 }
+start_at MAX v N w = record { alpha = w.alpha; beta = w.beta; low = v.bottom; high = v.bottom; play = NoPlay; other = 0 }
+start_at MIN v N w = record { alpha = w.alpha; beta = w.beta; low = v.top; high = v.top; play = NoPlay; other = 0 }
 start_at CHANCE v N w = sums_at v N w.alpha w.beta
 
 begin-lift : (v : Ends) (N : ℕ) (k : Kind) (w : Window) → keep height_sums (frame_at v N) k (begin (frame_at v N) k w.alpha w.beta []) ≡ lift (start_at k v N w) no_play [] false
@@ -233,7 +221,6 @@ pub record Going (t : Slices) (g : Way) (v : Ends) (k : Kind) (w : Window) (c₀
   pub begun : Spans t c₀ e all
   pub nodes : Forest ℕ
   pub spans : Spans t c e nodes
-  pub later : 0 < c₀
   pub past : c₀ ≤ c
   pub some : c < e
   pub fit : Fit g v k nodes
@@ -265,7 +252,6 @@ going_start {t} {g} {v} k w {c} {e} {left} {came} R more =
       begun = R.spans;
       nodes = F;
       spans = R.spans;
-      later = R.later;
       past = omega arith;
       some = R.some;
       fit = R.fit;
@@ -383,15 +369,11 @@ child-of {t} {g} {v} {k} {w} {c₀} {e} {left₀} {came₀} {s} {c} {left} {came
       small = omega (arith, I.some, H.few);
     }
 
-module _ {t : Slices} {g : Way} {v : Ends} {c₀ e c x left room : ℕ} {y : Window} (C : Child t g v c₀ e c x left room y) where
-  pub child-three : (z : ℕ) → z ≡ get_or t.kinds c 0 → (z ≡ 0 → ⊥) → (z ≡ 1 → ⊥) → (z ≡ 2 → ⊥) → get_or t.kinds c 0 ≡ 3
-  child-three = ready-three C.node
-
-  -- what a call of `leaf_at` asks
-  pub child-leaf : (z : ℕ) → z ≡ get_or t.kinds c 0 → z ≡ 0
-      → (c < length t.heights) × (left ≤ room) × (c < 1024) × (get_or t.heights c 0 * g.rule.grain < 9223372036854775808)
-  child-leaf z q p =
-      (omega (arith, C.inside, C.node.holds.heights), C.node.within, C.small, ready-leaf C.node (sym q ∙ p))
+-- what a call of `leaf_at` asks
+pub child-leaf : (ns : List Node) {g : Way} {v : Ends} {c₀ e c x left room : ℕ} {y : Window} → Child (slices_in ns) g v c₀ e c x left room y → get_or (kinds_in ns) c 0 ≡ 0
+    → (c < length ns) × (left ≤ room) × (c < 1024) × (get_or (heights_in ns) c 0 * g.rule.grain < 9223372036854775808)
+child-leaf ns C z =
+    (omega (arith, C.inside, C.node.holds.heights, length-map ns (λ (n : Node). n.height)), C.node.within, C.small, ready-leaf C.node z)
 
 module _ {t : Slices} {g : Rule} {H T : List ℕ} {v : Ends} {c₀ e c x left room : ℕ} {y : Window} (C : Child t (way g v H T) v c₀ e c x left room y) where
   -- what a call of the search of kind j asks; u is what was read of the child's ends
@@ -399,12 +381,11 @@ module _ {t : Slices} {g : Rule} {H T : List ℕ} {v : Ends} {c₀ e c x left ro
       → (x - (c + 1) < m) × ReadyChildren t (way g u H T) u j y (c + 1) x left room
   child-asks m q j p is = (omega (arith, C.less), ready-inner C.node j p is)
 
-  -- what a call of `ends_at` asks; z is the kind that was read
-  pub child-own : (z : ℕ) → z ≡ get_or t.kinds c 0 → (z ≡ 0 → ⊥) → 0 < length T
-      → (c < length H) × (c < length T) × (get_or H c 0 * g.grain ≤ limit) × (get_or T c 0 * g.grain ≤ limit)
-  child-own z q n = ready-own C.node (λ h. n (q ∙ h))
-
 -- ---- after a child
+
+-- the window that an M and an N hand on
+abbrev pub window_of : State → Window
+window_of s = record { alpha = s.alpha; beta = s.beta }
 
 -- what is told of the child at entry c: an M and an N hand their own window on, a C a narrower one
 abbrev pub ChildTold : {t : Slices} {g : Way} {v : Ends} {k : Kind} {w : Window} {c₀ e left₀ : ℕ} {came₀ : List ℕ} {s : State} {c left : ℕ} {came : List ℕ}
@@ -414,12 +395,12 @@ ChildTold {t} {g} {v} {k} {s = s} {c = c} {left = left} {came = came} I r now =
 
 module _ {t : Slices} {g : Way} {v : Ends} {w : Window} {c₀ e left₀ : ℕ} {came₀ : List ℕ} {s : State} {c left : ℕ} {came : List ℕ} where
   module _ {r : Found} {now : List ℕ} where
-    pub max-told : (I : Going t g v MAX w c₀ e left₀ came₀ s c left came) → NodeTold t g v (record { alpha = s.alpha; beta = s.beta }) c left r came now
+    pub max-told : (I : Going t g v MAX w c₀ e left₀ came₀ s c left came) → NodeTold t g v (window_of s) c left r came now
         → ChildTold I r now
     unfolding lower upper
     max-told I h = h
 
-    pub min-told : (I : Going t g v MIN w c₀ e left₀ came₀ s c left came) → NodeTold t g v (record { alpha = s.alpha; beta = s.beta }) c left r came now
+    pub min-told : (I : Going t g v MIN w c₀ e left₀ came₀ s c left came) → NodeTold t g v (window_of s) c left r came now
         → ChildTold I r now
     unfolding lower upper
     min-told I h = h
@@ -446,7 +427,7 @@ module _ {t : Slices} {g : Way} {v : Ends} {w : Window} {c₀ e left₀ : ℕ} {
   min-state I r z = z
 
 -- what a search returns for a node of this frame and kind that is left with the bounds low and high, on its scale
-abbrev pub out_of : Frame ℕ → Kind → (low high play left : ℕ) → Bool → Found
+abbrev pub out_of : Frame ℕ → Kind → (low high : ℕ) → found.Play → (left : ℕ) → Bool → Found
 out_of f k low high play left x = record { low = divided height_sums f k low; high = divided height_sums f k high; play = play; left = left; spent = x }
 
 -- the search of the children that are left, F, after the child before them
@@ -529,9 +510,6 @@ module _ {t : Slices} {g : Way} {v : Ends} {k : Kind} {w : Window} {c₀ e left�
       own-gives.leaves ∙ ap₂ (λ (l : List ℕ) (n : ℕ). put_from l n own.read) I.leaves-are place
       ∙ put-put came₀ (length came₀ - left₀) I.read own.read
 
-  kept_next : length now ≡ length came₀
-  kept_next = ap length leaves-next ∙ put-length came₀ (length came₀ - left₀) listed
-
   -- the state
   abbrev played : Play ℕ
   played = prefer natural_sums k (number_of F) I.play (ahead I.read own)
@@ -572,13 +550,10 @@ module _ {t : Slices} {g : Way} {v : Ends} {k : Kind} {w : Window} {c₀ e left�
     plays-next : Plays frame k s' played
     plays-next =
         subst (λ (z : State). Plays frame k z played) state-next
-        (plays-after frame k (number_of F) (weight_of F) s I.play (ahead I.read own) (omega (arith, (going_step I).number, I.later, I.past)) own-between.0 own-between.2 I.plays)
+        (plays-after frame k (number_of F) (weight_of F) s I.play (ahead I.read own) own-between.0 own-between.2 I.plays)
 
 module _ {t : Slices} {g : Way} {v : Ends} {k : Kind} {w : Window} {c₀ e left₀ m : ℕ} {came₀ : List ℕ} {c x : ℕ} {r : Found} {s' : State} {now : List ℕ}
     (U : Turn t g v k w c₀ e left₀ m came₀ c x r s' now) where
-  pub turn-same : length now ≡ length came₀
-  turn-same = kept_next U.going U.told
-
   pub turn-less : e - x < e - c
   turn-less = omega (arith, U.stop, (going_step U.going).below, U.going.some)
 
@@ -651,7 +626,6 @@ module _ {t : Slices} {g : Way} {v : Ends} {k : Kind} {w : Window} {c₀ e left�
         begun = I.begun;
         nodes = rest_of F;
         spans = subst (λ (n : ℕ). Spans t n e (rest_of F)) (sym U.stop) st.rest;
-        later = I.later;
         past = omega (arith, U.stop, I.past, st.below);
         some = omega (arith, U.stop, st.within, ne);
         fit = fit-rest g v k F I.fit;
@@ -674,13 +648,6 @@ module _ {t : Slices} {g : Way} {v : Ends} {k : Kind} {w : Window} {c₀ e left�
 
 -- ---- a C, whose total N was added up
 
--- the window in which its search began, from its first state
-abbrev pub window_from : ℕ → State → Window
-window_from N s = record { alpha = height_sums.over N s.alpha; beta = height_sums.over N s.beta }
-
-window-back : (v : Ends) (N : ℕ) (w : Window) {s : State} → 0 < N → s ≡ sums_at v N w.alpha w.beta → window_from N s ≡ w
-window-back v N w p q = ap (window_from N) q ∙ λ i. record { alpha = mul-div_right w.alpha p i; beta = mul-div_right w.beta p i }
-
 module _ {t : Slices} {g : Way} {v : Ends} {w : Window} {c e left room : ℕ} (R : ReadyChildren t g v CHANCE w c e left room) {N : ℕ}
     (sum_is_lem : N ≡ weigh_at t.stops t.weights 1024 c e) where
   ready-total : N ≡ weigh R.nodes
@@ -689,27 +656,19 @@ module _ {t : Slices} {g : Way} {v : Ends} {w : Window} {c e left room : ℕ} (R
   pub ready-light : N ≤ 64
   ready-light = omega (arith, ready-total, R.light refl)
 
-  ready-paid : 0 < N
-  ready-paid =
-      let st = step t c e R.nodes R.spans R.some in
-      omega (arith, ready-total, grained-weigh g.rule.grain R.nodes, (fit-sound g v R.ends.order CHANCE R.nodes st.some R.fit).paid)
-
 -- before the first child, in the state s
 pub chance-begins : {t : Slices} {g : Way} {v : Ends} {w : Window} {c e left : ℕ} {came : List ℕ} (R : ReadyChildren t g v CHANCE w c e left (length came)) → (left ≡ 0 → ⊥)
-    → {N : ℕ} {s : State} → N ≡ weigh_at t.stops t.weights 1024 c e → s ≡ sums_at v N w.alpha w.beta → Going t g v CHANCE (window_from N s) c e left came s c left came
-chance-begins {t} {g} {v} {w} {c} {e} {left} {came} R more {N} {s} sum_is_lem q =
-    subst₂ (λ (y : Window) (z : State). Going t g v CHANCE y c e left came z c left came) (sym (window-back v N w (ready-paid R sum_is_lem) q))
+    → {N : ℕ} {s : State} → N ≡ weigh_at t.stops t.weights 1024 c e → s ≡ sums_at v N w.alpha w.beta → Going t g v CHANCE w c e left came s c left came
+chance-begins {t} {g} {v} {w} {c} {e} {left} {came} R more sum_is_lem q =
+    subst (λ (z : State). Going t g v CHANCE w c e left came z c left came)
     (ap (λ (n : ℕ). sums_at v n w.alpha w.beta) (grained-weigh g.rule.grain R.nodes ∙ sym (ready-total R sum_is_lem)) ∙ sym q) (going_start CHANCE w R more)
 
 -- where it is left with the state s': the two sums are divided, and that is what is told
-pub chance-tells : {t : Slices} {g : Way} {v : Ends} {c₀ e left₀ m N : ℕ} {came₀ : List ℕ} {c x : ℕ} {r : Found} {s₀ s' : State} {now : List ℕ}
-    (U : Turn t g v CHANCE (window_from N s₀) c₀ e left₀ m came₀ c x r s' now) (w : Window) {out : Found} → N ≡ weigh_at t.stops t.weights 1024 c₀ e → s₀ ≡ sums_at v N w.alpha w.beta
-    → out ≡ left_in N s' r.left r.spent
-    → Told t g v CHANCE (window_from N s₀) c₀ e left₀ (out_of (frame_of g v U.going.all) CHANCE s'.low s'.high s'.play r.left r.spent) came₀ now
+pub chance-tells : {t : Slices} {g : Way} {v : Ends} {w : Window} {c₀ e left₀ m N : ℕ} {came₀ : List ℕ} {c x : ℕ} {r : Found} {s' : State} {now : List ℕ}
+    (U : Turn t g v CHANCE w c₀ e left₀ m came₀ c x r s' now) {out : Found} → N ≡ weigh_at t.stops t.weights 1024 c₀ e → out ≡ left_in N s' r.left r.spent
+    → Told t g v CHANCE w c₀ e left₀ (out_of (frame_of g v U.going.all) CHANCE s'.low s'.high s'.play r.left r.spent) came₀ now
     → Told t g v CHANCE w c₀ e left₀ out came₀ now
 unfolding divided
-chance-tells {t} {g} {v} {c₀} {e} {left₀} {m} {N} {came₀} {c} {x} {r} {s₀} {s'} {now} U w sum_is_lem begun q told =
-    let p = chance-total U.going sum_is_lem in
-    let u = chance-weight U.going in
-    subst₂ (λ (y : Window) (z : Found). Told t g v CHANCE y c₀ e left₀ z came₀ now) (window-back v N w (omega (arith, p, u.0, u.1)) begun)
-    (sym (q ∙ ap (λ (n : ℕ). left_in n s' r.left r.spent) (p ∙ sym (grained-weigh g.rule.grain U.going.all)))) told
+chance-tells {t} {g} {v} {w} {c₀} {e} {left₀} {m} {N} {came₀} {c} {x} {r} {s'} {now} U sum_is_lem q told =
+    subst (λ (z : Found). Told t g v CHANCE w c₀ e left₀ z came₀ now)
+    (sym (q ∙ ap (λ (n : ℕ). left_in n s' r.left r.spent) (chance-total U.going sum_is_lem ∙ sym (grained-weigh g.rule.grain U.going.all)))) told

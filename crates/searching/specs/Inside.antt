@@ -1,8 +1,10 @@
--- What the functions of the search over slices ask and tell, in the words of Algorithm 1 over heights, with the running sums of a C. No promise names these.
+-- What the functions of the search over nodes, seen as four lists of numbers, ask and tell, in the words of Algorithm 1 over heights, with the running sums of a C. No promise names these.
 use Rattle.std.specs.Prelude.{ℕ, ◌+◌, ◌*◌, ◌≤◌, ◌<◌, ◌≡◌, true, false, List, [], length}
 use Rattle.table.specs.Tree.{Kind, MAX, Forest, end, leaf, inner, is_chance, is_end, weigh}
 use Rattle.table.specs.Inside.{Slices, Spans, Holds}
 use Rattle.table.specs.Slices.{laid}
+use Rattle.table.specs.Root.{play_of}
+use Rattle.table.specs.Nodes.{slices_in}
 use Rattle.table.specs.Accepted.{Rooted}
 use Rattle.search.specs.Search.{Frame, no_play, Seen, Rules, limited, framed, begin, met, node_of}
 use Rattle.search.specs.Sums.{keep, scan_sums}
@@ -11,10 +13,8 @@ use Rattle.steps.specs.declared.Rule.{Rule}
 use Rattle.steps.specs.declared.Ends.{Ends}
 use Rattle.steps.specs.declared.Window.{Window}
 use Rattle.steps.specs.declared.Found.{Found}
-use Rattle.steps.specs.Inside.{ends_at, play_at, leaf_seen, Gives, limit, OkEnds}
-
-abbrev pub ends : (bottom top : ℕ) → Ends
-ends bottom top = record { bottom = bottom; top = top }
+use Rattle.searching.specs.declared.Table.{Table}
+use Rattle.steps.specs.Inside.{ends_at, leaf_seen, Gives, limit, OkEnds}
 
 -- What a search goes by: the margin and the scale, and each inner node's own ends, with the two lists that they are read from.
 pub record Way : Type 0 where
@@ -26,6 +26,13 @@ pub record Way : Type 0 where
 -- from the lists, or where they are empty the ends v at every node
 abbrev pub way : Rule → Ends → (rises tops : List ℕ) → Way
 way g v rises tops = record { rule = g; own = ends_at g.grain rises tops v; rises = rises; tops = tops }
+
+-- a table's nodes, and what its search goes by where the ends are v
+abbrev pub nodes_of : Table → Slices
+nodes_of t = slices_in t.nodes.now
+
+abbrev pub way_of : Table → Ends → Way
+way_of t v = way t.rule v t.rise.now t.tops.now
 
 -- with so many reads left
 abbrev pub rules_of : Way → (left : ℕ) → Rules ℕ
@@ -76,7 +83,6 @@ Fit g v k (inner i w j under rest) = Pays k w × (is_end under ≡ false) × Lig
 pub record ReadyChildren (t : Slices) (g : Way) (v : Ends) (k : Kind) (w : Window) (c e left room : ℕ) : Type 0 where
   pub nodes : Forest ℕ
   pub spans : Spans t c e nodes
-  pub later : 0 < c
   pub some : c < e
   pub fit : Fit g v k nodes
   pub light : Light k nodes
@@ -111,7 +117,7 @@ root_seen g v left F = node_seen g v left F (record { alpha = (g.own 0).bottom; 
 pub record Shows (r : Found) (a : Seen ℕ) (came now : List ℕ) : Type 0 where
   pub low : r.low ≡ a.low
   pub high : r.high ≡ a.high
-  pub play : play_at r.play ≡ node_of a.play
+  pub play : r.play ≡ play_of (node_of a.play)
   pub reads : r.left + length a.read ≡ length came
   pub spent : r.spent ≡ a.spent
   pub leaves : now ≡ laid a.read came

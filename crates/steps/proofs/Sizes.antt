@@ -1,19 +1,19 @@
--- Products and quotients within bounds; equal states. Assumes nothing.
-use Prim.Native.Nat.{ℕ, ◌+◌, ◌*◌, ◌/◌, ◌≤◌, ◌<◌}
-use mathlib.Core.Path.{◌≡◌}
-use native.Mathlib.Nat.{mul-le-mul, div-le_self}
-use native.Mathlib.Omega.{arith}
-use Rattle.steps.specs.declared.State.{State}
-use Rattle.steps.specs.Inside.{limit}
+-- Quotients that are rounded up.
+use Rattle.std.proofs.Common.{ℕ, ◌≡◌, ◌+◌, ◌-◌, ◌*◌, ◌/◌, ◌%◌, min, ◌≤◌, ◌<◌, ◌∙◌, ap, arith}
+use Rattle.std.proofs.lemmas.Nat.{div-add-mod', div-mul-add}
+use Rattle.std.specs.Int.{div_ceil}
+use native.Mathlib.Decide.{dec_le}
+use Rattle.search.specs.Inside.{ceil}
 
--- grains times a weight or the total
-pub product : (b a : ℕ) → b ≤ 64 → a ≤ 40000000000000 → b * a ≤ 2560000000000000
-product b a q p = mul-le-mul {n₂ = 64} {m₂ = 40000000000000} q p
-
-pub quotient_fits : (b x w : ℕ) → b ≤ limit → x ≤ 2251799813685312 → b + x / w < 18446744073709551616
-quotient_fits b x w p q = omega (arith, div-le_self x w)
-
--- in the order in which the code computes the parts
-pub state-eq : (x y : State) → x.low ≡ y.low → x.high ≡ y.high → x.alpha ≡ y.alpha → x.beta ≡ y.beta → x.play ≡ y.play
-    → x.other ≡ y.other → x ≡ y
-state-eq x y l h a b p o = λ i. record { alpha = a i; beta = b i; low = l i; high = h i; play = p i; other = o i }
+-- as std has it, and as Algorithm 1 over heights
+pub ceil_is : (x w : ℕ) → 0 < w → div_ceil x w ≡ ceil x w
+unfolding ceil
+ceil_is x w p = go (dec_le 1 (x % w))
+  where
+    go : Dec (1 ≤ x % w) → x / w + min 1 (x % w) ≡ (x + (w - 1)) / w
+    go (yes l) =
+        let e : x + (w - 1) ≡ (x / w + 1) * w + (x % w - 1) = omega (arith, div-add-mod' x w) in
+        omega (arith, ap (λ (n : ℕ). n / w) e ∙ div-mul-add (x / w + 1) w (x % w - 1) (omega arith))
+    go (no l) =
+        let e : x + (w - 1) ≡ x / w * w + (w - 1) = omega (arith, div-add-mod' x w) in
+        omega (arith, ap (λ (n : ℕ). n / w) e ∙ div-mul-add (x / w) w (w - 1) (omega arith))

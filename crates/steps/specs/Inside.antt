@@ -1,7 +1,9 @@
 -- What the functions of one step of the search ask and tell, in the words of Algorithm 1 over heights, with the running sums of a C. No promise names these.
 use Rattle.std.specs.Prelude.{ℕ, suc, ◌+◌, ◌*◌, ◌-◌, ◌≤◌, ◌≡◌, Bool, true, false, ◌||◌, cond, List, [], ◌∷◌, eqb, ltb, length, get_or, set}
-use Rattle.std.proofs.Math.Option.{Option, none, some}
 use Rattle.table.specs.Tree.{Kind, MAX, MIN, CHANCE}
+use Rattle.table.specs.Root.{play_of}
+use Rattle.table.specs.declared.Play as found
+use Rattle.table.specs.declared.Play.TheVariants.{Child, NoPlay}
 use Rattle.search.specs.Search as alg
 use Rattle.search.specs.Search.{Frame, Play, no_play, Seen, limited, below, point, met, lower, upper, update, node_of}
 use Rattle.search.specs.Inside.{natural, height_sums, natural_sums, height_rules}
@@ -24,17 +26,22 @@ lift s p l x = record { alpha = s.alpha; beta = s.beta; lo = s.low; hi = s.high;
 abbrev pub sums_at : Ends → (total α β : ℕ) → State
 sums_at v total α β =
     let kept : ℕ → ℕ = height_sums.times total in
-    record { alpha = kept α; beta = kept β; low = kept v.bottom; high = kept v.top; play = 0; other = 0 }
+    record { alpha = kept α; beta = kept β; low = kept v.bottom; high = kept v.top; play = NoPlay; other = 0 }
 
 -- the window of a child of weight w
 abbrev pub window_for : Frame ℕ → Kind → (w : ℕ) → State → Window
 window_for e k w s = record { alpha = lower natural_sums e k w (lift s no_play [] false); beta = upper natural_sums e k w (lift s no_play [] false) }
 
--- Whether a child of these bounds takes the place of the best so far: the first does, and then each that is better. Node 0 is no child, and stands for
--- none; the best child's low is the low of an M so far, and its high the high of an N.
+-- no child was entered yet
+abbrev pub is_first : found.Play → Bool
+is_first NoPlay = true
+is_first (Child n) = false
+
+-- Whether a child of these bounds takes the place of the best so far: the first does, and then each that is better. The best child's low is the low of an M
+-- so far, and its high the high of an N.
 abbrev pub takes : Kind → State → (low high : ℕ) → Bool
-takes MAX s low high = eqb s.play 0 || below ltb s.low low s.other high
-takes MIN s low high = eqb s.play 0 || below ltb high s.high low s.other
+takes MAX s low high = is_first s.play || below ltb s.low low s.other high
+takes MIN s low high = is_first s.play || below ltb high s.high low s.other
 takes CHANCE s low high = false
 
 -- of a child's two bounds the one that breaks a tie
@@ -52,7 +59,7 @@ after e k i w s low high =
       beta = t.beta;
       low = t.lo;
       high = t.hi;
-      play = cond (takes k s low high) i s.play;
+      play = cond (takes k s low high) (Child i) s.play;
       other = cond (takes k s low high) (other_of k low high) s.other;
     }
 
@@ -71,16 +78,12 @@ unfoldable pub put_from : List ℕ → ℕ → List ℕ → List ℕ
 put_from l k [] = l
 put_from l k (x ∷ xs) = put_from (set l k x) (suc k) xs
 
--- a node number as a play: 0 stands for none, as node 0 is no child
-abbrev pub play_at : ℕ → Option ℕ
-play_at n = cond (eqb n 0) none (some n)
-
 -- The result r, with the list as it came and as it is now, is what was seen of a node that was entered with so many reads left. The list has an entry
 -- for each read of the whole budget, and the leaves are listed behind those read before.
 pub record Gives (left : ℕ) (r : Found) (a : Seen ℕ) (came now : List ℕ) : Type 0 where
   pub low : r.low ≡ a.low
   pub high : r.high ≡ a.high
-  pub play : play_at r.play ≡ node_of a.play
+  pub play : r.play ≡ play_of (node_of a.play)
   pub reads : r.left + length a.read ≡ left
   pub spent : r.spent ≡ a.spent
   pub leaves : now ≡ put_from came (length came - left) a.read
@@ -91,7 +94,7 @@ left_in total s left x = record { low = height_sums.over total s.low; high = hei
 
 -- a node met when no read is left
 abbrev pub met_spent_in : Ends → Found
-met_spent_in v = record { low = v.bottom; high = v.top; play = 0; left = 0; spent = true }
+met_spent_in v = record { low = v.bottom; high = v.top; play = NoPlay; left = 0; spent = true }
 
 -- the leaf c of h grains, whatever the margin
 abbrev pub leaf_seen : Ends → (left c h : ℕ) → Seen ℕ

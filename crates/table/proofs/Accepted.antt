@@ -1,4 +1,5 @@
--- What holds of every accepted table: its header, its size, its lines as one tree, and the decoded slices. Assumes nothing.
+-- What holds of every accepted table: its header, its size, its lines as one tree, and the decoded slices.
+use Rattle.std.proofs.Common.{Err, Ok}
 use Prim.Native.Nat.{ℕ, suc, ◌+◌, ◌*◌, ◌^◌, ◌≤◌, ◌<◌}
 use mathlib.Core.Path.{◌≡◌, refl, sym, ap, subst, ◌∙◌}
 use mathlib.Core.Bool.{Bool, true, false, not, ◌&&◌, cond}
@@ -6,19 +7,18 @@ use mathlib.Core.List.{List, [], ◌∷◌, ◌++◌, append-eq-nil_iff}
 use native.Mathlib.Omega.{arith}
 use borrow.Author.Tests.{ltb-false}
 use lib.ListN.{length, get_or, take, drop, length-map}
-use lib.Dec.{eqb, ltb}
+use lib.Dec.{ltb}
 use lib.IntN.{pos, ◌+ℤ◌}
 use Rattle.line.specs.declared.Head.{Head}
 use Rattle.line.specs.declared.Line.{Line}
 use Rattle.line.specs.declared.Refusal.{Refusal}
 use Rattle.line.specs.declared.Refusal.TheVariants.{Length}
 use Rattle.line.specs.Refusal.{Verdict, refused, fine, next}
-use Rattle.line.specs.Line.{header, heading_of, totals, among, larger, Within}
+use Rattle.line.specs.Line.{header, heading_of, totals, among, larger, Within, code, is_leaf}
 use Rattle.line.specs.Inside.{Ranged}
 use Rattle.line.proofs.Signs.{true-ne-false}
 use Rattle.line.proofs.Fine.{header-ranged, total-ranged}
 use Rattle.table.specs.declared.Summary.{Summary}
-use Rattle.table.specs.declared.Reading.TheVariants.{Accepted, Refused}
 use Rattle.table.specs.Tree.{Kind, MAX, MIN, CHANCE, Forest, end, leaf, inner, is_chance, is_end, weigh, nodes_where, childless, unbalanced, leaves}
 use Rattle.table.specs.Table.{Table, bad_length, node_lines, tree, complete, count, read_text, greatest, leaf_lines, grain, summary, answer}
 use Rattle.table.specs.Slices.{height_of, kinds_of, stops_of, weights_of, heights_of, fitted}
@@ -30,6 +30,7 @@ use Rattle.table.proofs.Totals.{Divided, totals-all, divided, map-divided, power
 use Rattle.table.proofs.Laid.{fitted-all, fitted-long}
 use Rattle.table.proofs.Complete.{stops-long, completed, spans}
 use Rattle.table.proofs.Top.{good_length}
+use Rattle.line.specs.declared.Kind.TheVariants.{Leaf}
 use Rattle.table.proofs.Known.{read_length, read-few, read-flat, read-rooted, read-proper, read-leaves, read-spans}
 
 -- ---- nodes without a child, and sums
@@ -64,7 +65,7 @@ module _ {A : Type 0} where
 few-leaves : (ls : List Line) → leaf_lines ls ≤ length ls
 unfolding leaf_lines
 few-leaves [] = omega arith
-few-leaves (l ∷ ls) = go (few-leaves ls) (eqb l.kind 0)
+few-leaves (l ∷ ls) = go (few-leaves ls) (is_leaf l.kind)
   where
     go : leaf_lines ls ≤ length ls → (b : Bool) → cond b 1 0 + leaf_lines ls ≤ suc (length ls)
     go ih true = omega arith
@@ -107,11 +108,11 @@ counted s n e q = let g = good_length (length s) e in rw q (g.1, g.2, sym g.3)
 
 -- ---- what an answer tells of the text
 
-pub answer-refused : (v : Verdict Table) (r : Refusal) → answer v ≡ Refused r → v ≡ refused r
+pub answer-refused : (v : Verdict Table) (r : Refusal) → answer v ≡ Err r → v ≡ refused r
 answer-refused (refused x) r e = cc
 answer-refused (fine t) r e = let z : ◌≡◌ {A = ℕ} 0 1 = cc in absurd (omega arith)
 
-pub answer-accepted : (v : Verdict Table) (t : Summary) → answer v ≡ Accepted t → (T : Table) × (v ≡ fine T) × (summary T ≡ t)
+pub answer-accepted : (v : Verdict Table) (t : Summary) → answer v ≡ Ok t → (T : Table) × (v ≡ fine T) × (summary T ≡ t)
 answer-accepted (refused x) t e = let z : ◌≡◌ {A = ℕ} 0 1 = cc in absurd (omega arith)
 answer-accepted (fine T) t e = (T, cc, cc)
 
@@ -215,7 +216,7 @@ module _ (s : List ℕ) (t : Table) (h : read_text s ≡ fine t) where
         let ls : List Line = t.lines in
         subst (λ (m : ℕ). Spans (lent t K S W H) 0 m (height_tree t)) (sym (read_length t (count s) (drop 25 s) C.lines))
         (spans t.head (count s) (drop 25 s) ls C.lines some K S W H (fitted (kinds_of t) K) (fitted (stops_of t) S) (fitted (weights_of t) W) (fitted (heights_of t) H)
-        (fitted-all (kinds_of t) K (omega (arith, length-map ls (λ (l : Line). l.kind), room_k)))
+        (fitted-all (kinds_of t) K (omega (arith, length-map ls (λ (l : Line). code l.kind), room_k)))
         (fitted-all (stops_of t) S (omega (arith, stops-long ls, room_s)))
         (fitted-all (weights_of t) W (omega (arith, length-map ls (λ (l : Line). l.weight), room_w)))
         (fitted-all (heights_of t) H (omega (arith, length-map ls (height_of t.head.lowest), room_h))))
@@ -224,7 +225,7 @@ module _ (s : List ℕ) (t : Table) (h : read_text s ≡ fine t) where
     accepted-holds =
         let n : ℕ = length t.lines in
         record {
-          kinds = fitted-long (kinds_of t) K n (length-map t.lines (λ (l : Line). l.kind)) room_k;
+          kinds = fitted-long (kinds_of t) K n (length-map t.lines (λ (l : Line). code l.kind)) room_k;
           stops = fitted-long (stops_of t) S n (stops-long t.lines) room_s;
           weights = fitted-long (weights_of t) W n (length-map t.lines (λ (l : Line). l.weight)) room_w;
           heights = fitted-long (heights_of t) H n (length-map t.lines (height_of t.head.lowest)) room_h;
@@ -232,5 +233,5 @@ module _ (s : List ℕ) (t : Table) (h : read_text s ≡ fine t) where
         }
 
 -- a leaf's utility from its height
-pub whole-height : (h : Head) (l : Line) → Within h l.utility → l.kind ≡ 0 → h.lowest +ℤ pos (height_of h.lowest l) ≡ l.utility
+pub whole-height : (h : Head) (l : Line) → Within h l.utility → l.kind ≡ Leaf → h.lowest +ℤ pos (height_of h.lowest l) ≡ l.utility
 whole-height h l w e = rw e (height-back h.lowest l.utility w.0)

@@ -1,4 +1,4 @@
--- From decoded node lines to the whole verdict: 8, 9, 18, and the numbers of an accepted table. Assumes nothing.
+-- From decoded node lines to the whole verdict: 8, 9, 18, and the numbers of an accepted table.
 use Prim.Native.Nat.{ℕ, suc, ◌+◌, ◌≤◌, ◌<◌}
 use mathlib.Core.Path.{◌≡◌, refl, ap, subst, ◌∙◌}
 use mathlib.Core.Bool.{false}
@@ -11,7 +11,7 @@ use Rattle.line.specs.declared.Line.{Line}
 use Rattle.line.specs.declared.Refusal.{Refusal}
 use Rattle.line.specs.declared.Refusal.TheVariants.{Childless, WrongSum}
 use Rattle.line.specs.Refusal.{Verdict, fine, unless, unless_at, next}
-use Rattle.line.specs.Line.{totals}
+use Rattle.line.specs.Line.{totals, code}
 use Rattle.line.proofs.Fine.{unless-fine, unless_at-fine}
 use Rattle.table.specs.Tree.{Forest, end, leaf, inner, childless, unbalanced}
 use Rattle.table.specs.Table.{Table, node_lines, tree, grain, grain_checks, complete}
@@ -83,7 +83,7 @@ module _ (h : Head) (n : ℕ) (s : List ℕ) (ls : List Line) (e : node_lines h 
     spans =
         spans-same (slices_of t) S n
         (λ i l. (
-          laid-at (kinds_of t) k k' n i pk (length-map ls (λ (l : Line). l.kind) ∙ counted) l,
+          laid-at (kinds_of t) k k' n i pk (length-map ls (λ (l : Line). code l.kind) ∙ counted) l,
           laid-at (stops_of t) st st' n i ps (stops-long ls ∙ counted) l,
           laid-at (weights_of t) w w' n i pw (length-map ls (λ (l : Line). l.weight) ∙ counted) l,
           laid-at (heights_of t) g g' n i pg (length-map ls (height_of h.lowest) ∙ counted) l,

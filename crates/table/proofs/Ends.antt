@@ -1,4 +1,4 @@
--- The ends of an accepted table: how far they are apart, in points and in grains. Assumes nothing.
+-- The ends of an accepted table: how far they are apart, in points and in grains.
 use Prim.Native.Nat.{ℕ, ◌+◌, ◌*◌, ◌≤◌}
 use mathlib.Core.Path.{◌≡◌, refl, sym, ap, ◌∙◌}
 use mathlib.Core.Bool.{false}

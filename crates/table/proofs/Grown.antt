@@ -1,4 +1,4 @@
--- The node lines that were read are the lines of a tree. Assumes nothing.
+-- The node lines that were read are the lines of a tree.
 use Prim.Native.Nat.{ℕ, zero, suc, ◌+◌, ◌≤◌, ◌<◌, max}
 use mathlib.Core.Path.{◌≡◌, refl, sym, ap, ap₂, subst, ◌∙◌}
 use mathlib.Core.Bool.{Bool, true, false, cond}
@@ -12,10 +12,13 @@ use Rattle.line.specs.declared.Head.{Head}
 use Rattle.line.specs.declared.Line.{Line}
 use Rattle.line.specs.declared.Refusal.{Refusal}
 use Rattle.line.specs.Refusal.{Verdict, refused, fine, next}
-use Rattle.line.specs.Line.{larger, Step, wrong, path, climb, ancestors, steps_of, chances_of, at_chance, stepped, Placed, entry_of, node_line, Within}
+use Rattle.line.specs.declared.Kind.{Kind as LineKind}
+use Rattle.line.specs.declared.Kind.TheVariants.{Leaf, Max, Min, Chance}
+use Rattle.line.specs.declared.Step.{Step}
+use Rattle.line.specs.Line.{larger, code, is_leaf, wrong, path, climb, ancestors, steps_of, chances_of, at_chance, stepped, Placed, entry_of, node_line, Within}
 use Rattle.line.proofs.Signs.{true-ne-false}
 use Rattle.line.proofs.Fine.{Falling, falling-more, Headed, climbed, Valued, Read, line_read}
-use Rattle.table.specs.Tree.{Kind, MAX, MIN, CHANCE, Forest, end, leaf, inner, code_of}
+use Rattle.table.specs.Tree.{Kind, MAX, MIN, CHANCE, Forest, end, leaf, inner, line_kind}
 use Rattle.table.specs.Table.{prefix, node_lines, greatest}
 use Rattle.table.specs.Accepted.{Proper, Rooted, flat, one}
 use Rattle.table.proofs.Runs.{size, Numbered, code-inner, code-chance}
@@ -82,17 +85,16 @@ module _ (h : Head) where
 
 -- ---- the nodes below each step of a path
 
--- a kind's number is that of a leaf or of an inner kind
-data Coded (n : ℕ) : Type 0 where
-  coded-leaf : n ≡ 0 → Coded n
-  coded-inner : (k : Kind) → n ≡ code_of k → Coded n
+-- a line's kind is that of a leaf or of an inner node
+data Kinds (n : LineKind) : Type 0 where
+  kind-leaf : n ≡ Leaf → Kinds n
+  kind-inner : (k : Kind) → n ≡ line_kind k → Kinds n
 
-coded : (n : ℕ) → n < 4 → Coded n
-coded zero h = coded-leaf refl
-coded (suc zero) h = coded-inner MAX refl
-coded (suc (suc zero)) h = coded-inner MIN refl
-coded (suc (suc (suc zero))) h = coded-inner CHANCE refl
-coded (suc (suc (suc (suc n)))) h = absurd (omega arith)
+kinds : (n : LineKind) → Kinds n
+kinds Leaf = kind-leaf refl
+kinds Max = kind-inner MAX refl
+kinds Min = kind-inner MIN refl
+kinds Chance = kind-inner CHANCE refl
 
 -- the number of the last step, and whether it is a leaf
 abbrev node_of : List Step → ℕ
@@ -101,7 +103,7 @@ node_of (s ∷ P) = s.node
 
 abbrev at_leaf : List Step → Bool
 at_leaf [] = false
-at_leaf (s ∷ P) = eqb s.kind 0
+at_leaf (s ∷ P) = is_leaf s.kind
 
 -- the nodes after the first
 abbrev rest_of : Forest ℤ → Forest ℤ
@@ -109,7 +111,7 @@ rest_of end = end
 rest_of (leaf n w v rest) = rest
 rest_of (inner n w k under rest) = rest
 
-line-is : (l : Line) (n k p w : ℕ) (z : ℤ) (c : ℕ)
+line-is : (l : Line) (n : ℕ) (k : LineKind) (p w : ℕ) (z : ℤ) (c : ℕ)
     → l.node ≡ n → l.kind ≡ k → l.parent ≡ p → l.weight ≡ w → l.utility ≡ z → l.chances ≡ c
     → record { node = n; kind = k; parent = p; weight = w; utility = z; chances = c } ≡ l
 line-is l n k p w z c a b d e f g = sym (λ j. record { node = a j; kind = b j; parent = d j; weight = e j; utility = f j; chances = g j })
@@ -139,7 +141,7 @@ module _ (h : Head) (K : ℕ) where
       → p.line.parent ≡ node_of P → at_leaf P ≡ false → p.line.chances ≤ K
       → Grown (stepped i p.line.kind P) (suc i) U → Grown P (suc i + size U) T → Topped P i p.line U T
   unfolding flat
-  topped i R P p U T r parent open_step few g f = go (coded l.kind r.kind)
+  topped i R P p U T r parent open_step few g f = go (kinds l.kind)
     where
       l : Line
       l = p.line
@@ -150,11 +152,11 @@ module _ (h : Head) (K : ℕ) where
       short : length P < 64
       short = rw (ap length r.steps) at r.short
 
-      chances : l.chances ≡ chances_of P + cond (eqb l.kind 3) 1 0
+      chances : l.chances ≡ chances_of P + cond (eqb (code l.kind) 3) 1 0
       chances = r.chances ∙ ap chances_of r.steps
 
-      go : Coded l.kind → Topped P i l U T
-      go (coded-leaf e) =
+      go : Kinds l.kind → Topped P i l U T
+      go (kind-leaf e) =
           let b : U ≡ end = g.barren (rw e) in
           let u : size U ≡ 0 = ap size b in
           let c : l.chances ≡ chances_of P = chances ∙ rw (e, add-zero) in
@@ -163,14 +165,14 @@ module _ (h : Head) (K : ℕ) where
             top = top;
             grown = record {
               numbered = (refl, subst (λ (n : ℕ). Numbered n T) (omega arith) f.numbered);
-              proper = (r.weight, subst (λ (k : ℕ). Valued (eqb k 0) h l.utility) e r.utility, short, omega (arith, c, few), f.proper);
+              proper = (r.weight, subst (λ (k : LineKind). Valued (is_leaf k) h l.utility) e r.utility, short, omega (arith, c, few), f.proper);
               barren = below top;
             };
-            lines = ap₂ ◌∷◌ (line-is l i 0 (node_of P) l.weight l.utility (chances_of P) r.node e parent refl refl c) (rw b);
+            lines = ap₂ ◌∷◌ (line-is l i Leaf (node_of P) l.weight l.utility (chances_of P) r.node e parent refl refl c) (rw b);
             large = omega arith;
             last = refl;
           }
-      go (coded-inner k e) =
+      go (kind-inner k e) =
           let c : l.chances ≡ chances_of P + one k = chances ∙ rw (e, code-chance) in
           let z : l.utility ≡ pos 0 = rw (e, code-inner k) at r.utility in
           let top : Forest ℤ = inner i l.weight k U T in
@@ -181,7 +183,7 @@ module _ (h : Head) (K : ℕ) where
               proper = (r.weight, short, omega (arith, c, few), rw (e, code-chance) at g.proper, f.proper);
               barren = below top;
             };
-            lines = ap₂ ◌∷◌ (line-is l i (code_of k) (node_of P) l.weight (pos 0) (chances_of P + one k) r.node e parent refl z c) (rw (e, code-chance));
+            lines = ap₂ ◌∷◌ (line-is l i (line_kind k) (node_of P) l.weight (pos 0) (chances_of P + one k) r.node e parent refl z c) (rw (e, code-chance));
             large = refl;
             last = refl;
           }
@@ -200,7 +202,7 @@ module _ (h : Head) (K : ℕ) where
   stacked-climb : (p i : ℕ) (R Q : List Step) (ls : List Line) → climb p R ≡ path Q → Stacked i Q ls → Stacked i R ls
   unfolding climb flat
   stacked-climb p i [] Q ls e S = path-wrong Q e
-  stacked-climb p i (s ∷ R) Q ls e S = go (stacked-climb p i R Q ls) (eqb s.node p) (eqb s.kind 0) e
+  stacked-climb p i (s ∷ R) Q ls e S = go (stacked-climb p i R Q ls) (eqb s.node p) (is_leaf s.kind) e
     where
       go : (climb p R ≡ path Q → Stacked i Q ls → Stacked i R ls) → (t u : Bool)
           → cond t (cond u wrong (path (s ∷ R))) (climb p R) ≡ path Q → Stacked i (s ∷ R) ls
@@ -232,7 +234,7 @@ module _ (h : Head) (K : ℕ) where
       let P = F.above in
       let C = climbed p.line.parent i (s ∷ R) P f F.read.climbs in
       let m : max p.line.chances (greatest F.rest) ≤ K = rw F.lines at g in
-      let here : Step = record { node = i; kind = p.line.kind; chances = chances_of P + cond (eqb p.line.kind 3) 1 0 } in
+      let here : Step = record { node = i; kind = p.line.kind; chances = chances_of P + cond (eqb (code p.line.kind) 3) 1 0 } in
       let falls : Falling (suc i) (here ∷ P) = (omega arith, falling-more (suc p.line.parent) i P C.below C.falls) in
       let S = stacked n (suc i) here P (drop 25 t) F.rest falls (omega arith) (rw F.read.steps at F.more) in
       rw F.lines (stacked-climb p.line.parent i (s ∷ R) P (p.line ∷ F.rest) F.read.climbs
@@ -276,6 +278,6 @@ module _ (h : Head) where
       let p = F.placed in
       let r : Read h 0 [] [] p = subst (λ (Q : List Step). Read h 0 [] Q p) F.read.climbs.1 F.read in
       let K : ℕ = greatest (p.line ∷ F.rest) in
-      let here : Step = record { node = 0; kind = p.line.kind; chances = 0 + cond (eqb p.line.kind 3) 1 0 } in
+      let here : Step = record { node = 0; kind = p.line.kind; chances = 0 + cond (eqb (code p.line.kind) 3) 1 0 } in
       let S = stacked h K n 1 here [] (drop 25 t) F.rest (omega arith, tt) (omega arith) (rw r.steps at F.more) in
       rw F.lines (one-tree-of p F.rest r (omega arith) S)

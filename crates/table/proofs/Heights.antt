@@ -1,4 +1,4 @@
--- Heights in place of utilities: the tree of heights is the tree with each leaf's value replaced. Assumes nothing.
+-- Heights in place of utilities: the tree of heights is the tree with each leaf's value replaced.
 use Prim.Native.Nat.{ℕ, zero, suc, ◌+◌, ◌-◌, ◌≤◌}
 use mathlib.Core.Path.{◌≡◌, refl, ap, ◌∙◌}
 use mathlib.Core.Bool.{Bool, true, false, cond}
@@ -6,11 +6,10 @@ use mathlib.Core.List.{List, [], ◌∷◌}
 use native.Mathlib.Omega.{arith}
 use borrow.Author.Tests.{ltb-false, le-ltb}
 use lib.ListN.{length}
-use lib.Dec.{eqb}
 use lib.IntN.{ℤ, pos, negsuc, sub_ℕ, ◌+ℤ◌, ◌-ℤ◌, +ℤ_comm, -ℤ-+ℤ_cancel}
 use lib.Signed.{lt_z}
 use Rattle.line.specs.declared.Line.{Line}
-use Rattle.line.specs.Line.{to_nat}
+use Rattle.line.specs.Line.{to_nat, code, is_leaf}
 use Rattle.line.proofs.Signs.{true-ne-false}
 use Rattle.table.specs.Tree.{Forest, end, leaf, inner, is_chance, is_end, kind_of, run, after, forest, weigh, uses, leaves}
 use Rattle.table.specs.Table.{Table, tree}
@@ -123,8 +122,8 @@ module _ (lo : ℤ) where
 
   grow-map : (l : Line) (b : Bool) (U T : Forest ℤ)
       → cond b (leaf l.node l.weight (cond b (above l.utility) 0) (map_forest above T))
-      (inner l.node l.weight (kind_of l.kind) (map_forest above U) (map_forest above T))
-      ≡ map_forest above (cond b (leaf l.node l.weight l.utility T) (inner l.node l.weight (kind_of l.kind) U T))
+      (inner l.node l.weight (kind_of (code l.kind)) (map_forest above U) (map_forest above T))
+      ≡ map_forest above (cond b (leaf l.node l.weight l.utility T) (inner l.node l.weight (kind_of (code l.kind)) U T))
   grow-map l true U T = refl
   grow-map l false U T = refl
 
@@ -135,7 +134,7 @@ module _ (lo : ℤ) where
   heights-forest (suc k) (l ∷ ls) =
       let under : Forest ℤ = forest (λ (l : Line). l.utility) k (run l.node ls) in
       let rest : Forest ℤ = forest (λ (l : Line). l.utility) k (after l.node ls) in
-      rw (heights-forest k (run l.node ls), heights-forest k (after l.node ls)) (grow-map l (eqb l.kind 0) under rest)
+      rw (heights-forest k (run l.node ls), heights-forest k (after l.node ls)) (grow-map l (is_leaf l.kind) under rest)
 
 -- for every table, accepted or not
 pub heights-map : (t : Table) → height_tree t ≡ map_forest (above t.head.lowest) (tree t)

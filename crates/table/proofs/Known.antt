@@ -1,4 +1,4 @@
--- Node lines that were read, before the last two checks: the tree is theirs, and the slices hold it. Assumes nothing.
+-- Node lines that were read, before the last two checks: the tree is theirs, and the slices hold it.
 use Prim.Native.Nat.{ℕ, ◌≤◌, ◌<◌}
 use mathlib.Core.Path.{◌≡◌, sym, ap, subst, ◌∙◌}
 use mathlib.Core.Bool.{false}

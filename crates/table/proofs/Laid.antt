@@ -1,4 +1,4 @@
--- Entries at the front of a slice. Assumes nothing.
+-- Entries at the front of a slice.
 use Prim.Native.Nat.{ℕ, suc, ◌≤◌, ◌<◌}
 use mathlib.Core.Path.{◌≡◌, sym, ap, ◌∙◌}
 use mathlib.Core.List.{List, [], ◌∷◌, ◌++◌, append_assoc}

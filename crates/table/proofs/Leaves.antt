@@ -1,4 +1,4 @@
--- The leaves of a tree whose nodes are numbered in depth-first order: no two have one number, and what is picked among them has none twice. Assumes nothing.
+-- The leaves of a tree whose nodes are numbered in depth-first order: no two have one number, and what is picked among them has none twice.
 use Prim.Native.Nat.{ℕ, suc, ◌+◌, ◌≤◌, ◌<◌}
 use mathlib.Core.Path.{◌≡◌, refl, sym, ap, ap₂, subst, ◌∙◌}
 use mathlib.Core.List.Memᴰ

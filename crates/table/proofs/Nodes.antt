@@ -1,4 +1,4 @@
--- Nodes in slices, one at a time. Assumes nothing.
+-- Nodes in slices, one at a time.
 use Prim.Native.Nat.{ℕ, ◌+◌, ◌≤◌, ◌<◌}
 use mathlib.Core.Path.{◌≡◌, refl, sym, subst, ◌∙◌}
 use mathlib.Core.Bool.{true, false}

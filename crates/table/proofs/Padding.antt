@@ -1,4 +1,4 @@
--- Texts that differ in padding alone are read alike. Document 02, Item 9. Assumes nothing.
+-- Texts that differ in padding alone are read alike. Document 02, Item 9.
 use Prim.Native.Nat.{ℕ, zero, suc, ◌-◌, ◌/◌, ◌≤◌, ◌<◌}
 use mathlib.Core.Path.{◌≡◌, refl, sym, ap, ◌∙◌}
 use mathlib.Core.Bool.{Bool, true, false, cond}
@@ -19,7 +19,8 @@ use Rattle.line.specs.declared.Head.{Head}
 use Rattle.line.specs.declared.Line.{Line}
 use Rattle.line.specs.declared.Refusal.TheVariants.{Length}
 use Rattle.line.specs.Refusal.{refused, next}
-use Rattle.line.specs.Line.{is_blank, second_of, total_of, heading_of, header, header_for, Step, Placed, place_of, node_line}
+use Rattle.line.specs.declared.Step.{Step}
+use Rattle.line.specs.Line.{is_blank, second_of, total_of, heading_of, header, header_for, Placed, place_of, node_line}
 use Rattle.table.specs.Table.{prefix, node_lines, lines_of, complete, bad_length, read_text}
 use Rattle.table.specs.Padding.{columns_of, SameField, SameTotals, one-total, two-totals, kept-totals, SameHeader, SameLine, SameLines, SameText}
 use Rattle.table.proofs.Top.{good_length}

@@ -1,5 +1,4 @@
 -- A table is refused with a number up to 10 or with 18, not with 1 where the length is good, and with a line of the table; 18 only for what it is for.
--- Assumes nothing.
 use Prim.Native.Nat.{ℕ, zero, suc, ◌+◌, ◌≤◌, ◌<◌}
 use mathlib.Core.Path.{◌≡◌, refl, sym, ap, subst, ◌∙◌}
 use mathlib.Core.Bool.{Bool, true, false, cond}
@@ -14,7 +13,8 @@ use Rattle.line.specs.declared.Line.{Line}
 use Rattle.line.specs.declared.Refusal.{Refusal}
 use Rattle.line.specs.declared.Refusal.TheVariants.{Length, IllWritten, OutOfRange, Misnumbered, UnknownKind, WrongParent, Misfilled, Childless, WrongSum, TooDeep, TooManyGrains}
 use Rattle.line.specs.Refusal.{Verdict, refused, fine, Check, unless, unless_at, next, number_of, line_of}
-use Rattle.line.specs.Line.{Step, Placed, ancestors, stepped, steps_of, placed, letter_code, entry_of, heading_of, head_of, totals, header, header_checks, line_checks, node_line}
+use Rattle.line.specs.declared.Step.{Step}
+use Rattle.line.specs.Line.{Placed, ancestors, stepped, steps_of, placed, kind_said, entry_of, heading_of, head_of, totals, header, header_checks, line_checks, node_line}
 use Rattle.line.proofs.Fine.{unless_at-fine, header-ranged}
 use Rattle.table.specs.Tree.{Kind, Forest, end, leaf, inner, nodes_where, childless, unbalanced}
 use Rattle.table.specs.Table.{Table, prefix, node_lines, tree, grain, grain_checks, complete, bad_length, count, lines_of, read_text, greatest}
@@ -75,7 +75,7 @@ module _ (P : Refusal → Type 0) (h : Head) (m : ℕ) (of-line : Lined P m) whe
   lines-upto (suc n) i Q s l =
       let e = entry_of (take 25 s) in
       let a = ancestors e.parent Q in
-      let k : ℕ = letter_code e.letter in
+      let k = kind_said e in
       let here : i + 1 ≤ m = omega arith in
       let o : (r : Refusal) → 2 ≤ number_of r → number_of r ≤ 10 → line_of r ≡ i + 1 → P r = λ r a b c. of-line r a b (omega arith) in
       next-upto P (node_line h i Q (take 25 s)) (λ (p : Placed). prefix (p.line ∷ []) (node_lines h n (suc i) p.steps (drop 25 s)))

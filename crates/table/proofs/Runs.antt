@@ -1,4 +1,4 @@
--- The lines of a tree, and the tree of those lines: a run of lines is what stands under a node. Assumes nothing.
+-- The lines of a tree, and the tree of those lines: a run of lines is what stands under a node.
 use Prim.Native.Nat.{ℕ, zero, suc, ◌+◌, ◌≤◌, ◌<◌}
 use mathlib.Core.Path.{◌≡◌, refl, sym, ap, ◌∙◌}
 use mathlib.Core.Bool.{false}

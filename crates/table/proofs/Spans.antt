@@ -1,4 +1,4 @@
--- The decoded slices hold the tree: a node's stop is one past the last line of its run. Assumes nothing.
+-- The decoded slices hold the tree: a node's stop is one past the last line of its run.
 use Prim.Native.Nat.{ℕ, zero, suc, ◌+◌, ◌≤◌, ◌<◌}
 use mathlib.Core.Path.{◌≡◌, refl, sym, ap, ◌∙◌}
 use mathlib.Core.List.{List, [], ◌∷◌, ◌++◌, map, append_assoc, append-nil}
@@ -7,12 +7,14 @@ use lib.ListN.{length, get_or, drop}
 use lib.Seq.{drop-drop, drop-append_seam, drop-nil}
 use lib.IntN.{ℤ, pos}
 use Rattle.line.specs.declared.Line.{Line}
-use Rattle.table.specs.Tree.{Kind, Forest, end, leaf, inner, code_of, run}
+use Rattle.table.specs.Tree.{Kind, Forest, end, leaf, inner, line_kind, run}
 use Rattle.table.specs.Table.{Table}
 use Rattle.table.specs.Slices.{height_of, line_stops}
 use Rattle.table.specs.Inside.{Slices, Spans, slices_of}
 use Rattle.table.specs.Accepted.{flat, one, Rooted}
 use Rattle.table.proofs.Runs.{size, Numbered, flat-length, Outside, outside-more, flat-outside, run-outside, run-under}
+use Rattle.line.specs.Line.{code}
+use Rattle.line.specs.declared.Kind.TheVariants.{Leaf}
 use Rattle.table.proofs.Heights.{map_forest, above}
 
 -- the entries of nodes go from c up to e
@@ -62,10 +64,10 @@ module _ (t : Table) where
       → (Stands (n + 1) p c rest tail → Spans (slices_of t) (n + 1) e (shown rest)) → Spans (slices_of t) n e (shown (leaf n w v rest))
   unfolding flat Spans
   spans-leaf p c n w e v rest tail d o f =
-      let l : Line = record { node = n; kind = 0; parent = p; weight = w; utility = v; chances = c } in
+      let l : Line = record { node = n; kind = Leaf; parent = p; weight = w; utility = v; chances = c } in
       let ls : List Line = flat p c rest ++ tail in (
         refl,
-        map_at l ls (λ (l : Line). l.kind) t.lines n d,
+        map_at l ls (λ (l : Line). code l.kind) t.lines n d,
         stops_at l ls t.lines n d ∙ rw (run-outside n ls o) (omega arith),
         map_at l ls (λ (l : Line). l.weight) t.lines n d,
         map_at l ls (height_of t.head.lowest) t.lines n d,
@@ -79,7 +81,7 @@ module _ (t : Table) where
       → Spans (slices_of t) n e (shown (inner n w k under rest))
   unfolding flat Spans
   spans-inner p c n w e k under rest tail d N o f g =
-      let l : Line = record { node = n; kind = code_of k; parent = p; weight = w; utility = pos 0; chances = c + one k } in
+      let l : Line = record { node = n; kind = line_kind k; parent = p; weight = w; utility = pos 0; chances = c + one k } in
       let more : List Line = flat p c rest ++ tail in
       let ls : List Line = flat n (c + one k) under ++ more in
       let d' : drop n t.lines ≡ l ∷ ls = d ∙ rw append_assoc in
@@ -88,7 +90,7 @@ module _ (t : Table) where
       let on : Stands (n + 1) n (c + one k) under more = drop-on t.lines n (l ∷ []) ls d' in
       rw stop (
         refl,
-        map_at l ls (λ (l : Line). l.kind) t.lines n d',
+        map_at l ls (λ (l : Line). code l.kind) t.lines n d',
         map_at l ls (λ (l : Line). l.weight) t.lines n d',
         f on,
         g (rw long at (drop-on t.lines (n + 1) (flat n (c + one k) under) more on)),

@@ -1,4 +1,4 @@
--- The first steps of the reading, the length and the header, and the last: what is copied out. Assumes nothing.
+-- The first steps of the reading, the length and the header, and the last: what is copied out.
 use Prim.Native.Nat.{ℕ, ◌+◌, ◌-◌, ◌*◌, ◌/◌, ◌%◌, ◌≤◌, ◌<◌}
 use mathlib.Core.Path.{◌≡◌, ◌∙◌}
 use mathlib.Core.Bool.{true, false, not, ◌||◌}

@@ -1,5 +1,5 @@
 -- One argument over the totals: at every node the grain count is divided by the sums of the C on the path down to it, whichever totals these are; and
--- where there is one total, its uses are all the C. Document 02, Item 5. Assumes nothing.
+-- where there is one total, its uses are all the C. Document 02, Item 5.
 use Prim.Native.Nat.{ℕ, ◌+◌, ◌*◌, ◌-◌, ◌^◌, max, ◌≤◌, ◌<◌, ◌∣◌}
 use mathlib.Core.Path.{◌≡◌, refl, sym, ap, subst, ◌∙◌}
 use mathlib.Core.Bool.{Bool, true, false, ◌||◌, ◌&&◌, cond}

@@ -1,4 +1,5 @@
--- Table B of document 01 and its refusal, and a table with two totals and its refusals, by computation. Assumes nothing.
+-- Table B of document 01 and its refusal, and a table with two totals and its refusals, by computation.
+use Rattle.std.proofs.Common.{Err, Ok}
 use Prim.Native.Nat.{ℕ}
 use mathlib.Core.Path.{◌≡◌, refl}
 use mathlib.Core.List.{List, [], ◌∷◌, ◌++◌}
@@ -7,7 +8,6 @@ use Rattle.field.specs.Field.{strip, digits, whole, signed}
 use Rattle.line.specs.declared.Refusal.TheVariants.{IllWritten, OutOfRange, WrongSum, TooManyGrains}
 use Rattle.line.specs.Refusal.{unless, unless_at}
 use Rattle.line.specs.Line.{climb, among}
-use Rattle.table.specs.declared.Reading.TheVariants.{Accepted, Refused}
 use Rattle.table.specs.Tree.{run, after, forest, weigh, nodes_where, powers, uses}
 use Rattle.table.specs.Examples.{max-root, b-head, b1, chance, b4, table-b, open0, open1, open2, open3, open4, open-head, openings}
 use Rattle.table.specs.Table.{node_lines, complete, read_text, greatest, leaf_lines, answer}
@@ -17,12 +17,12 @@ light : List ℕ
 light = 32 ∷ 32 ∷ 32 ∷ 51 ∷ 32 ∷ 76 ∷ 32 ∷ 32 ∷ 32 ∷ 32 ∷ 50 ∷ 32 ∷ 32 ∷ 32 ∷ 32 ∷ 50 ∷ 32 ∷ 32 ∷ 32 ∷ 32 ∷ 32 ∷ 32 ∷ 32 ∷ 50 ∷ 10 ∷ []
 
 accepted-b : answer (read_text table-b)
-    ≡ Accepted (record { nodes = 5; total = 4; lowest = pos 0; highest = pos 8; chances = 1; grain = 4; leaves = 3; second = 0 })
+    ≡ Ok (record { nodes = 5; total = 4; lowest = pos 0; highest = pos 8; chances = 1; grain = 4; leaves = 3; second = 0 })
 unfolding light strip digits whole signed unless unless_at climb run after forest weigh nodes_where among uses powers node_lines complete read_text greatest leaf_lines
 accepted-b = refl
 
 -- "B with weight 2 in node 3: refused 9, line 3"
-light-b : answer (read_text (b-head ++ (max-root ++ (b1 ++ (chance ++ (light ++ b4)))))) ≡ Refused (WrongSum 3)
+light-b : answer (read_text (b-head ++ (max-root ++ (b1 ++ (chance ++ (light ++ b4)))))) ≡ Err (WrongSum 3)
 unfolding light strip digits whole signed unless unless_at climb run after forest weigh nodes_where among uses powers node_lines complete read_text greatest leaf_lines
 light-b = refl
 
@@ -30,7 +30,7 @@ light-b = refl
 
 -- the root uses 3 and the C below it 4, so that G is 4 times 3
 accepted-openings : answer (read_text openings)
-    ≡ Accepted (record { nodes = 5; total = 4; lowest = pos 0; highest = pos 12; chances = 2; grain = 12; leaves = 3; second = 3 })
+    ≡ Ok (record { nodes = 5; total = 4; lowest = pos 0; highest = pos 12; chances = 2; grain = 12; leaves = 3; second = 3 })
 unfolding strip digits whole signed unless unless_at climb run after forest weigh nodes_where among uses powers node_lines complete read_text greatest leaf_lines
 accepted-openings = refl
 
@@ -59,12 +59,12 @@ odd3 = 32 ∷ 32 ∷ 32 ∷ 51 ∷ 32 ∷ 76 ∷ 32 ∷ 32 ∷ 32 ∷ 32 ∷ 50 
 abbrev below : List ℕ
 below = open0 ++ (open1 ++ (open2 ++ (open3 ++ open4)))
 
-refused-seconds : (answer (read_text (same_head ++ below)) ≡ Refused (OutOfRange 0)) × (answer (read_text (zero-head ++ below)) ≡ Refused (IllWritten 0))
-    × (answer (read_text (far-head ++ below)) ≡ Refused (OutOfRange 0)) × (answer (read_text (hundred-head ++ below)) ≡ Refused (OutOfRange 0))
+refused-seconds : (answer (read_text (same_head ++ below)) ≡ Err (OutOfRange 0)) × (answer (read_text (zero-head ++ below)) ≡ Err (IllWritten 0))
+    × (answer (read_text (far-head ++ below)) ≡ Err (OutOfRange 0)) × (answer (read_text (hundred-head ++ below)) ≡ Err (OutOfRange 0))
 unfolding same_head zero-head far-head hundred-head strip digits whole signed unless unless_at climb run after forest weigh nodes_where among uses powers node_lines complete read_text greatest leaf_lines
 refused-seconds = (refl, refl, refl, refl)
 
-odd-sum : answer (read_text (open-head ++ (open0 ++ (open1 ++ (open2 ++ (odd3 ++ open4)))))) ≡ Refused (WrongSum 3)
+odd-sum : answer (read_text (open-head ++ (open0 ++ (open1 ++ (open2 ++ (odd3 ++ open4)))))) ≡ Err (WrongSum 3)
 unfolding odd3 strip digits whole signed unless unless_at climb run after forest weigh nodes_where among uses powers node_lines complete read_text greatest leaf_lines
 odd-sum = refl
 
@@ -105,7 +105,7 @@ many7 : List ℕ
 many7 = 32 ∷ 32 ∷ 32 ∷ 55 ∷ 32 ∷ 76 ∷ 32 ∷ 32 ∷ 32 ∷ 32 ∷ 54 ∷ 32 ∷ 32 ∷ 32 ∷ 54 ∷ 51 ∷ 32 ∷ 32 ∷ 32 ∷ 32 ∷ 32 ∷ 32 ∷ 32 ∷ 48 ∷ 10 ∷ []
 
 -- four uses of 64 on one path and one of 63 on another: 64 to the power 4 is the limit, and 63 times as many grains are too many
-too_many : answer (read_text (many-head ++ (many0 ++ (many1 ++ (many2 ++ (many3 ++ (many4 ++ (many5 ++ (many6 ++ many7))))))))) ≡ Refused TooManyGrains
+too_many : answer (read_text (many-head ++ (many0 ++ (many1 ++ (many2 ++ (many3 ++ (many4 ++ (many5 ++ (many6 ++ many7))))))))) ≡ Err TooManyGrains
 unfolding many-head many0 many1 many2 many3 many4 many5 many6 many7 strip digits whole signed unless unless_at climb run after forest weigh nodes_where among uses powers node_lines complete read_text greatest leaf_lines
 too_many = refl
 

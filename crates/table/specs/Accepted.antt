@@ -2,11 +2,12 @@
 -- has the theorems.
 use Rattle.std.specs.Prelude.{ℕ, suc, ◌+◌, ◌≤◌, ◌<◌, ◌≡◌, Bool, true, false, cond, List, [], ◌∷◌, ◌++◌, length, take, drop, ℤ, pos, ◌-ℤ◌}
 use Rattle.line.specs.declared.Head.{Head}
+use Rattle.line.specs.declared.Kind.TheVariants.{Leaf}
 use Rattle.line.specs.declared.Line.{Line}
 use Rattle.line.specs.Refusal.{fine}
 use Rattle.line.specs.Line.{to_nat, header, totals, among}
 use Rattle.line.specs.Inside.{Weighs}
-use Rattle.table.specs.Tree.{Kind, Forest, end, leaf, inner, code_of, is_chance, is_end, weigh, childless, unbalanced}
+use Rattle.table.specs.Tree.{Kind, Forest, end, leaf, inner, line_kind, is_chance, is_end, weigh, childless, unbalanced}
 use Rattle.table.specs.Table.{Table, bad_length, node_lines, tree, grain, count}
 
 -- how many points the ends are apart
@@ -20,9 +21,9 @@ one k = cond (is_chance k) 1 0
 -- The tree written out in depth-first order, as lines: p is the parent's number, c the number of C above.
 unfoldable pub flat : ℕ → ℕ → Forest ℤ → List Line
 flat p c end = []
-flat p c (leaf n w v rest) = record { node = n; kind = 0; parent = p; weight = w; utility = v; chances = c } ∷ flat p c rest
+flat p c (leaf n w v rest) = record { node = n; kind = Leaf; parent = p; weight = w; utility = v; chances = c } ∷ flat p c rest
 flat p c (inner n w k under rest) =
-    record { node = n; kind = code_of k; parent = p; weight = w; utility = pos 0; chances = c + one k } ∷ (flat n (c + one k) under ++ flat p c rest)
+    record { node = n; kind = line_kind k; parent = p; weight = w; utility = pos 0; chances = c + one k } ∷ (flat n (c + one k) under ++ flat p c rest)
 
 -- "T 1 to 64", and the second total likewise
 abbrev pub OkTotal : ℕ → Type 0

@@ -7,3 +7,4 @@ pub mod Padding
 pub mod Accepted
 pub mod Inside
 pub mod Examples
+pub mod Nodes

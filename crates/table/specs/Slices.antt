@@ -1,17 +1,17 @@
 -- The decoded table: number slices, one entry for each node, by node number. Document 01, 'The table on paper'.
-use Rattle.std.specs.Prelude.{ℕ, ◌+◌, cond, List, [], ◌∷◌, ◌++◌, map, length, take, drop, eqb, ℤ, ◌-ℤ◌}
+use Rattle.std.specs.Prelude.{ℕ, ◌+◌, cond, List, [], ◌∷◌, ◌++◌, map, length, take, drop, ℤ, ◌-ℤ◌}
 use Rattle.line.specs.declared.Line.{Line}
 use Rattle.line.specs.Refusal.{Verdict, refused, fine}
-use Rattle.line.specs.Line.{to_nat}
+use Rattle.line.specs.Line.{to_nat, code, is_leaf}
 use Rattle.table.specs.Tree.{run}
 use Rattle.table.specs.Table.{Table}
 
 -- how many points a leaf stands above the lowest end
 abbrev pub height_of : ℤ → Line → ℕ
-height_of lowest l = cond (eqb l.kind 0) (to_nat (l.utility -ℤ lowest)) 0
+height_of lowest l = cond (is_leaf l.kind) (to_nat (l.utility -ℤ lowest)) 0
 
 abbrev pub kinds_of : Table → List ℕ
-kinds_of t = map (λ (l : Line). l.kind) t.lines
+kinds_of t = map (λ (l : Line). code l.kind) t.lines
 
 abbrev pub weights_of : Table → List ℕ
 weights_of t = map (λ (l : Line). l.weight) t.lines

@@ -1,14 +1,14 @@
 -- A table's text as a whole. Document 01, 'The table on paper', 'Grains' and the sequence of 'Refused tables and calls'; of the grain count and 18
 -- document 02, Item 5.
-use Rattle.std.specs.Prelude.{ℕ, zero, suc, ◌+◌, ◌-◌, ◌/◌, ◌%◌, max, Bool, not, ◌||◌, cond, List, [], ◌∷◌, ◌++◌, length, take, drop, eqb, ltb, ℤ}
+use Rattle.line.specs.declared.Refusal.{Refusal}
+use Rattle.std.specs.Prelude.{ℕ, zero, suc, ◌+◌, ◌-◌, ◌/◌, ◌%◌, max, Bool, not, ◌||◌, cond, List, [], ◌∷◌, ◌++◌, length, take, drop, eqb, ltb, ℤ, Err, Ok, Result}
 use Rattle.line.specs.declared.Head.{Head}
 use Rattle.line.specs.declared.Line.{Line}
 use Rattle.line.specs.declared.Refusal.TheVariants.{Length, Childless, WrongSum, TooManyGrains}
 use Rattle.line.specs.Refusal.{Verdict, refused, fine, Check, unless, unless_at, next}
-use Rattle.line.specs.Line.{header, totals, Step, Placed, node_line}
+use Rattle.line.specs.declared.Step.{Step}
+use Rattle.line.specs.Line.{is_leaf, header, totals, Placed, node_line}
 use Rattle.table.specs.declared.Summary.{Summary}
-use Rattle.table.specs.declared.Reading.{Reading}
-use Rattle.table.specs.declared.Reading.TheVariants.{Accepted, Refused}
 use Rattle.table.specs.Tree.{Forest, forest, childless, unbalanced, grain_of}
 
 -- an accepted table: its header and its node lines
@@ -74,7 +74,7 @@ greatest (l ∷ ls) = max l.chances (greatest ls)
 -- how many lines are leaves
 unfoldable pub leaf_lines : List Line → ℕ
 leaf_lines [] = 0
-leaf_lines (l ∷ ls) = cond (eqb l.kind 0) 1 0 + leaf_lines ls
+leaf_lines (l ∷ ls) = cond (is_leaf l.kind) 1 0 + leaf_lines ls
 
 -- ---- what the call answers
 
@@ -91,6 +91,6 @@ summary t =
       second = t.head.second;
     }
 
-abbrev pub answer : Verdict Table → Reading
-answer (refused r) = Refused r
-answer (fine t) = Accepted (summary t)
+abbrev pub answer : Verdict Table → Result Summary Refusal
+answer (refused r) = Err r
+answer (fine t) = Ok (summary t)

@@ -1,7 +1,9 @@
 -- The tree that the lines of a table mean. Document 01, 'The table on paper'; of sums and their uses document 02, Item 5.
 use Rattle.std.specs.Prelude.{ℕ, zero, suc, ◌+◌, ◌*◌, ◌^◌, max, Bool, true, false, not, ◌&&◌, cond, List, [], ◌∷◌, ◌++◌, eqb, leb}
 use Rattle.line.specs.declared.Line.{Line}
-use Rattle.line.specs.Line.{among}
+use Rattle.line.specs.declared.Kind.{Kind as LineKind}
+use Rattle.line.specs.declared.Kind.TheVariants.{Max, Min, Chance}
+use Rattle.line.specs.Line.{among, code, is_leaf}
 
 -- "Kinds: M (MAX), N (MIN), C (chance)": those that have children
 pub data Kind : Type 0 where
@@ -14,11 +16,15 @@ pub data Forest (A : Type 0) : Type 0 where
   leaf : (node weight : ℕ) (value : A) (rest : Forest A) → Forest A
   inner : (node weight : ℕ) (kind : Kind) (under rest : Forest A) → Forest A
 
+-- the same kind, as a line says it
+abbrev pub line_kind : Kind → LineKind
+line_kind MAX = Max
+line_kind MIN = Min
+line_kind CHANCE = Chance
+
 -- the number that stands for a kind: 0 for L, 1 for M, 2 for N, 3 for C
 abbrev pub code_of : Kind → ℕ
-code_of MAX = 1
-code_of MIN = 2
-code_of CHANCE = 3
+code_of k = code (line_kind k)
 
 abbrev pub kind_of : ℕ → Kind
 kind_of k = cond (eqb k 1) MAX (cond (eqb k 2) MIN CHANCE)
@@ -47,7 +53,7 @@ module _ {A : Type 0} where
   -- a line with the nodes under it and those after it
   abbrev pub grow : A → Line → Forest A → Forest A → Forest A
   grow value l under rest =
-      cond (eqb l.kind 0) (leaf l.node l.weight value rest) (inner l.node l.weight (kind_of l.kind) under rest)
+      cond (is_leaf l.kind) (leaf l.node l.weight value rest) (inner l.node l.weight (kind_of (code l.kind)) under rest)
 
   -- lines as nodes with one parent, a leaf's value by `value`; the first argument bounds the number of lines
   unfoldable pub forest : (Line → A) → ℕ → List Line → Forest A

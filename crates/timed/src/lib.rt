@@ -5,55 +5,37 @@
 ghost use Rattle.std.specs.Prelude.{[], ◌≡◌, length};
 ghost use Rattle.table.specs.Table.{read_text};
 ghost use Rattle.table.specs.Slices.{laid};
-ghost use Rattle.table.specs.Inside.{slices};
+ghost use Rattle.table.specs.Nodes.{slices_in};
 ghost use Rattle.searching.specs.Inside.{way, ReadyRoot};
 ghost use Rattle.search_call.specs.Call.{search_call, search_reads};
 ghost use Rattle.codes.specs.Numbers.{search_code, search_numbers, put};
 
 use steps::{Ends, Rule};
-use table::Reading;
+use table::Node;
 
 // A decoded table searched so many times, and what is found dropped. Were searches left out by the compiler, the time would not grow with their number.
-fn searches(
-    kind: &[u8],
-    stop: &[u16],
-    weight: &[u8],
-    height: &[u32],
-    n: usize,
-    g: Rule,
-    v: Ends,
-    times: u64,
-)
-    requires { ReadyRoot (slices kind.now stop.now weight.now height.now) (way g v height.now []) v n }
+fn searches(nodes: &[Node], n: usize, g: Rule, v: Ends, times: u64)
+    requires { ReadyRoot (slices_in nodes.now) (way g v [] []) v n }
 {
     let mut leaves = [0u16; 1024];
-    // no index
-    let none = [0u32; 0];
-    let mut left = times;
-    while left > 0 {
-        searching::search(kind, stop, weight, height, &none, &mut leaves, n, g, v);
-        left -= 1;
+    for _ in 0..times {
+        searching::search(nodes, &[], &[], &mut leaves, n, g, v);
     }
 }
 
 // The same from the text. A table that is refused is not searched, nor is any at a refused margin.
 fn again(text: &[u8], margin: i64, times: u64) {
-    let mut kind = [0u8; 1024];
-    let mut stop = [0u16; 1024];
-    let mut weight = [0u8; 1024];
-    let mut height = [0u32; 1024];
-    match reading::decode(text, &mut kind, &mut stop, &mut weight, &mut height) {
-        Reading::Refused(_) => {}
-        Reading::Accepted(t) => {
-            if search_call::is_beyond(40000000000000, margin) {
-                return;
-            }
-            let s = scale::scale_of(t);
-            let g = search_call::rule_of(s, margin);
-            let v = search_call::ends_of(s);
-            searches(&kind, &stop, &weight, &height, t.nodes, g, v, times);
-        }
+    let mut nodes = [Node::NONE; 1024];
+    let Ok(t) = reading::decode(text, &mut nodes) else {
+        return;
+    };
+    if search_call::is_beyond(40000000000000, margin) {
+        return;
     }
+    let s = scale::scale_of(t);
+    let g = search_call::rule_of(s, margin);
+    let v = search_call::ends_of(s);
+    searches(&nodes, t.nodes, g, v, times);
 }
 
 // The call `margin_search`, after the table was read once and searched so many times. Of two numbers of times the difference is that of searches alone.

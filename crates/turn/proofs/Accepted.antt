@@ -1,4 +1,4 @@
--- The turned text of an accepted table is accepted as the turned table, as turning keeps the rules of a table. Assumes nothing.
+-- The turned text of an accepted table is accepted as the turned table, as turning keeps the rules of a table.
 use Prim.Native.Nat.{ℕ, ◌+◌, ◌*◌}
 use mathlib.Core.Path.{◌≡◌, refl, sym, ap, subst, ◌∙◌}
 use mathlib.Core.List.{List, map, map-append}
@@ -8,30 +8,30 @@ use Rattle.line.specs.declared.Head.{Head}
 use Rattle.line.specs.declared.Line.{Line}
 use Rattle.line.specs.Refusal.{fine}
 use Rattle.line.specs.Line.{Within}
-use Rattle.table.specs.Tree.{Kind, MAX, MIN, CHANCE, Forest, end, leaf, inner, code_of}
+use Rattle.table.specs.Tree.{Kind, MAX, MIN, CHANCE, Forest, end, leaf, inner, line_kind}
 use Rattle.table.specs.Table.{Table, tree, read_text}
 use Rattle.table.specs.Accepted.{flat, one}
 use Rattle.table.proofs.Accepted.{accepted-ranged, accepted-flat, accepted-size}
 use Rattle.writing.specs.Text.{table_text}
 use Rattle.writing.proofs.Reread.{Sound, table_of, text-length, read_back, accepted-sound}
 use Rattle.writing.proofs.Shaped.{Shaped, shaped-end, shaped-leaf, shaped-inner, sound-shaped}
-use Rattle.turn.specs.Turn.{turn_code, turn_line, turn_head, turn_table, turned_text, turn_kind, turn_tree}
+use Rattle.turn.specs.Turn.{exchanged, turn_line, turn_head, turn_table, turned_text, turn_kind, turn_tree}
 use Rattle.turn.proofs.Signs.{neg-less, ranged-turned}
 use Rattle.turn.proofs.Tree.{kind-chance}
 
 -- ---- the lines of a turned tree
 
-kind-code : (k : Kind) → code_of (turn_kind k) ≡ turn_code (code_of k)
-kind-code MAX = refl
-kind-code MIN = refl
-kind-code CHANCE = refl
+kind-line : (k : Kind) → line_kind (turn_kind k) ≡ exchanged (line_kind k)
+kind-line MAX = refl
+kind-line MIN = refl
+kind-line CHANCE = refl
 
 flat-turned : (p c : ℕ) (F : Forest ℤ) → flat p c (turn_tree F) ≡ map turn_line (flat p c F)
 unfolding flat turn_tree
 flat-turned p c end = refl
 flat-turned p c (leaf n w v rest) = rw (flat-turned p c rest)
 flat-turned p c (inner n w k under rest) =
-    rw (kind-chance k, kind-code k, flat-turned n (c + one k) under, flat-turned p c rest, map-append turn_line (flat n (c + one k) under) (flat p c rest))
+    rw (kind-chance k, kind-line k, flat-turned n (c + one k) under, flat-turned p c rest, map-append turn_line (flat n (c + one k) under) (flat p c rest))
 
 -- ---- the rules
 

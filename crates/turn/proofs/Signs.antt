@@ -1,4 +1,4 @@
--- Numbers negated, and a turned header. Assumes nothing.
+-- Numbers negated, and a turned header.
 use Prim.Native.Nat.{zero, suc}
 use mathlib.Core.Path.{◌≡◌, refl, sym, ◌∙◌}
 use lib.Dec.{leb-zero, leb-suc-zero, leb-suc-suc}

@@ -1,58 +1,39 @@
--- The turned table's tree, grains and leaves, and that turning twice changes nothing. Assumes nothing.
+-- The turned table's tree, grains and leaves, and that turning twice changes nothing.
 use Prim.Native.Nat.{ℕ, zero, suc, ◌+◌}
 use mathlib.Core.Path.{◌≡◌, refl, ap, ap₂, ◌∙◌}
 use mathlib.Core.Bool.{Bool, true, false, cond}
 use mathlib.Core.List.{List, [], ◌∷◌, map}
-use borrow.Author.Tests.{eqb-true}
-use lib.Dec.{eqb, leb}
+use lib.Dec.{leb}
 use lib.ListN.{length, length-map}
 use lib.IntN.{ℤ, neg_ℤ, neg_ℤ-neg_ℤ}
+use Rattle.line.specs.declared.Kind.{Kind as LineKind}
+use Rattle.line.specs.declared.Kind.TheVariants.{Leaf, Max, Min, Chance}
 use Rattle.line.specs.declared.Line.{Line}
-use Rattle.line.specs.Line.{totals}
+use Rattle.line.specs.Line.{totals, code, is_leaf}
 use Rattle.table.specs.Tree.{Kind, MAX, MIN, CHANCE, Forest, end, leaf, inner, kind_of, is_chance, run, after, grow, forest, weigh, powers, uses, grain_of, leaves}
 use Rattle.table.specs.Table.{Table, tree, grain}
-use Rattle.turn.specs.Turn.{turn_code, turn_line, turn_table, turn_kind, turn_tree}
+use Rattle.turn.specs.Turn.{exchanged, turn_line, turn_table, turn_kind, turn_tree}
 
 -- ---- one kind
 
--- a kind's number is that of M, of N or another, which turning keeps
-data Code (k : ℕ) : Type 0 where
-  code-max : k ≡ 1 → Code k
-  code-min : k ≡ 2 → Code k
-  code-kept : eqb k 1 ≡ false → eqb k 2 ≡ false → Code k
-
-code : (k : ℕ) → Code k
-code k = go (eqb k 1) (eqb k 2) refl refl
-  where
-    go : (t u : Bool) → eqb k 1 ≡ t → eqb k 2 ≡ u → Code k
-    go true u x y = code-max (eqb-true k 1 x)
-    go false true x y = code-min (eqb-true k 2 y)
-    go false false x y = code-kept x y
-
-code-twice : (k : ℕ) → turn_code (turn_code k) ≡ k
-code-twice k = go (code k)
-  where
-    go : Code k → turn_code (turn_code k) ≡ k
-    go (code-max e) = rw e
-    go (code-min e) = rw e
-    go (code-kept x y) = simp (x, y)
+kind-twice : (k : LineKind) → exchanged (exchanged k) ≡ k
+kind-twice Leaf = refl
+kind-twice Max = refl
+kind-twice Min = refl
+kind-twice Chance = refl
 
 -- and so is the answer to whether it is that of a leaf
-pub code-leaf : (k : ℕ) → eqb (turn_code k) 0 ≡ eqb k 0
-code-leaf k = go (code k)
-  where
-    go : Code k → eqb (turn_code k) 0 ≡ eqb k 0
-    go (code-max e) = rw e
-    go (code-min e) = rw e
-    go (code-kept x y) = simp (x, y)
+pub kind-leaf : (k : LineKind) → is_leaf (exchanged k) ≡ is_leaf k
+kind-leaf Leaf = refl
+kind-leaf Max = refl
+kind-leaf Min = refl
+kind-leaf Chance = refl
 
-code-kind : (k : ℕ) → kind_of (turn_code k) ≡ turn_kind (kind_of k)
-code-kind k = go (code k)
-  where
-    go : Code k → kind_of (turn_code k) ≡ turn_kind (kind_of k)
-    go (code-max e) = rw e
-    go (code-min e) = rw e
-    go (code-kept x y) = simp (x, y)
+kind-turned : (k : LineKind) → kind_of (code (exchanged k)) ≡ turn_kind (kind_of (code k))
+kind-turned Leaf = refl
+kind-turned Max = refl
+kind-turned Min = refl
+kind-turned Chance = refl
 
 pub kind-chance : (k : Kind) → is_chance (turn_kind k) ≡ is_chance k
 kind-chance MAX = refl
@@ -63,7 +44,7 @@ kind-chance CHANCE = refl
 
 lines-twice : (ls : List Line) → map turn_line (map turn_line ls) ≡ ls
 lines-twice [] = refl
-lines-twice (l ∷ ls) = ap₂ ◌∷◌ (ap₂ (λ (k : ℕ) (u : ℤ). record { node = l.node; kind = k; parent = l.parent; weight = l.weight; utility = u; chances = l.chances }) (code-twice l.kind) (neg_ℤ-neg_ℤ l.utility)) (lines-twice ls)
+lines-twice (l ∷ ls) = ap₂ ◌∷◌ (ap₂ (λ (k : LineKind) (u : ℤ). record { node = l.node; kind = k; parent = l.parent; weight = l.weight; utility = u; chances = l.chances }) (kind-twice l.kind) (neg_ℤ-neg_ℤ l.utility)) (lines-twice ls)
 
 pub table-twice : (t : Table) → turn_table (turn_table t) ≡ t
 table-twice t =
@@ -96,10 +77,10 @@ after-turned n (l ∷ ls) = go (after-turned n ls) (leb n l.parent)
 
 grow-turned : (l : Line) (under rest : Forest ℤ) → grow (neg_ℤ l.utility) (turn_line l) (turn_tree under) (turn_tree rest) ≡ turn_tree (grow l.utility l under rest)
 unfolding turn_tree
-grow-turned l under rest = rw (code-leaf l.kind, code-kind l.kind) (go (eqb l.kind 0))
+grow-turned l under rest = rw (kind-leaf l.kind, kind-turned l.kind) (go (is_leaf l.kind))
   where
-    go : (b : Bool) → cond b (leaf l.node l.weight (neg_ℤ l.utility) (turn_tree rest)) (inner l.node l.weight (turn_kind (kind_of l.kind)) (turn_tree under) (turn_tree rest))
-        ≡ turn_tree (cond b (leaf l.node l.weight l.utility rest) (inner l.node l.weight (kind_of l.kind) under rest))
+    go : (b : Bool) → cond b (leaf l.node l.weight (neg_ℤ l.utility) (turn_tree rest)) (inner l.node l.weight (turn_kind (kind_of (code l.kind))) (turn_tree under) (turn_tree rest))
+        ≡ turn_tree (cond b (leaf l.node l.weight l.utility rest) (inner l.node l.weight (kind_of (code l.kind)) under rest))
     go true = refl
     go false = refl
 

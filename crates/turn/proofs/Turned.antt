@@ -1,5 +1,5 @@
--- The lines of an accepted text, turned field by field, are those of the turned table. Assumes nothing.
-use Prim.Native.Nat.{ℕ, zero, suc, ◌+◌, ◌*◌, ◌≤◌, ◌<◌}
+-- The lines of an accepted text, turned field by field, are those of the turned table.
+use Prim.Native.Nat.{ℕ, zero, suc, ◌+◌, ◌*◌, ◌≤◌}
 use mathlib.Core.Path.{◌≡◌, refl, sym, ap, ap₂, subst, ◌∙◌}
 use mathlib.Core.Bool.{Bool, true, false, cond}
 use mathlib.Core.List.{List, [], ◌++◌, map}
@@ -12,41 +12,43 @@ use lib.IntN.{ℤ, neg_ℤ}
 use Rattle.field.specs.declared.Field.TheVariants.{Blank, Number}
 use Rattle.field.proofs.Bits.{abs_neg}
 use Rattle.line.specs.declared.Head.{Head}
+use Rattle.line.specs.declared.Kind.{Kind as LineKind}
+use Rattle.line.specs.declared.Kind.TheVariants.{Leaf, Max, Min, Chance}
 use Rattle.line.specs.declared.Line.{Line}
 use Rattle.line.specs.Refusal.{fine}
-use Rattle.line.specs.Line.{Step, entry_of}
+use Rattle.line.specs.declared.Step.{Step}
+use Rattle.line.specs.Line.{letter, is_leaf, entry_of}
 use Rattle.line.specs.Inside.{Ranged}
 use Rattle.table.specs.Table.{Table, node_lines, read_text}
 use Rattle.table.specs.Slices.{laid}
 use Rattle.table.proofs.Accepted.{checked, accepted-ranged, accepted-size}
-use Rattle.writing.specs.Text.{letter_of, header_text, line_text, lines_text}
-use Rattle.turn.specs.Turn.{turn_code, turn_line, turn_head, turned_text}
+use Rattle.writing.specs.Text.{header_text, line_text, lines_text}
+use Rattle.turn.specs.Turn.{exchanged, turn_line, turn_head, turned_text}
 use Rattle.writing.specs.Inside.{entry_text, Roomy, entry_for, Short}
 use Rattle.turn.specs.Inside.{turn_letter, negated, turn_entry, turned_rows, RowsRoomy}
 use Rattle.writing.proofs.Said.{line-text, is_none, Said}
 use Rattle.writing.proofs.Padding.{first, counted}
-use Rattle.turn.proofs.Tree.{code-leaf}
+use Rattle.turn.proofs.Tree.{kind-leaf}
 use Rattle.writing.proofs.Again.{line-roomy}
 use Rattle.turn.proofs.Accepted.{turned-length}
 
 -- ---- one line
 
-letter-turned : (k : ℕ) → k < 4 → turn_letter (letter_of k) ≡ letter_of (turn_code k)
-letter-turned zero h = refl
-letter-turned (suc zero) h = refl
-letter-turned (suc (suc zero)) h = refl
-letter-turned (suc (suc (suc zero))) h = refl
-letter-turned (suc (suc (suc (suc k)))) h = absurd (omega arith)
+letter-turned : (k : LineKind) → turn_letter (letter k) ≡ letter (exchanged k)
+letter-turned Leaf = refl
+letter-turned Max = refl
+letter-turned Min = refl
+letter-turned Chance = refl
 
 utility-turned : (b : Bool) (u : ℤ) → negated (cond b (Number u) Blank) ≡ cond b (Number (neg_ℤ u)) Blank
 utility-turned true u = refl
 utility-turned false u = refl
 
-entry-turned : (l : Line) → l.kind < 4 → turn_entry (entry_for l) ≡ entry_for (turn_line l)
-entry-turned l h =
-    let letter = letter-turned l.kind h in
+entry-turned : (l : Line) → turn_entry (entry_for l) ≡ entry_for (turn_line l)
+entry-turned l =
+    let letter = letter-turned l.kind in
     let utility : negated (entry_for l).utility ≡ (entry_for (turn_line l)).utility =
-    utility-turned (eqb l.kind 0) l.utility ∙ ap (λ (b : Bool). cond b (Number (neg_ℤ l.utility)) Blank) (sym (code-leaf l.kind)) in
+    utility-turned (is_leaf l.kind) l.utility ∙ ap (λ (b : Bool). cond b (Number (neg_ℤ l.utility)) Blank) (sym (kind-leaf l.kind)) in
     λ j. record { number = (entry_for l).number; letter = letter j; parent = (entry_for l).parent; weight = (entry_for l).weight; utility = utility j }
 
 short-turned : (l : Line) → Short l → Short (turn_line l)
@@ -54,7 +56,7 @@ short-turned l S = record { node = S.node; parent = S.parent; weight = S.weight;
 
 module _ (s : List ℕ) (l : Line) (S : Said s l) where
   said-turned : turn_entry (entry_of s) ≡ entry_for (turn_line l)
-  said-turned = ap turn_entry S.entry ∙ entry-turned l S.kind
+  said-turned = ap turn_entry S.entry ∙ entry-turned l
 
   row-turned : entry_text (turn_entry (entry_of s)) ≡ line_text (turn_line l)
   row-turned = ap entry_text said-turned ∙ sym (line-text (turn_line l))

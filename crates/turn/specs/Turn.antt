@@ -1,19 +1,24 @@
 -- The turned table: the same position from the other side. Document 01, 'Judging and turning', last paragraph.
-use Rattle.std.specs.Prelude.{ℕ, cond, List, map, eqb, ℤ, neg_ℤ}
+use Rattle.std.specs.Prelude.{ℕ, List, map, ℤ, neg_ℤ}
 use Rattle.line.specs.declared.Head.{Head}
+use Rattle.line.specs.declared.Kind.{Kind as LineKind}
+use Rattle.line.specs.declared.Kind.TheVariants.{Leaf, Max, Min, Chance}
 use Rattle.line.specs.declared.Line.{Line}
 use Rattle.table.specs.Tree.{Kind, MAX, MIN, CHANCE, Forest, end, leaf, inner}
 use Rattle.table.specs.Table.{Table}
 use Rattle.writing.specs.Text.{table_text}
 
--- "M and N exchanged", in the numbers that stand for kinds
-abbrev pub turn_code : ℕ → ℕ
-turn_code k = cond (eqb k 1) 2 (cond (eqb k 2) 1 k)
+-- "M and N exchanged"
+abbrev pub exchanged : LineKind → LineKind
+exchanged Leaf = Leaf
+exchanged Max = Min
+exchanged Min = Max
+exchanged Chance = Chance
 
 -- "utilities negated", "all else is kept"
 abbrev pub turn_line : Line → Line
 turn_line l =
-    record { node = l.node; kind = turn_code l.kind; parent = l.parent; weight = l.weight; utility = neg_ℤ l.utility; chances = l.chances }
+    record { node = l.node; kind = exchanged l.kind; parent = l.parent; weight = l.weight; utility = neg_ℤ l.utility; chances = l.chances }
 
 -- "lowest end = minus the old highest, highest = minus the old lowest"; the totals are kept
 abbrev pub turn_head : Head → Head

@@ -30,13 +30,11 @@ fn turned_head(h: Head) -> Head
 fn turned_letter(b: u8) -> u8
     ensures { result ≡ turn_letter b }
 {
-    if b == b'M' {
-        return b'N';
+    match b {
+        b'M' => b'N',
+        b'N' => b'M',
+        _ => b,
     }
-    if b == b'N' {
-        return b'M';
-    }
-    b
 }
 
 fn negated(f: Field) -> Field
@@ -70,11 +68,9 @@ fn turn_lines(text: &[u8], n: usize, buffer: &mut [u8])
     requires { (25 * n + 25 ≤ length text.now) × (25 * n + 25 ≤ length buffer.old) × (n ≤ 1024) × RowsRoomy n (drop 25 text.now) }
     ensures { buffer.new ≡ sets buffer.old 25 (turned_rows n (drop 25 text.now)) }
 {
-    let mut i = 0;
-    while i < n {
+    for i in 0..n {
         let at = 25 * i + 25;
         turn_line(&text[at..at + 25], buffer, at);
-        i += 1;
     }
 }
 

@@ -1,4 +1,5 @@
--- What turning an accepted text gives. Assumes nothing.
+-- What turning an accepted text gives.
+use Rattle.std.proofs.Common.{Err, Ok, Result}
 use Prim.Native.Nat.{ℕ, ◌+◌, ◌*◌, ◌≤◌, ◌<◌}
 use mathlib.Core.Path.{◌≡◌, refl, sym, ap, subst, ◌∙◌}
 use mathlib.Core.Bool.{Bool, true, false, cond}
@@ -15,6 +16,7 @@ use Rattle.line.specs.Refusal.{Verdict, refused, fine, unless, line_of}
 use Rattle.line.specs.Inside.{Ranged}
 use Rattle.table.specs.declared.Summary.{Summary}
 use Rattle.table.specs.Table.{Table, read_text}
+use Rattle.table.specs.Nodes.{head_in}
 use Rattle.table.specs.Slices.{laid}
 use Rattle.table.proofs.Places.{refused-line}
 use Rattle.table.proofs.Accepted.{accepted-ranged, accepted-size}
@@ -24,7 +26,6 @@ use Rattle.writing.specs.Text.{header_text}
 use Rattle.turn.specs.Inside.{turned_rows, RowsRoomy}
 use Rattle.turn.proofs.Accepted.{turned-length}
 use Rattle.turn.proofs.Turned.{text-size, rows-roomy, turned-laid}
-use Rattle.turn_call.specs.declared.Turned.TheVariants.{Written, Refused}
 use Rattle.turn_call.specs.Call.{turn_of, turn_answer, turn_written, turn_call, turn_bytes}
 
 pub turn-short : (s : List ℕ) (t : Table) (room : ℕ) → read_text s ≡ fine t → room < length s → turn_of (read_text s) room ≡ refused NoRoom
@@ -43,44 +44,40 @@ module _ {s : List ℕ} {t : Summary} {K S W H : List ℕ} (G : Taken s t K S W 
   room-short l = of-table G (λ t K S W H. turn_of (read_text s) (length d) ≡ refused NoRoom) (λ T p. turn-short s T (length d) p l)
 
   module _ (long : length s ≤ length d) where
-    -- the header of the summary, as it is handed on
-    abbrev head_of : Summary → Head
-    head_of t = record { total = t.total; second = t.second; lowest = t.lowest; highest = t.highest }
-
-    module _ {h : Head} (is : h ≡ head_of t) where
+    module _ {h : Head} (is : h ≡ head_in t) where
       pub turn-ready : (25 * t.nodes + 25 ≤ length s) × (25 * t.nodes + 25 ≤ length d) × (t.nodes ≤ 1024) × Ranged h × RowsRoomy t.nodes (drop 25 s)
       turn-ready =
           rw is
-          (of-table G (λ t K S W H. (25 * t.nodes + 25 ≤ length s) × (25 * t.nodes + 25 ≤ length d) × (t.nodes ≤ 1024) × Ranged (head_of t) × RowsRoomy t.nodes (drop 25 s)) (λ T p.
+          (of-table G (λ t K S W H. (25 * t.nodes + 25 ≤ length s) × (25 * t.nodes + 25 ≤ length d) × (t.nodes ≤ 1024) × Ranged (head_in t) × RowsRoomy t.nodes (drop 25 s)) (λ T p.
           let z = text-size s T p in
           (omega (arith, z), omega (arith, z), (accepted-size s T p).1, accepted-ranged s T p, rows-roomy s T p)))
 
       -- b is the buffer after `turn`: so many bytes, and these
       pub turned-at : {b : List ℕ} → b ≡ sets d 0 (header_text (turn_head h) t.nodes ++ turned_rows t.nodes (drop 25 s))
-          → (Written (length s) ≡ turn_call (read_text s) (length d)) × (b ≡ laid (turn_bytes (read_text s) (length d)) d)
+          → (Ok (length s) ≡ turn_call (read_text s) (length d)) × (b ≡ laid (turn_bytes (read_text s) (length d)) d)
       turned-at {b} told =
-          of-table G (λ t K S W H. b ≡ sets d 0 (header_text (turn_head (head_of t)) t.nodes ++ turned_rows t.nodes (drop 25 s)) → (Written (length s) ≡ turn_call (read_text s) (length d)) × (b ≡ laid (turn_bytes (read_text s) (length d)) d)) (λ T p told.
+          of-table G (λ t K S W H. b ≡ sets d 0 (header_text (turn_head (head_in t)) t.nodes ++ turned_rows t.nodes (drop 25 s)) → (Ok (length s) ≡ turn_call (read_text s) (length d)) × (b ≡ laid (turn_bytes (read_text s) (length d)) d)) (λ T p told.
           let e : turn_of (read_text s) (length d) ≡ fine (turned_text T) = turn-fine s T (length d) p long in (
-            ap Written (sym (turned-length s T p)) ∙ sym (ap turn_answer e),
+            ap Ok (sym (turned-length s T p)) ∙ sym (ap turn_answer e),
             told ∙ turned-laid s T p d long ∙ sym (ap (λ (v : Verdict (List ℕ)). laid (turn_written v) d) e),
           )) (told ∙ ap (λ (h : Head). sets d 0 (header_text (turn_head h) t.nodes ++ turned_rows t.nodes (drop 25 s))) is)
 
 -- ---- a refusal
 
-same-refusal : (r x : Refusal) → Refused r ≡ Refused x → r ≡ x
+same-refusal : (r x : Refusal) → ◌≡◌ {A = Result ℕ Refusal} (Err r) (Err x) → r ≡ x
 same-refusal r x e = cc
 
-no-refusal : {P : Type 0} (r : Refusal) (n : ℕ) → Written n ≡ Refused r → P
+no-refusal : {P : Type 0} (r : Refusal) (n : ℕ) → ◌≡◌ {A = Result ℕ Refusal} (Ok n) (Err r) → P
 no-refusal r n e = let z : ◌≡◌ {A = ℕ} 0 1 = cc in absurd (omega arith)
 
-pub turn-line : (s : List ℕ) (room : ℕ) (r : Refusal) → turn_call (read_text s) room ≡ Refused r → line_of r ≤ 1024
+pub turn-line : (s : List ℕ) (room : ℕ) (r : Refusal) → turn_call (read_text s) room ≡ Err r → line_of r ≤ 1024
 unfolding unless
 turn-line s room r e = line_at (read_text s) refl e
   where
-    line-fine : (t : Table) (c : Bool) → turn_answer (cond c (refused NoRoom) (fine (turned_text t))) ≡ Refused r → line_of r ≤ 1024
+    line-fine : (t : Table) (c : Bool) → turn_answer (cond c (refused NoRoom) (fine (turned_text t))) ≡ Err r → line_of r ≤ 1024
     line-fine t true e = subst (λ (x : Refusal). line_of x ≤ 1024) (same-refusal NoRoom r e) (omega arith)
     line-fine t false e = no-refusal r (length (turned_text t)) e
 
-    line_at : (v : Verdict Table) → read_text s ≡ v → turn_call v room ≡ Refused r → line_of r ≤ 1024
+    line_at : (v : Verdict Table) → read_text s ≡ v → turn_call v room ≡ Err r → line_of r ≤ 1024
     line_at (refused x) p e = refused-line s r (p ∙ ap refused (same-refusal x r e))
     line_at (fine t) p e = line-fine t (ltb room (length (turned_text t))) e

@@ -1,4 +1,4 @@
--- Worths over heights: every node is worth at most the span in grains, and a sum under a C at most its own total times that. Assumes nothing.
+-- Worths over heights: every node is worth at most the span in grains, and a sum under a C at most its own total times that.
 use Prim.Native.Nat.{ℕ, suc, ◌+◌, ◌*◌, ◌≤◌, min, max}
 use mathlib.Core.Path.{◌≡◌, refl, ap}
 use mathlib.Core.Bool.{Bool}

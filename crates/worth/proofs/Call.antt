@@ -1,4 +1,5 @@
--- The lines of an accepted text can be judged, and the call answers with the worth of its table. Assumes nothing.
+-- The lines of an accepted text can be judged, and the call answers with the worth of its table.
+use Rattle.std.proofs.Common.{Ok}
 use Prim.Native.Nat.{ℕ, ◌-◌, ◌≤◌}
 use mathlib.Core.Path.{◌≡◌, refl, sym, ap, ◌∙◌}
 use mathlib.Core.List.{List}
@@ -22,7 +23,6 @@ use Rattle.table.proofs.Ends.{rooted-some, span-grains}
 use Rattle.scale.specs.declared.Scale.{Scale}
 use Rattle.scale.specs.Inside.{scale_for}
 use Rattle.scale.proofs.Taken.{zeros, zeros-enough, Taken, of-table}
-use Rattle.worth.specs.declared.Exact.TheVariants.{Grains}
 use Rattle.worth.specs.Call.{exact_call}
 use Rattle.worth.specs.Inside.Heights.{tallest, height_value, height_shares, first_height, height_worth}
 use Rattle.worth.specs.Inside.{Beside, beside, Reach, OkScale, Fits, ReadyRun, Worthy}
@@ -104,9 +104,9 @@ module _ {s : List ℕ} {t : Summary} {K S W H : List ℕ} (G : Taken s t K S W 
     pub low-at : h ≤ 35184372088832
     low-at = of-worth (λ t. h ≤ 35184372088832) (λ T p e. omega (arith, e, height-within s T p, span-grains s T p))
 
-    pub answered-at : Grains (t.lowest *ℤ pos t.grain +ℤ pos h) t.grain ≡ exact_call (read_text s)
+    pub answered-at : Ok (record { grains = t.lowest *ℤ pos t.grain +ℤ pos h; grain = t.grain }) ≡ exact_call (read_text s)
     answered-at =
-        of-worth (λ t. Grains (t.lowest *ℤ pos t.grain +ℤ pos h) t.grain ≡ exact_call (read_text s)) (λ T p e.
-        ap (λ (y : ℕ). Grains (T.head.lowest *ℤ pos (grain T) +ℤ pos y) (grain T)) e
-        ∙ ap (λ (z : ℤ). Grains z (grain T)) (sym (shift s T p))
+        of-worth (λ t. Ok (record { grains = t.lowest *ℤ pos t.grain +ℤ pos h; grain = t.grain }) ≡ exact_call (read_text s)) (λ T p e.
+        ap (λ (y : ℕ). Ok (record { grains = T.head.lowest *ℤ pos (grain T) +ℤ pos y; grain = grain T })) e
+        ∙ ap (λ (z : ℤ). Ok (record { grains = z; grain = grain T })) (sym (shift s T p))
         ∙ ap exact_call (sym p))

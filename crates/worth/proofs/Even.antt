@@ -1,4 +1,4 @@
--- Worths over heights: no division by a C's own sum leaves a remainder, as the grain count is divided by the sums on each path. Assumes nothing.
+-- Worths over heights: no division by a C's own sum leaves a remainder, as the grain count is divided by the sums on each path.
 use Prim.Native.Nat.{ℕ, ◌*◌, ◌/◌, ◌<◌, ◌∣◌}
 use mathlib.Core.Path.{◌≡◌, refl, sym}
 use mathlib.Core.Bool.{true}

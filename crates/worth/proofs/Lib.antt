@@ -3,7 +3,6 @@ pub mod Even
 pub mod Shift
 pub mod Worth
 pub mod Worked
-pub mod Codes
 pub mod Run
 pub mod Lone
 pub mod Text

@@ -1,4 +1,4 @@
--- A run of one line: its node is a leaf. Assumes nothing.
+-- A run of one line: its node is a leaf.
 use Prim.Native.Nat.{ℕ, ◌+◌, ◌-◌, ◌*◌}
 use mathlib.Core.Path.{◌≡◌, refl, sym, ap, subst, ◌∙◌}
 use mathlib.Core.List.{List, [], ◌∷◌}

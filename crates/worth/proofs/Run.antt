@@ -1,22 +1,22 @@
--- A run of lines that can be judged, one child after another: what the code of `worth_under` keeps. Assumes nothing.
+-- A run of lines that can be judged, one child after another: what the code of `worth_under` keeps.
 use Prim.Native.Nat.{ℕ, zero, suc, ◌+◌, ◌-◌, ◌*◌, ◌/◌, ◌≤◌, ◌<◌, min, max}
 use mathlib.Core.Path.{◌≡◌, refl, sym, ap, subst, ◌∙◌}
 use mathlib.Core.Bool.{Bool, true, false}
 use mathlib.Core.List.{List, [], ◌∷◌}
 use native.Mathlib.Omega.{arith}
+use Rattle.std.proofs.Math.Nat.{mul-le-mul}
 use lib.ListN.{length, get_or, take, drop, length-drop}
 use lib.Seq.{length-take-le, take-nil, take-take, drop-drop}
-use Rattle.line.proofs.Signs.{true-ne-false}
-use Rattle.table.specs.Tree.{Kind, MAX, MIN, CHANCE, Forest, end, leaf, inner, kind_of, is_chance, is_end}
+use Rattle.table.specs.Tree.{Kind, MAX, MIN, CHANCE, Forest, end, leaf, inner, code_of, kind_of, is_chance, is_end}
 use Rattle.table.specs.Inside.{begin, taken, sealed}
+use Rattle.table.proofs.Nodes.{code-pos}
 use Rattle.table.proofs.Runs.{kind-code}
 use Rattle.scale.specs.declared.Scale.{Scale}
 use Rattle.worth.specs.Worth.{Share, total}
 use Rattle.worth.specs.Inside.Heights.{tallest, shortest, summed, height_value, height_shares, SmallWorths}
-use Rattle.worth.specs.Inside.{kind_in, Beside, Reach, Lays, take_all, weighing, OkScale, Fits, ReadyRun}
+use Rattle.worth.specs.Inside.{kind_in, Beside, Reach, Lays, take_all, OkScale, Fits, ReadyRun}
 use Rattle.worth.proofs.Bounds.{Each, shortest-one, summed-le, weights-shares, small-each}
 use Rattle.worth.proofs.Shift.{Some, some-shares}
-use Rattle.worth.proofs.Codes.{code-inner, mul_most}
 
 -- ---- the children of a node, one after another
 
@@ -83,6 +83,11 @@ line-within m n t h = ap (take 25) (drop-take (25 * m) n t) ∙ take-take 25 (n 
 
 -- ---- the first node of a run
 
+code_few : (k : Kind) → code_of k < 4
+code_few MAX = omega arith
+code_few MIN = omega arith
+code_few CHANCE = omega arith
+
 pub lays-le : (S : Beside) (c e : ℕ) (s : List ℕ) (f : Forest ℕ) → Lays S c e s f → c ≤ e
 unfolding Lays
 lays-le S c e s end l = omega (arith, l)
@@ -116,6 +121,7 @@ pub record Front (S : Beside) (g : Scale) (c e : ℕ) (s : List ℕ) (f : Forest
   pub weighs : get_or S.weights c 0 ≡ share.weight
   pub lays : Lays S (get_or S.stops c 0) e (drop (25 * (get_or S.stops c 0 - c)) s) rest
   pub fits : Fits g rest
+  pub known : kind_in (take 25 s) < 4
   pub leafy : kind_in (take 25 s) ≡ 0 → share.worth ≡ get_or S.heights c 0 * g.grain
   pub child : (kind_in (take 25 s) ≡ 0 → ⊥)
       → Child S g (kind_in (take 25 s)) (c + 1) (get_or S.stops c 0) (take (25 * (get_or S.stops c 0 - (c + 1))) (drop 25 s)) share.worth
@@ -141,6 +147,7 @@ module _ (S : Beside) (g : Scale) (c e : ℕ) (s : List ℕ) where
         weighs = l.2;
         lays = l.4;
         fits = record { filled = F.filled; small = F.small.1; totals = F.totals };
+        known = omega (arith, l.0);
         leafy = λ z. ap (λ (x : ℕ). x * g.grain) (sym l.3);
         child = λ z. absurd (z l.0);
       }
@@ -160,7 +167,8 @@ module _ (S : Beside) (g : Scale) (c e : ℕ) (s : List ℕ) where
         weighs = l.1;
         lays = l.3;
         fits = record { filled = F.filled.2; small = F.small.2; totals = F.totals.2 };
-        leafy = λ z. absurd (code-inner k (sym l.0 ∙ z));
+        known = omega (arith, l.0, code_few k);
+        leafy = λ z. absurd (omega (arith, code-pos k, l.0, z));
         child = λ z. record {
           ready = record {
             nodes = under;
@@ -178,16 +186,6 @@ module _ (S : Beside) (g : Scale) (c e : ℕ) (s : List ℕ) where
       }
 
 -- ---- the loop
-
-weighing-chance : (k : Kind) (w : ℕ) → is_chance k ≡ true → weighing k w ≡ w
-weighing-chance MAX w i = absurd (true-ne-false (sym i))
-weighing-chance MIN w i = absurd (true-ne-false (sym i))
-weighing-chance CHANCE w i = refl
-
-taken-weighing : (k : Kind) (a w h : ℕ) → taken k a (weighing k w) h ≡ taken k a w h
-taken-weighing MAX a w h = refl
-taken-weighing MIN a w h = refl
-taken-weighing CHANCE a w h = refl
 
 sealed-same : (k : Kind) (m n a : ℕ) → (is_chance k ≡ true → m ≡ n) → sealed m k a ≡ sealed n k a
 sealed-same MAX m n a e = refl
@@ -239,7 +237,7 @@ module _ (S : Beside) (g : Scale) (k : Kind) (c e : ℕ) (s : List ℕ) where
       )
 
   going-turn : (a w i : ℕ) (R : ReadyRun S g k c e s) (N : Next a w i R) (b v j : ℕ) → j ≡ get_or S.stops i 0 → b ≡ taken k a v N.1.share.worth
-      → v ≡ weighing k N.1.share.weight → v ≤ 255 → Going S g k c e s R.nodes b (w + v) j
+      → v ≡ N.1.share.weight → v ≤ 255 → Going S g k c e s R.nodes b (w + v) j
   unfolding take_all total
   going-turn a w i R N b v j stop step weight light =
       let G = N.0 in
@@ -249,7 +247,7 @@ module _ (S : Beside) (g : Scale) (k : Kind) (c e : ℕ) (s : List ℕ) where
       let at : 25 * (i - c) + 25 * (m - i) ≡ 25 * (m - c) = omega (arith, G.from, F.later) in
       let cut : drop (25 * (m - i)) (drop (25 * (i - c)) s) ≡ drop (25 * (m - c)) s =
       drop-drop (25 * (m - i)) (25 * (i - c)) s ∙ ap (λ (n : ℕ). drop n s) at in
-      let took : b ≡ taken k a F.share.weight F.share.worth = step ∙ ap (λ (n : ℕ). taken k a n F.share.worth) weight ∙ taken-weighing k a F.share.weight F.share.worth in
+      let took : b ≡ taken k a F.share.weight F.share.worth = step ∙ ap (λ (n : ℕ). taken k a n F.share.worth) weight in
       rw stop
       (record {
         rest = F.rest;
@@ -258,7 +256,7 @@ module _ (S : Beside) (g : Scale) (k : Kind) (c e : ℕ) (s : List ℕ) where
         lays = subst (λ (t : List ℕ). Lays S m e t F.rest) cut F.lays;
         fits = F.fits;
         same = G.same ∙ ap (take_all k a) F.shares ∙ ap (λ (x : ℕ). take_all k x (height_shares Q F.rest)) (sym took);
-        weighed = λ i. omega (arith, G.weighed i, ap total F.shares, weight, weighing-chance k F.share.weight i);
+        weighed = λ i. omega (arith, G.weighed i, ap total F.shares, weight);
         light = omega (arith, G.light, F.later);
       })
 
@@ -298,7 +296,7 @@ sum_fits S g CHANCE c e s a w i R N k =
     let xs : List (Share ℕ) = height_shares Q R.nodes in
     let F = N.1 in
     let few : total xs ≤ 64 = omega (arith, weights-shares Q R.nodes, (R.total refl).1) in
-    omega (arith, sum-so-far a (total xs * g.top) F.share (height_shares Q F.rest) xs (N.0.same ∙ ap (take_all CHANCE a) F.shares) (summed-le g.top xs (small-each Q g.top R.nodes R.fits.small)), mul_most (total xs) g.top 64 35184372088832 few R.scale.top)
+    omega (arith, sum-so-far a (total xs * g.top) F.share (height_shares Q F.rest) xs (N.0.same ∙ ap (take_all CHANCE a) F.shares) (summed-le g.top xs (small-each Q g.top R.nodes R.fits.small)), mul-le-mul few R.scale.top)
 
 -- ---- the parts of the text
 
@@ -309,19 +307,18 @@ part_same c i j s h l =
     let n : 25 * (j - c) - (25 * (i - c) + 25) ≡ 25 * (j - (i + 1)) = omega arith in
     ap (λ (m : ℕ). take m (drop (25 * (i - c) + 25) s)) n ∙ ap (take (25 * (j - (i + 1)))) (sym (drop-drop 25 (25 * (i - c)) s))
 
--- ---- one turn of the loop: the numbers that bound it
+-- ---- one turn of the loop: the numbers that bound it, where node i stops at j
 
-pub record Turn (S : Beside) (c e i : ℕ) (s : List ℕ) : Type 0 where
+pub record Turn (c e i j : ℕ) (s : List ℕ) : Type 0 where
   pub from : c ≤ i
-  pub here : i < get_or S.stops i 0
-  pub upto : get_or S.stops i 0 ≤ e
-  pub room : Reach S e
+  pub here : i < j
+  pub upto : j ≤ e
   pub few : e ≤ 1024
   pub long : length s ≡ 25 * (e - c)
 
 module _ (S : Beside) (g : Scale) (k : Kind) (c e : ℕ) (s : List ℕ) (a w i : ℕ) (R : ReadyRun S g k c e s) (N : Next S g k c e s a w i R) where
-  pub turn-of : Turn S c e i s
-  turn-of = record { from = N.0.from; here = N.1.later; upto = N.1.within; room = R.room; few = R.few; long = R.long }
+  pub turn-of : (j : ℕ) → j ≡ get_or S.stops i 0 → Turn c e i j s
+  turn-of j stop = record { from = N.0.from; here = omega (arith, N.1.later); upto = omega (arith, N.1.within); few = R.few; long = R.long }
 
   -- the child's kind, stop and lines, as the code has them
   pub child-of : (q j : ℕ) → q ≡ kind_in (take 25 (drop (25 * (i - c)) s)) → j ≡ get_or S.stops i 0 → (q ≡ 0 → ⊥)
@@ -339,12 +336,12 @@ module _ (S : Beside) (g : Scale) (k : Kind) (c e : ℕ) (s : List ℕ) (a w i :
   leaf-of none = sym (N.1.leafy none)
 
   -- the child is worth h, and its weight is v
-  module _ (h v : ℕ) (worth : h ≡ N.1.share.worth) (weight : v ≡ weighing k (get_or S.weights i 0)) where
+  module _ (h v : ℕ) (worth : h ≡ N.1.share.worth) (weight : v ≡ get_or S.weights i 0) where
+    same-weight : v ≡ N.1.share.weight
+    same-weight = weight ∙ N.1.weighs
+
     pub turn-fits : k ≡ CHANCE → a + v * h < 9223372036854775808
-    turn-fits chance =
-        let same : v ≡ N.1.share.weight = weight ∙ weighing-chance k (get_or S.weights i 0) (ap is_chance chance) ∙ N.1.weighs in
-        rw (same, worth) (sum_fits S g k c e s a w i R N chance)
+    turn-fits chance = rw (same-weight, worth) (sum_fits S g k c e s a w i R N chance)
 
     pub turn_on : (b j : ℕ) → j ≡ get_or S.stops i 0 → b ≡ taken k a v h → v ≤ 255 → Going S g k c e s R.nodes b (w + v) j
-    turn_on b j stop step light =
-        going-turn S g k c e s a w i R N b v j stop (step ∙ ap (taken k a v) worth) (weight ∙ ap (weighing k) N.1.weighs) light
+    turn_on b j stop step light = going-turn S g k c e s a w i R N b v j stop (step ∙ ap (taken k a v) worth) same-weight light

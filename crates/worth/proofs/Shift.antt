@@ -1,4 +1,4 @@
--- The worth over the integers is the lowest end in grains and the worth over heights. Assumes nothing.
+-- The worth over the integers is the lowest end in grains and the worth over heights.
 use Prim.Native.Nat.{ℕ, suc, ◌+◌, ◌*◌, ◌/◌, ◌<◌}
 use mathlib.Core.Path.{◌≡◌, refl, sym, ap, ap₂, ◌∙◌}
 use mathlib.Core.Bool.{Bool, true, false}

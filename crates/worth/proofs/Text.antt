@@ -1,4 +1,4 @@
--- The text of an accepted table holds its tree: its lines are laid out as its nodes. Assumes nothing.
+-- The text of an accepted table holds its tree: its lines are laid out as its nodes.
 use Prim.Native.Nat.{ℕ, zero, suc, ◌+◌, ◌-◌, ◌*◌, ◌≤◌, ◌<◌}
 use mathlib.Core.Path.{◌≡◌, sym, ap, subst, ◌∙◌}
 use mathlib.Core.List.{List, [], ◌∷◌, map}
@@ -8,7 +8,7 @@ use lib.Seq.{drop-drop}
 use Rattle.line.specs.declared.Head.{Head}
 use Rattle.line.specs.declared.Line.{Line}
 use Rattle.line.specs.Refusal.{fine}
-use Rattle.line.specs.Line.{Step, Above, ancestors, steps_of, stepped, letter_code, entry_of, line_checks, placed, Placed, node_line}
+use Rattle.line.specs.Line.{Above, ancestors, steps_of, stepped, entry_of, line_checks, placed, Placed, node_line, code, kind_from, kind_said}
 use Rattle.line.proofs.Fine.{unless-fine}
 use Rattle.table.specs.Tree.{Forest, end, leaf, inner}
 use Rattle.table.specs.Table.{Table, node_lines, count, read_text}
@@ -19,6 +19,8 @@ use Rattle.table.proofs.Laid.{fitted-at}
 use Rattle.table.proofs.Grown.{lines-first}
 use Rattle.table.proofs.Spans.{spans-le}
 use Rattle.worth.specs.Inside.{kind_in, beside, Reach, Lays}
+use Rattle.line.specs.declared.Step.{Step}
+use Rattle.line.proofs.KindTests.{code-said}
 use Rattle.worth.proofs.Run.{line-within}
 
 -- ---- what the lines say
@@ -77,15 +79,15 @@ spans-lay t c e s (inner n w k under rest) x told =
 -- ---- the lines that were read
 
 module _ (h : Head) where
-  placed-says : (i : ℕ) (P : List Step) (s : List ℕ) (p : Placed) → node_line h i P s ≡ fine p → kind_in s ≡ p.line.kind
+  placed-says : (i : ℕ) (P : List Step) (s : List ℕ) (p : Placed) → node_line h i P s ≡ fine p → kind_in s ≡ code p.line.kind
   placed-says i P s p e =
-      let k : ℕ = letter_code (entry_of s).letter in
+      let k = kind_said (entry_of s) in
       let a : Above = ancestors (entry_of s).parent P in
       let r = unless-fine (line_checks h i (entry_of s) (get_or s 4 0) (get_or s 24 0) a) (placed i k (entry_of s) (stepped i k (steps_of a))) p e in
-      ap (λ (x : Placed). x.line.kind) r.1
+      code-said (kind_from (entry_of s).letter) r.0.1.1.0 ∙ ap (λ (x : Placed). code x.line.kind) r.1
 
   abbrev SaysOf : List Line → ℕ → List ℕ → Type 0
-  SaysOf ls m l = kind_in l ≡ get_or (map (λ (l : Line). l.kind) ls) m 0
+  SaysOf ls m l = kind_in l ≡ get_or (map (λ (l : Line). code l.kind) ls) m 0
 
   lines-say : (n i : ℕ) (P : List Step) (s : List ℕ) (ls : List Line) → node_lines h n i P s ≡ fine ls
       → (m : ℕ) → m < length ls → SaysOf ls m (take 25 (drop (25 * m) s))
@@ -98,7 +100,7 @@ module _ (h : Head) where
       subst (λ (x : List Line). SaysOf x m (take 25 (drop (25 * m) s))) (sym F.lines)
       (go p F.rest (placed-says i P (take 25 s) p F.line) (lines-say n (suc i) p.steps (drop 25 s) F.rest F.more) m d)
     where
-      go : (p : Placed) (rest : List Line) → kind_in (take 25 s) ≡ p.line.kind
+      go : (p : Placed) (rest : List Line) → kind_in (take 25 s) ≡ code p.line.kind
           → ((m : ℕ) → m < length rest → SaysOf rest m (take 25 (drop (25 * m) (drop 25 s))))
           → (m : ℕ) → m < suc (length rest) → SaysOf (p.line ∷ rest) m (take 25 (drop (25 * m) s))
       go p rest first more zero d = first
@@ -127,5 +129,5 @@ accepted-lays s t h st w g room =
     told m l =
         let z : m ≡ 0 + m = omega arith in
         lines-say t.head (count s) 0 [] (drop 25 s) t.lines (checked s t h).lines m (omega arith)
-        ∙ sym (fitted-at (kinds_of t) st n m (length-map t.lines (λ (l : Line). l.kind)) room.stops (omega arith))
+        ∙ sym (fitted-at (kinds_of t) st n m (length-map t.lines (λ (l : Line). code l.kind)) room.stops (omega arith))
         ∙ ap (λ (i : ℕ). get_or kinds i 0) z

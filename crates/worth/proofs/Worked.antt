@@ -1,4 +1,4 @@
--- Tables A and B of document 01, B turned, a lone leaf and a table with two totals: G and the worth, by computation. Assumes nothing.
+-- Tables A and B of document 01, B turned, a lone leaf and a table with two totals: G and the worth, by computation.
 use Prim.Native.Nat.{ℕ}
 use mathlib.Core.Path.{◌≡◌, refl}
 use lib.IntN.{ℤ, pos, negsuc}

@@ -1,4 +1,4 @@
--- The worth of every accepted table: exact, within the ends, and the lowest end with the worth over heights. Assumes nothing.
+-- The worth of every accepted table: exact, within the ends, and the lowest end with the worth over heights.
 use Prim.Native.Nat.{ℕ, ◌+◌, ◌*◌, ◌≤◌, ◌<◌}
 use mathlib.Core.Path.{◌≡◌, refl, sym, ap, ap₂, ◌∙◌}
 use mathlib.Core.Bool.{true, false}

@@ -5,6 +5,8 @@ use Rattle.line.specs.Line.{letter_code}
 use Rattle.table.specs.Tree.{Kind, MAX, MIN, CHANCE, Forest, end, leaf, inner, code_of, is_chance, is_end, weigh}
 use Rattle.table.specs.Accepted.{OkTotal, Filled, Totals}
 use Rattle.table.specs.Inside.{taken}
+use Rattle.table.specs.Nodes.{stops_in, weights_in, heights_in}
+use Rattle.table.specs.declared.Node.{Node}
 use Rattle.scale.specs.declared.Scale.{Scale}
 use Rattle.worth.specs.Worth.{Share}
 use Rattle.worth.specs.Inside.Heights.{height_value, height_shares, SmallWorths}
@@ -21,6 +23,10 @@ pub record Beside : Type 0 where
 
 abbrev pub beside : (stops weights heights : List ℕ) → Beside
 beside S W H = record { stops = S; weights = W; heights = H }
+
+-- the same of nodes as the calls hold them
+abbrev pub beside_in : List Node → Beside
+beside_in ns = beside (stops_in ns) (weights_in ns) (heights_in ns)
 
 -- each of them has the nodes before e
 pub record Reach (S : Beside) (e : ℕ) : Type 0 where
@@ -42,12 +48,6 @@ Lays S c e s (inner n w k under rest) =
     × (get_or S.weights c 0 ≡ w)
     × Lays S (c + 1) (get_or S.stops c 0) (take (25 * (get_or S.stops c 0 - (c + 1))) (drop 25 s)) under
     × Lays S (get_or S.stops c 0) e (drop (25 * (get_or S.stops c 0 - c)) s) rest
-
--- a child's weight where its parent is a C; an M or N needs none
-abbrev pub weighing : Kind → ℕ → ℕ
-weighing MAX w = 0
-weighing MIN w = 0
-weighing CHANCE w = w
 
 unfoldable pub take_all : Kind → ℕ → List (Share ℕ) → ℕ
 take_all k a [] = a

@@ -1,4 +1,4 @@
--- The text of a header and of a node line gives back what it was written from. Assumes nothing.
+-- The text of a header and of a node line gives back what it was written from.
 use Prim.Native.Nat.{ℕ, zero, suc, ◌^◌, ◌<◌}
 use mathlib.Core.Path.{◌≡◌, refl}
 use mathlib.Core.Bool.{Bool, true, false, cond}
@@ -10,7 +10,7 @@ use Rattle.field.specs.declared.Field.{Field}
 use Rattle.field.specs.declared.Field.TheVariants.{Blank, Number}
 use Rattle.line.specs.declared.Head.{Head}
 use Rattle.line.specs.declared.Line.{Line}
-use Rattle.line.specs.Line.{has_number, heading_of, entry_of}
+use Rattle.line.specs.Line.{has_number, heading_of, entry_of, is_leaf}
 use Rattle.line.specs.Inside.{Ranged}
 use Rattle.writing.specs.Text.{header_text, line_text}
 use Rattle.writing.specs.Inside.{Fits, Roomy, entry_for, Short}
@@ -29,7 +29,7 @@ line-roomy l S =
       number = fits-natural l.node 4 (lit< tt) (lit≤ tt) S.node;
       parent = fits-either 5 (eqb l.node 0) Blank (Number (pos l.parent)) tt (fits-natural l.parent 5 (lit< tt) (lit≤ tt) S.parent);
       weight = fits-either 5 (eqb l.weight 0) Blank (Number (pos l.weight)) tt (fits-natural l.weight 5 (lit< tt) (lit≤ tt) S.weight);
-      utility = fits-either 8 (eqb l.kind 0) (Number l.utility) Blank (fits_signed l.utility S.utility) tt;
+      utility = fits-either 8 (is_leaf l.kind) (Number l.utility) Blank (fits_signed l.utility S.utility) tt;
     }
 
 head-roomy : (h : Head) (n : ℕ) → Ranged h → n < 10 ^ 4 → HeadRoomy (heading_for h n)

@@ -1,4 +1,4 @@
--- No check refuses a header in range, and none the form of a line's text. Assumes nothing.
+-- No check refuses a header in range, and none the form of a line's text.
 use Prim.Native.Nat.{ℕ, zero, suc, ◌≤◌, ◌<◌}
 use mathlib.Core.Path.{◌≡◌, refl, ap, ◌∙◌}
 use mathlib.Core.Bool.{Bool, true, false, not, ◌||◌, cond}
@@ -8,14 +8,16 @@ use borrow.Author.Tests.{eq-eqb, ne_eqb, le-ltb}
 use lib.Dec.{eqb, eqb-suc-zero}
 use lib.IntN.{ℤ, pos, negsuc, nat_abs}
 use Rattle.field.specs.declared.Field.TheVariants.{Blank, Number}
+use Rattle.std.specs.Prelude.{Option, Some, unwrap_or}
 use Rattle.line.specs.declared.Head.{Head}
+use Rattle.line.specs.declared.Kind.{Kind}
+use Rattle.line.specs.declared.Kind.TheVariants.{Leaf, Max, Min, Chance}
 use Rattle.line.specs.declared.Line.{Line}
 use Rattle.line.specs.declared.Entry.{Entry}
 use Rattle.line.specs.Refusal.{Verdict, fine, Check, unless}
-use Rattle.line.specs.Line.{is_ill, has_number, outside, count_of, head_of, header_for, header_checks, letter_code, Above, steps_of, ill_entry, wide_heading, stepped, Placed, placed, early_checks, late_checks}
+use Rattle.line.specs.Line.{is_ill, has_number, outside, count_of, head_of, header_for, header_checks, letter, kind_from, is_leaf, Above, steps_of, ill_entry, wide_heading, stepped, Placed, placed, early_checks, late_checks}
 use Rattle.line.specs.Inside.{Ranged}
 use Rattle.line.proofs.Fine.{Passed}
-use Rattle.writing.specs.Text.{letter_of}
 use Rattle.writing.specs.Inside.{entry_for}
 use Rattle.writing.proofs.Said.{heading_for}
 
@@ -65,31 +67,29 @@ ill-second : (b : Bool) (z : ℤ) → is_ill (cond b (Number z) Blank) ≡ false
 ill-second true z = refl
 ill-second false z = refl
 
-letter-filled : (k : ℕ) → eqb (letter_of k) 32 ≡ false
-letter-filled k = go (eqb k 0) (eqb k 1) (eqb k 2)
-  where
-    go : (a b c : Bool) → eqb (cond a 76 (cond b 77 (cond c 78 67))) 32 ≡ false
-    go true b c = refl
-    go false true c = refl
-    go false false true = refl
-    go false false false = refl
+letter-filled : (k : Kind) → eqb (letter k) 32 ≡ false
+letter-filled Leaf = refl
+letter-filled Max = refl
+letter-filled Min = refl
+letter-filled Chance = refl
 
 pub entry-well : (l : Line) → ill_entry 32 10 (entry_for l) ≡ false
 entry-well l =
     rw (
       ill-first (eqb l.node 0) (pos l.parent),
       ill-first (eqb l.weight 0) (pos l.weight),
-      ill-second (eqb l.kind 0) l.utility,
+      ill-second (is_leaf l.kind) l.utility,
     )
     (letter-filled l.kind)
 
-pub code-back : (k : ℕ) → k < 4 → letter_code (letter_of k) ≡ k
-code-back zero h = refl
-code-back (suc zero) h = refl
-code-back (suc (suc zero)) h = refl
-code-back (suc (suc (suc zero))) h = refl
-code-back (suc (suc (suc (suc k)))) h = absurd (omega arith)
+pub kind-back : (k : Kind) → kind_from (letter k) ≡ Some k
+kind-back Leaf = refl
+kind-back Max = refl
+kind-back Min = refl
+kind-back Chance = refl
 
--- a line of the kind k
-abbrev pub placing : Head → ℕ → ℕ → Above → Entry → Verdict Placed
-placing h i k a e = unless (early_checks i k a e 32 10 ++ late_checks h i k e (steps_of a)) (placed i k e (stepped i k (steps_of a)))
+-- a line of the kind o, if it has one
+abbrev pub placing : Head → ℕ → Option Kind → Above → Entry → Verdict Placed
+placing h i o a e =
+    let k : Kind = unwrap_or o Leaf in
+    unless (early_checks i o a e 32 10 ++ late_checks h i k e (steps_of a)) (placed i k e (stepped i k (steps_of a)))

@@ -1,4 +1,4 @@
--- The text of a line gives back the fields that it was written from. Assumes nothing.
+-- The text of a line gives back the fields that it was written from.
 use Prim.Native.Nat.{ℕ, suc, ◌+◌, ◌-◌, ◌^◌, ◌≤◌, ◌<◌}
 use mathlib.Core.Path.{◌≡◌, refl, sym, ap, ap₂, ◌∙◌}
 use mathlib.Core.Bool.{false}

@@ -1,4 +1,4 @@
--- What two texts of one table have in common: all but the padding of their numbers. Document 02, Item 9. Assumes nothing.
+-- What two texts of one table have in common: all but the padding of their numbers. Document 02, Item 9.
 use Prim.Native.Nat.{ℕ, zero, suc, ◌+◌, ◌*◌, ◌≤◌}
 use mathlib.Core.Path.{◌≡◌, refl, sym, ap, subst, ◌∙◌}
 use mathlib.Core.Bool.{Bool, true, false}
@@ -19,7 +19,7 @@ use Rattle.line.specs.declared.Heading.{Heading}
 use Rattle.line.specs.declared.Line.{Line}
 use Rattle.line.specs.declared.Entry.{Entry}
 use Rattle.line.specs.Refusal.{fine}
-use Rattle.line.specs.Line.{is_ill, second_of, total_of, heading_of, Step, Placed, entry_of, node_line}
+use Rattle.line.specs.Line.{is_ill, second_of, total_of, heading_of, Placed, entry_of, node_line}
 use Rattle.line.specs.Inside.{Ranged}
 use Rattle.line.proofs.Signs.{true-ne-false}
 use Rattle.line.proofs.Columns.{second-number}
@@ -28,6 +28,7 @@ use Rattle.table.specs.Padding.{columns_of, SameField, SameTotals, one-total, tw
 use Rattle.table.proofs.Grown.{lines-first}
 use Rattle.table.proofs.Known.{read_length}
 use Rattle.table.proofs.Accepted.{checked, accepted-ranged, accepted-size}
+use Rattle.line.specs.declared.Step.{Step}
 use Rattle.writing.proofs.Said.{heading_for, is_none, Said, line-said, HeadSaid, header-said}
 
 -- ---- node lines one after another

@@ -1,5 +1,5 @@
 -- A table is accepted exactly where its header and its forest keep the rules of document 01, 'The table on paper': such a table is read back from its
--- blank-padded text, and every accepted one is such a table. Assumes nothing.
+-- blank-padded text, and every accepted one is such a table.
 use Prim.Native.Nat.{ℕ, zero, suc, ◌+◌, ◌-◌, ◌*◌, ◌/◌, ◌%◌, ◌≤◌, ◌<◌}
 use mathlib.Core.Path.{◌≡◌, refl, sym, ap, ap₂, subst, ◌∙◌}
 use mathlib.Core.Bool.{Bool, true, false, not, ◌&&◌, cond}
@@ -13,14 +13,18 @@ use lib.Seq.{take_at, drop_at}
 use lib.IntN.{ℤ, pos}
 use Rattle.field.specs.declared.Field.{Field}
 use Rattle.field.specs.declared.Field.TheVariants.{Blank, Number}
+use Rattle.std.specs.Prelude.{Option, Some}
 use Rattle.line.specs.declared.Head.{Head}
+use Rattle.line.specs.declared.Kind.{Kind as LineKind}
+use Rattle.line.specs.declared.Kind.TheVariants.{Leaf}
+use Rattle.line.specs.declared.Step.{Step}
 use Rattle.line.specs.declared.Line.{Line}
 use Rattle.line.specs.declared.Entry.{Entry}
 use Rattle.line.specs.Refusal.{Verdict, fine, next, unless, unless_at}
-use Rattle.line.specs.Line.{Placed, is_blank, outside, value_of, count_of, header, header_for, heading_of, totals, among, larger, Step, Above, path, climb, ancestors, chances_of, at_chance, deep, stepped, placed, early_checks, late_checks, place_of, node_line, Within}
+use Rattle.line.specs.Line.{Placed, is_blank, outside, value_of, count_of, header, header_for, heading_of, totals, among, larger, code, is_leaf, Above, path, climb, ancestors, chances_of, at_chance, deep, stepped, placed, early_checks, late_checks, place_of, node_line, Within}
 use Rattle.line.specs.Inside.{Ranged, Weighs}
 use Rattle.line.proofs.Fine.{larger-small, weighs-small, Valued}
-use Rattle.table.specs.Tree.{Kind, MAX, MIN, CHANCE, Forest, end, leaf, inner, code_of, is_chance, weigh, nodes_where, childless, unbalanced, grain_of}
+use Rattle.table.specs.Tree.{Kind, MAX, MIN, CHANCE, Forest, end, leaf, inner, line_kind, is_chance, weigh, nodes_where, childless, unbalanced, grain_of}
 use Rattle.table.specs.Table.{Table, bad_length, prefix, node_lines, tree, complete, count, read_text}
 use Rattle.table.specs.Accepted.{flat, one, Filled, Balanced, Proper, Rooted}
 use Rattle.table.specs.Padding.{SameText}
@@ -32,7 +36,7 @@ use Rattle.writing.specs.Inside.{entry_for, Short}
 use Rattle.writing.proofs.Said.{heading_for, utility-short}
 use Rattle.writing.proofs.Padding.{accepted-same}
 use Rattle.writing.proofs.Again.{head-again, line-again}
-use Rattle.writing.proofs.Checks.{unless-passed, header-passes, entry-well, code-back, placing}
+use Rattle.writing.proofs.Checks.{unless-passed, header-passes, entry-well, kind-back, placing}
 
 -- ---- one line
 
@@ -49,16 +53,8 @@ utility-filled : (u : Bool) (h : Head) (v : ℤ) → Valued u h v
 utility-filled true h v x = (refl, rw x.0 x.1, refl)
 utility-filled false h v x = (refl, refl, sym x)
 
-small-other : (k : ℕ) → k < 4 → eqb k 4 ≡ false
-small-other k h = ne_eqb k 4 (λ e. omega arith)
-
 some-eqb : (i p : ℕ) → p < i → eqb i 0 ≡ false
 some-eqb i p h = ne_eqb i 0 (λ e. omega arith)
-
-code-few : (k : Kind) → code_of k < 4
-code-few MAX = omega arith
-code-few MIN = omega arith
-code-few CHANCE = omega arith
 
 even : (k : Kind) (b : Bool) → (is_chance k ≡ true → b ≡ true) → (is_chance k && not b) ≡ false
 even MAX b s = refl
@@ -66,7 +62,7 @@ even MIN b s = refl
 even CHANCE b s = ap not (s refl)
 
 -- node i of the kind k below the steps P, where they are found from the steps R of the line before it
-module _ (h : Head) (i k p w : ℕ) (v : ℤ) (c : ℕ) (R P : List Step) where
+module _ (h : Head) (i : ℕ) (k : LineKind) (p w : ℕ) (v : ℤ) (c : ℕ) (R P : List Step) where
   abbrev line : Line
   line = record { node = i; kind = k; parent = p; weight = w; utility = v; chances = c }
 
@@ -78,12 +74,11 @@ module _ (h : Head) (i k p w : ℕ) (v : ℤ) (c : ℕ) (R P : List Step) where
     parent : count_of (entry_for line).parent ≡ p
     near : p ≤ i
     few : i < 1024
-    kind : k < 4
-    chances : chances_of P + cond (eqb k 3) 1 0 ≡ c
+    chances : chances_of P + cond (eqb (code k) 3) 1 0 ≡ c
     rare : c ≤ 4
     short : length P < 64
     weight : Weighs (at_chance P) (larger h) w
-    utility : Valued (eqb k 0) h v
+    utility : Valued (is_leaf k) h v
 
   module _ (ranged : Ranged h) (K : Keeps) where
     line-short : Short line
@@ -92,18 +87,18 @@ module _ (h : Head) (i k p w : ℕ) (v : ℤ) (c : ℕ) (R P : List Step) where
           node = omega (arith, K.few);
           parent = omega (arith, K.few, K.near);
           weight = omega (arith, weighs-small (at_chance P) (larger h) w K.weight, larger-small h ranged);
-          utility = utility-short h (eqb k 0) v ranged K.utility;
+          utility = utility-short h (is_leaf k) v ranged K.utility;
         }
 
     place_kept : place_of h i (entry_for line) 32 10 R ≡ fine (record { line = line; steps = here ∷ P })
     place_kept =
         let e : Entry = entry_for line in
         let W = weight-filled (at_chance P) (larger h) w K.weight in
-        let U = utility-filled (eqb k 0) h v K.utility in
+        let U = utility-filled (is_leaf k) h v K.utility in
         let far : deep (stepped i k P) ≡ false = rw (le-ltb 64 (suc (length P)) K.short, K.chances) (le-ltb 4 c K.rare) in
-        ap₂ (λ (m : ℕ) (a : Above). placing h i m a e) (code-back k K.kind) K.above
-        ∙ unless-passed (early_checks i k (path P) e 32 10 ++ late_checks h i k e P) (placed i k e (stepped i k P))
-        (entry-well line, (ap not (eq-eqb i i refl), (small-other k K.kind, (refl, (far, (rw W.0 U.0, (rw W.1 U.1, tt)))))))
+        ap₂ (λ (o : Option LineKind) (a : Above). placing h i o a e) (kind-back k) K.above
+        ∙ unless-passed (early_checks i (Some k) (path P) e 32 10 ++ late_checks h i k e P) (placed i k e (stepped i k P))
+        (entry-well line, (ap not (eq-eqb i i refl), (refl, (refl, (far, (rw W.0 U.0, (rw W.1 U.1, tt)))))))
         ∙ ap fine (λ j. record {
           line = record { node = i; kind = k; parent = K.parent j; weight = W.2 j; utility = U.2 j; chances = K.chances j };
           steps = record { node = i; kind = k; chances = K.chances j } ∷ P;
@@ -122,12 +117,12 @@ data Reach (b : ℕ) (P : List Step) : List Step → Type 0 where
   there : Reach b P P
   below : {s : Step} {R : List Step} → b ≤ s.node → Reach b P R → Reach b P (s ∷ R)
 
-reach-climb : (s : Step) (Q R : List Step) → eqb s.kind 0 ≡ false → Reach (suc s.node) (s ∷ Q) R → climb s.node R ≡ path (s ∷ Q)
+reach-climb : (s : Step) (Q R : List Step) → is_leaf s.kind ≡ false → Reach (suc s.node) (s ∷ Q) R → climb s.node R ≡ path (s ∷ Q)
 unfolding climb
 reach-climb s Q _ o there = rw (eq-eqb s.node s.node refl, o)
 reach-climb s Q _ o (below {s = t} {R = R} h r) = rw (ne_eqb t.node s.node (λ e. omega arith)) (reach-climb s Q R o r)
 
-reach-above : (s : Step) (Q R : List Step) → eqb s.kind 0 ≡ false → Reach (suc s.node) (s ∷ Q) R → ancestors (Number (pos s.node)) R ≡ path (s ∷ Q)
+reach-above : (s : Step) (Q R : List Step) → is_leaf s.kind ≡ false → Reach (suc s.node) (s ∷ Q) R → ancestors (Number (pos s.node)) R ≡ path (s ∷ Q)
 reach-above s Q _ o there = reach-climb s Q (s ∷ Q) o there
 reach-above s Q _ o (below {s = t} {R = R} h r) = reach-climb s Q (t ∷ R) o (below h r)
 
@@ -166,48 +161,46 @@ module _ (h : Head) (ranged : Ranged h) where
         long = length-append (line_text l) (lines_text ls) ∙ omega (arith, w, g.long);
       }
 
-  good-line : (i k p w : ℕ) (v : ℤ) (c : ℕ) (R P : List Step) (ls : List Line) → Keeps h i k p w v c R P
+  good-line : (i : ℕ) (k : LineKind) (p w : ℕ) (v : ℤ) (c : ℕ) (R P : List Step) (ls : List Line) → Keeps h i k p w v c R P
       → Good (suc i) (record { node = i; kind = k; chances = c } ∷ P) ls → Good i R (record { node = i; kind = k; parent = p; weight = w; utility = v; chances = c } ∷ ls)
   good-line i k p w v c R P ls K g =
       good_more i R (record { node = i; kind = k; chances = c } ∷ P) (line h i k p w v c R P) ls (line-long h i k p w v c R P ranged K) (line_kept h i k p w v c R P ranged K) g
 
   -- the nodes T below the last step of s ∷ Q, then other lines
   forest-read : (i : ℕ) (s : Step) (Q R : List Step) (T : Forest ℤ) (rest : List Line)
-      → eqb s.kind 0 ≡ false → s.node < i → i + size T ≤ 1024 → Numbered i T
-      → Proper (larger h) 4 (Within h) (suc (length Q)) s.chances (eqb s.kind 3) T
+      → is_leaf s.kind ≡ false → s.node < i → i + size T ≤ 1024 → Numbered i T
+      → Proper (larger h) 4 (Within h) (suc (length Q)) s.chances (eqb (code s.kind) 3) T
       → Reach (suc s.node) (s ∷ Q) R
       → ((S : List Step) → Reach (suc s.node) (s ∷ Q) S → Good (i + size T) S rest)
       → Good i R (flat s.node s.chances T ++ rest)
   unfolding flat
   forest-read i s Q R end rest o l f N X r g = subst (λ (n : ℕ). Good n R rest) (add-zero i) (g R r)
   forest-read i s Q R (leaf n w v T) rest o l f N X r g =
-      let S : List Step = record { node = i; kind = 0; chances = s.chances } ∷ s ∷ Q in
-      let K : Keeps h i 0 s.node w v s.chances R (s ∷ Q) =
+      let S : List Step = record { node = i; kind = Leaf; chances = s.chances } ∷ s ∷ Q in
+      let K : Keeps h i Leaf s.node w v s.chances R (s ∷ Q) =
       record {
         above = rw (some-eqb i s.node l) (reach-above s Q R o r);
         parent = rw (some-eqb i s.node l);
         near = omega arith;
         few = omega arith;
-        kind = omega arith;
         chances = add-zero s.chances;
         rare = X.3;
         short = X.2;
         weight = X.0;
         utility = X.1;
       } in
-      rw N.0 (good-line i 0 s.node w v s.chances R (s ∷ Q) (flat s.node s.chances T ++ rest) K
+      rw N.0 (good-line i Leaf s.node w v s.chances R (s ∷ Q) (flat s.node s.chances T ++ rest) K
       (forest-read (suc i) s Q S T rest o (omega arith) (omega arith) N.1 X.4 (below l there)
       (λ Z q. subst (λ (n : ℕ). Good n Z rest) (omega arith) (g Z q))))
   forest-read i s Q R (inner n w k U T) rest o l f N X r g =
       let c : ℕ = s.chances + one k in
-      let t : Step = record { node = i; kind = code_of k; chances = c } in
-      let K : Keeps h i (code_of k) s.node w (pos 0) c R (s ∷ Q) =
+      let t : Step = record { node = i; kind = line_kind k; chances = c } in
+      let K : Keeps h i (line_kind k) s.node w (pos 0) c R (s ∷ Q) =
       record {
         above = rw (some-eqb i s.node l) (reach-above s Q R o r);
         parent = rw (some-eqb i s.node l);
         near = omega arith;
         few = omega arith;
-        kind = code-few k;
         chances = rw (code-chance k);
         rare = X.2;
         short = X.1;
@@ -215,7 +208,7 @@ module _ (h : Head) (ranged : Ranged h) where
         utility = rw (code-inner k);
       } in
       let more : List Line = flat s.node s.chances T ++ rest in
-      rw (N.0, append_assoc (flat i c U) (flat s.node s.chances T) rest) (good-line i (code_of k) s.node w (pos 0) c R (s ∷ Q) (flat i c U ++ more) K
+      rw (N.0, append_assoc (flat i c U) (flat s.node s.chances T) rest) (good-line i (line_kind k) s.node w (pos 0) c R (s ∷ Q) (flat i c U ++ more) K
       (forest-read (suc i) t (s ∷ Q) (t ∷ s ∷ Q) U more (code-inner k) (omega arith) (omega arith) N.1 (rw (code-chance k) X.3) there
       (λ Y p. forest-read (suc i + size U) s Q Y T rest o (omega arith) (omega arith) N.2 X.4 (reach-up (suc s.node) (suc i) t (s ∷ Q) Y l (omega arith) p)
       (λ Z q. subst (λ (n : ℕ). Good n Z rest) (omega arith) (g Z q)))))
@@ -224,15 +217,15 @@ module _ (h : Head) (ranged : Ranged h) where
   unfolding flat
   root-read end r N X f = absurd r
   root-read (leaf n w v T) r N X f =
-      let K : Keeps h 0 0 0 w v 0 [] [] =
-      record { above = refl; parent = refl; near = omega arith; few = omega arith; kind = omega arith; chances = refl; rare = omega arith; short = omega arith; weight = X.0; utility = X.1 } in
-      rw (r.0, r.2) (good-line 0 0 0 w v 0 [] [] [] K (good_none 1 (record { node = 0; kind = 0; chances = 0 } ∷ [])))
+      let K : Keeps h 0 Leaf 0 w v 0 [] [] =
+      record { above = refl; parent = refl; near = omega arith; few = omega arith; chances = refl; rare = omega arith; short = omega arith; weight = X.0; utility = X.1 } in
+      rw (r.0, r.2) (good-line 0 Leaf 0 w v 0 [] [] [] K (good_none 1 (record { node = 0; kind = Leaf; chances = 0 } ∷ [])))
   root-read (inner n w k U T) r N X f =
       let c : ℕ = 0 + one k in
-      let t : Step = record { node = 0; kind = code_of k; chances = c } in
-      let K : Keeps h 0 (code_of k) 0 w (pos 0) c [] [] =
-      record { above = refl; parent = refl; near = omega arith; few = omega arith; kind = code-few k; chances = rw (code-chance k); rare = X.2; short = omega arith; weight = X.0; utility = rw (code-inner k) } in
-      rw (r.0, r.2) (good-line 0 (code_of k) 0 w (pos 0) c [] [] (flat 0 c U ++ []) K
+      let t : Step = record { node = 0; kind = line_kind k; chances = c } in
+      let K : Keeps h 0 (line_kind k) 0 w (pos 0) c [] [] =
+      record { above = refl; parent = refl; near = omega arith; few = omega arith; chances = rw (code-chance k); rare = X.2; short = omega arith; weight = X.0; utility = rw (code-inner k) } in
+      rw (r.0, r.2) (good-line 0 (line_kind k) 0 w (pos 0) c [] [] (flat 0 c U ++ []) K
       (forest-read 1 t [] (t ∷ []) U [] (code-inner k) (omega arith) (omega arith) N.1 (rw (code-chance k) X.3) there (λ S q. good_none (1 + size U) S)))
 
 -- ---- nodes with a child, and sums

@@ -1,4 +1,4 @@
--- What an accepted header and an accepted node line have in their fields: what their texts are written from. Assumes nothing.
+-- What an accepted header and an accepted node line have in their fields: what their texts are written from.
 use Prim.Native.Nat.{ℕ, zero, suc, ◌-◌, ◌^◌, ◌≤◌, ◌<◌}
 use mathlib.Core.Path.{◌≡◌, refl, sym, ap, subst, ◌∙◌}
 use mathlib.Core.Bool.{Bool, true, false, not, cond}
@@ -15,17 +15,21 @@ use Rattle.field.specs.declared.Field.TheVariants.{Blank, Ill, Number}
 use Rattle.field.proofs.Bits.{abs_mag}
 use Rattle.field.proofs.Small.{small}
 use Rattle.field.proofs.Width.{few-plain}
+use Rattle.std.specs.Prelude.{Option, Some, None, is_none as no_kind, unwrap_or}
 use Rattle.line.specs.declared.Head.{Head}
+use Rattle.line.specs.declared.Kind.{Kind}
+use Rattle.line.specs.declared.Kind.TheVariants.{Leaf, Max, Min, Chance}
+use Rattle.line.specs.declared.Step.{Step}
 use Rattle.line.specs.declared.Line.{Line}
 use Rattle.line.specs.declared.Heading.{Heading}
 use Rattle.line.specs.declared.Entry.{Entry}
 use Rattle.line.specs.Refusal.{fine}
-use Rattle.line.specs.Line.{is_ill, is_blank, has_number, outside, value_of, to_nat, count_of, bad_second, larger, heading_of, head_of, header_checks, header, entry_of, letter_code, Step, Above, ancestors, is_wrong, steps_of, at_chance, stepped, line_checks, placed, Placed, node_line}
+use Rattle.line.specs.Line.{is_ill, is_blank, has_number, outside, value_of, to_nat, count_of, bad_second, larger, heading_of, head_of, header_checks, header, entry_of, letter, kind_from, kind_said, is_leaf, Above, ancestors, is_wrong, steps_of, at_chance, stepped, line_checks, placed, Placed, node_line}
 use Rattle.line.specs.Inside.{Ranged}
 use Rattle.line.proofs.Signs.{true-ne-false}
 use Rattle.line.proofs.Checks.{or_left, or_right}
 use Rattle.line.proofs.Fine.{unless-fine, nor9, nor10, Valued, line_read, valued-small}
-use Rattle.writing.specs.Text.{columns, blank, newline, header_text, letter_of, line_text}
+use Rattle.writing.specs.Text.{columns, blank, newline, header_text, line_text}
 use Rattle.writing.specs.Inside.{shown, entry_text, entry_for, Short}
 use Rattle.writing.proofs.Lines.{heading_text, Written, HeadWritten}
 
@@ -65,7 +69,7 @@ line-text l =
     simp (
       shown-either 5 (eqb l.node 0) Blank (Number (pos l.parent)),
       shown-either 5 (eqb l.weight 0) Blank (Number (pos l.weight)),
-      shown-either 8 (eqb l.kind 0) (Number l.utility) Blank,
+      shown-either 8 (is_leaf l.kind) (Number l.utility) Blank,
     )
 
 -- ---- one field
@@ -118,12 +122,15 @@ natural-field T Ill i b o = absurd (true-ne-false i)
 natural-field T (Number (pos n)) i b o = refl
 natural-field T (Number (negsuc n)) i b o = absurd (true-ne-false o)
 
--- the letter of a kind's number
-letter-back : (b : ℕ) → eqb (letter_code b) 4 ≡ false → b ≡ letter_of (letter_code b)
+-- a kind's letter
+abbrev found : (s t u v : Bool) → Option Kind
+found s t u v = cond s (Some Leaf) (cond t (Some Max) (cond u (Some Min) (cond v (Some Chance) None)))
+
+letter-back : (b : ℕ) → no_kind (kind_from b) ≡ false → b ≡ letter (unwrap_or (kind_from b) Leaf)
 letter-back b e = go (eqb b 76) (eqb b 77) (eqb b 78) (eqb b 67) refl refl refl refl e
   where
     go : (s t u v : Bool) → eqb b 76 ≡ s → eqb b 77 ≡ t → eqb b 78 ≡ u → eqb b 67 ≡ v
-        → eqb (cond s 0 (cond t 1 (cond u 2 (cond v 3 4)))) 4 ≡ false → b ≡ letter_of (cond s 0 (cond t 1 (cond u 2 (cond v 3 4))))
+        → no_kind (found s t u v) ≡ false → b ≡ letter (unwrap_or (found s t u v) Leaf)
     go true t u v x y z w e = eqb-true b 76 x
     go false true u v x y z w e = eqb-true b 77 y
     go false false true v x y z w e = eqb-true b 78 z
@@ -135,7 +142,6 @@ letter-back b e = go (eqb b 76) (eqb b 77) (eqb b 78) (eqb b 67) refl refl refl 
 pub record Said (s : List ℕ) (l : Line) : Type 0 where
   pub entry : entry_of s ≡ entry_for l
   pub written : Written s
-  pub kind : l.kind < 4
   pub short : Short l
 
 nat-abs : (z : ℤ) → to_nat z ≤ nat_abs z
@@ -157,19 +163,19 @@ pub line-said : (h : Head) (i : ℕ) (P : List Step) (s : List ℕ) (p : Placed)
     → node_line h i P s ≡ fine p → Said s p.line
 line-said h i P s p ranged long root eq =
     let e : Entry = entry_of s in
-    let k : ℕ = letter_code e.letter in
+    let k : Kind = kind_said e in
     let a : Above = ancestors e.parent P in
     let R = line_read h i e (get_or s 4 0) (get_or s 24 0) P p eq in
     let r = unless-fine (line_checks h i e (get_or s 4 0) (get_or s 24 0) a) (placed i k e (stepped i k (steps_of a))) p eq in
     let c = r.0 in
     let w = nor9 false (not (eqb (get_or s 24 0) 10)) (is_ill e.number) (is_ill e.parent) (is_ill e.weight) (is_ill e.utility) (not (eqb (get_or s 4 0) 32)) (is_blank e.number) (eqb e.letter 32) c.0 in
-    let m = or_right (cond (at_chance (steps_of a)) (is_blank e.weight) (not (is_blank e.weight))) (cond (eqb k 0) (is_blank e.utility) (not (is_blank e.utility))) c.1.1.1.1.1.0 in
+    let m = or_right (cond (at_chance (steps_of a)) (is_blank e.weight) (not (is_blank e.weight))) (cond (is_leaf k) (is_blank e.utility) (not (is_blank e.utility))) c.1.1.1.1.1.0 in
     let o = or_left (outside (pos 1) (pos (larger h)) e.weight) (outside h.lowest h.highest e.utility) c.1.1.1.1.1.1.0 in
     let number : e.number ≡ Number (pos i) = number-field i e.number (not-false (has_number i e.number) c.1.0) in
-    let letter : e.letter ≡ letter_of k = letter-back e.letter c.1.1.0 in
+    let letter : e.letter ≡ letter k = letter-back e.letter c.1.1.0 in
     let parent : e.parent ≡ cond (eqb i 0) Blank (Number (pos (count_of e.parent))) = parent-field i P e.parent root c.1.1.1.0 in
     let weight : e.weight ≡ cond (eqb (count_of e.weight) 0) Blank (Number (pos (count_of e.weight))) = weight-field (larger h) e.weight w.4 o in
-    let utility : e.utility ≡ cond (eqb k 0) (Number (value_of e.utility)) Blank = utility-field (eqb k 0) e.utility w.5 m in
+    let utility : e.utility ≡ cond (is_leaf k) (Number (value_of e.utility)) Blank = utility-field (is_leaf k) e.utility w.5 m in
     let said : e ≡ entry_for (placed i k e (stepped i k (steps_of a))).line =
     λ j. record { number = number j; letter = letter j; parent = parent j; weight = weight j; utility = utility j } in
     record {
@@ -183,12 +189,11 @@ line-said h i P s p ranged long root eq =
         utility = w.5;
         last = eqb-true (get_or s 24 0) 10 (not-false (eqb (get_or s 24 0) 10) w.1);
       };
-      kind = R.kind;
       short = subst (λ (x : Placed). Short x.line) r.1 (record {
         node = small s 0 4 (pos i) number;
         parent = count_small s 6 5 (lit< tt);
         weight = count_small s 11 5 (lit< tt);
-        utility = subst (λ (x : Placed). nat_abs x.line.utility < 10 ^ 7) (sym r.1) (utility-short h (eqb p.line.kind 0) p.line.utility ranged R.utility);
+        utility = subst (λ (x : Placed). nat_abs x.line.utility < 10 ^ 7) (sym r.1) (utility-short h (is_leaf p.line.kind) p.line.utility ranged R.utility);
       });
     }
 

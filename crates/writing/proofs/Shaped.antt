@@ -1,4 +1,4 @@
--- What has the shape of a forest that keeps the rules keeps them too. Assumes nothing.
+-- What has the shape of a forest that keeps the rules keeps them too.
 use Prim.Native.Nat.{ℕ, suc, ◌+◌}
 use mathlib.Core.Path.{◌≡◌, refl, sym, ap, ap₂, ◌∙◌}
 use mathlib.Core.Bool.{Bool, false}

@@ -1,4 +1,4 @@
--- A header and a node line, stored part by part. Assumes nothing.
+-- A header and a node line, stored part by part.
 use Prim.Native.Nat.{ℕ, ◌+◌, ◌^◌, ◌≤◌, ◌<◌}
 use mathlib.Core.Path.{◌≡◌, refl, sym, ap₂, ◌∙◌}
 use mathlib.Core.Bool.{Bool, true, false, cond}

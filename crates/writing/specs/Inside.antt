@@ -5,7 +5,8 @@ use Rattle.field.specs.declared.Field.{Field}
 use Rattle.field.specs.declared.Field.TheVariants.{Blank, Ill, Number}
 use Rattle.line.specs.declared.Entry.{Entry}
 use Rattle.line.specs.declared.Line.{Line}
-use Rattle.writing.specs.Text.{columns, blank, newline, letter_of}
+use Rattle.line.specs.Line.{letter, is_leaf}
+use Rattle.writing.specs.Text.{columns, blank, newline}
 
 -- ---- a field in its columns
 
@@ -38,10 +39,10 @@ abbrev pub entry_for : Line → Entry
 entry_for l =
     record {
       number = Number (pos l.node);
-      letter = letter_of l.kind;
+      letter = letter l.kind;
       parent = cond (eqb l.node 0) Blank (Number (pos l.parent));
       weight = cond (eqb l.weight 0) Blank (Number (pos l.weight));
-      utility = cond (eqb l.kind 0) (Number l.utility) Blank;
+      utility = cond (is_leaf l.kind) (Number l.utility) Blank;
     }
 
 -- its numbers have room there

@@ -3,6 +3,7 @@ use Rattle.std.specs.Prelude.{ℕ, cond, List, [], ◌∷◌, ◌++◌, length, 
 use Rattle.field.specs.Field.{text_of, justified}
 use Rattle.line.specs.declared.Head.{Head}
 use Rattle.line.specs.declared.Line.{Line}
+use Rattle.line.specs.Line.{letter, is_leaf}
 use Rattle.table.specs.Table.{Table}
 
 -- "A number stands right-justified in its columns, blanks before it"
@@ -24,10 +25,6 @@ totals_text h = cond (eqb h.second 0) (columns 4 (pos h.total)) (columns 2 (pos 
 abbrev pub header_text : Head → ℕ → List ℕ
 header_text h n = columns 4 (pos n) ++ (totals_text h ++ (columns 8 h.lowest ++ (columns 8 h.highest ++ newline)))
 
--- "Kinds: M (MAX), N (MIN), C (chance), L (leaf)", from the numbers that stand for them
-abbrev pub letter_of : ℕ → ℕ
-letter_of k = cond (eqb k 0) 76 (cond (eqb k 1) 77 (cond (eqb k 2) 78 67))
-
 -- "Only node 0, the root, has a blank parent."
 abbrev pub parent_text : Line → List ℕ
 parent_text l = cond (eqb l.node 0) (blank 5) (columns 5 (pos l.parent))
@@ -38,11 +35,11 @@ weight_text l = cond (eqb l.weight 0) (blank 5) (columns 5 (pos l.weight))
 
 -- "a utility exactly on an L"
 abbrev pub utility_text : Line → List ℕ
-utility_text l = cond (eqb l.kind 0) (columns 8 l.utility) (blank 8)
+utility_text l = cond (is_leaf l.kind) (columns 8 l.utility) (blank 8)
 
 -- "1-4 node number, 5 blank, 6 kind, 7-11 parent, 12-16 weight, 17-24 utility"
 abbrev pub line_text : Line → List ℕ
-line_text l = columns 4 (pos l.node) ++ (32 ∷ letter_of l.kind ∷ (parent_text l ++ (weight_text l ++ (utility_text l ++ newline))))
+line_text l = columns 4 (pos l.node) ++ (32 ∷ letter l.kind ∷ (parent_text l ++ (weight_text l ++ (utility_text l ++ newline))))
 
 unfoldable pub lines_text : List Line → List ℕ
 lines_text [] = []

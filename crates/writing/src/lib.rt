@@ -4,21 +4,19 @@
 ghost use Rattle.std.specs.Prelude.{◌≡◌, cond, ◌+◌, ◌≤◌, length, replicate};
 ghost use Rattle.std.proofs.lemmas.List.Edits.{sets};
 ghost use Rattle.line.specs.Inside.{Ranged};
-ghost use Rattle.writing.specs.Text.{totals_text, header_text, letter_of, line_text};
+ghost use Rattle.writing.specs.Text.{totals_text, header_text, line_text};
 ghost use Rattle.writing.specs.Inside.{shown, Fits, entry_text, Roomy, entry_for, Short};
 
 use field::Field;
-use line::{Entry, Head, Line};
+use line::{Entry, Head, Kind, Line};
 
 // Blanks in the `width` columns from the byte `at` on.
 fn clear(buffer: &mut [u8], at: usize, width: usize)
     requires { at + width ≤ length buffer.old }
     ensures { buffer.new ≡ sets buffer.old at (replicate width 32) }
 {
-    let mut i = 0;
-    while i < width {
+    for i in 0..width {
         buffer[at + i] = b' ';
-        i += 1;
     }
 }
 
@@ -78,22 +76,6 @@ pub fn put_entry(buffer: &mut [u8], at: usize, e: Entry)
     buffer[last] = b'\n';
 }
 
-// The letter of a kind's number.
-fn letter_of(kind: u8) -> u8
-    ensures { result ≡ letter_of kind }
-{
-    if kind == 0 {
-        return b'L';
-    }
-    if kind == 1 {
-        return b'M';
-    }
-    if kind == 2 {
-        return b'N';
-    }
-    b'C'
-}
-
 // A number's field, or a blank one.
 fn field_for(empty: bool, z: i64) -> Field
     ensures { result ≡ cond empty Field.Blank (Field.Number z) }
@@ -111,14 +93,13 @@ fn entry_for(l: Line) -> Entry
 {
     let parent = field_for(l.node == 0, l.parent as i64);
     let weight = field_for(l.weight == 0, l.weight as i64);
-    let utility = field_for(l.kind != 0, l.utility);
-    let letter = letter_of(l.kind);
+    let utility = field_for(l.kind != Kind::Leaf, l.utility);
     Entry {
         number: Field::Number(l.node as i64),
-        letter: letter,
-        parent: parent,
-        weight: weight,
-        utility: utility,
+        letter: l.kind.letter(),
+        parent,
+        weight,
+        utility,
     }
 }
 

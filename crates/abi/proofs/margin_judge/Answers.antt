@@ -1,10 +1,12 @@
 -- `abi::margin_judge` meets its contract.
+use Rattle.std.proofs.Common.{Result, Option}
+use Rattle.judge.specs.declared.Decision.{Decision}
+use Rattle.line.specs.declared.Refusal.{Refusal}
 use mathlib.Core.Path.{◌≡◌, sym, ap, subst, ◌∙◌}
 use borrow.Author.Rules.{rules}
 use mir.Syntax.{w64}
 use mir.Val.{to_z, of_z}
 use Rattle.table.specs.Table.{read_text}
-use Rattle.judge.specs.declared.Opinion.{Opinion}
 use Rattle.judge.specs.Call.{judge_call}
 use Rattle.codes.specs.Numbers.{judge_code, judge_numbers, put}
 use Rattle.codes.specs.Inside.{SmallOpinion}
@@ -28,4 +30,4 @@ put_opinion-requires c =
 
 pub returns : goal.returns
 returns c =
-    record { code = c.put_opinion.ensures.code ∙ ap judge_code (said (goal.at.returns c).After-judge_play); numbers = c.put_opinion.ensures.numbers ∙ ap (λ (x : Opinion). put 0 (judge_numbers x) (start_of (goal.at.returns c).After-judge_play).args.numbers.now) (said (goal.at.returns c).After-judge_play) }
+    record { code = c.put_opinion.ensures.code ∙ ap judge_code (said (goal.at.returns c).After-judge_play); numbers = c.put_opinion.ensures.numbers ∙ ap (λ (x : Result (Option Decision) Refusal). put 0 (judge_numbers x) (start_of (goal.at.returns c).After-judge_play).args.numbers.now) (said (goal.at.returns c).After-judge_play) }

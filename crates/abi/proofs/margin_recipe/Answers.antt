@@ -1,4 +1,6 @@
 -- `abi::margin_recipe` meets its contract.
+use Rattle.std.proofs.Common.{Result}
+use Rattle.line.specs.declared.Refusal.{Refusal}
 use Prim.Native.Nat.{ℕ}
 use mathlib.Core.Path.{◌≡◌, sym, ap, subst, ◌∙◌}
 use mathlib.Core.List.{List}
@@ -8,7 +10,6 @@ use lib.IntN.{ℤ}
 use mir.Syntax.{w64}
 use mir.Val.{to_z, of_z}
 use Rattle.table.specs.Slices.{laid}
-use Rattle.recipe_call.specs.declared.Made.{Made}
 use Rattle.recipe_call.specs.Call.{recipe_call, recipe_bytes}
 use Rattle.codes.specs.Numbers.{recipe_code, recipe_numbers, put}
 use Rattle.codes.specs.Inside.{SmallMade}
@@ -17,10 +18,10 @@ use Rattle.abi.proofs.margin_recipe.Goals as goal
 use Rattle.abi.proofs.margin_recipe.Goals.{After-write_recipe, Start}
 
 -- what is answered, and what is then in a buffer that held d
-abbrev Told : ℤ → ℤ → ℤ → ℤ → List ℕ → Made → List ℕ → Type 0
+abbrev Told : ℤ → ℤ → ℤ → ℤ → List ℕ → Result ℕ Refusal → List ℕ → Type 0
 Told seed branching depth dice d m e = (m ≡ recipe_call seed branching depth dice (length d)) × (e ≡ laid (recipe_bytes seed branching depth dice (length d)) d)
 
-told_same : (s s2 b b2 p p2 k k2 : ℤ) (d : List ℕ) (m : Made) (e : List ℕ) → s ≡ s2 → b ≡ b2 → p ≡ p2 → k ≡ k2 → Told s b p k d m e → Told s2 b2 p2 k2 d m e
+told_same : (s s2 b b2 p p2 k k2 : ℤ) (d : List ℕ) (m : Result ℕ Refusal) (e : List ℕ) → s ≡ s2 → b ≡ b2 → p ≡ p2 → k ≡ k2 → Told s b p k d m e → Told s2 b2 p2 k2 d m e
 told_same s s2 b b2 p p2 k k2 d m e f g h i t = rw (← f, ← g, ← h, ← i) t
 
 -- the numbers are handed on as bits
@@ -52,4 +53,4 @@ pub returns : goal.returns
 returns c =
     let P = c.put_made.ensures in
     let e = (told (goal.at.returns c).After-write_recipe).0 in
-    record { code = P.code ∙ ap recipe_code e; writes = (told (goal.at.returns c).After-write_recipe).1; numbers = P.numbers ∙ ap (λ (x : Made). put 0 (recipe_numbers x) c.args.numbers.now) e }
+    record { code = P.code ∙ ap recipe_code e; writes = (told (goal.at.returns c).After-write_recipe).1; numbers = P.numbers ∙ ap (λ (x : Result ℕ Refusal). put 0 (recipe_numbers x) c.args.numbers.now) e }

@@ -1,4 +1,7 @@
 -- `abi::margin_search_indexed` meets its contract.
+use Rattle.std.proofs.Common.{Result}
+use Rattle.search_call.specs.declared.Bounds.{Bounds}
+use Rattle.line.specs.declared.Refusal.{Refusal}
 use Prim.Native.Nat.{ℕ}
 use mathlib.Core.Path.{◌≡◌, sym, ap, subst, ◌∙◌}
 use mathlib.Core.List.{List}
@@ -9,7 +12,6 @@ use mir.Val.{to_z, of_z}
 use mir.ValLaws.{to_z-of_z}
 use Rattle.table.specs.Slices.{laid}
 use Rattle.table.specs.Table.{read_text}
-use Rattle.search_call.specs.declared.Bounded.{Bounded}
 use Rattle.index_call.specs.Call.{indexed_call, indexed_reads}
 use Rattle.codes.specs.Numbers.{search_code, search_numbers, put}
 use Rattle.codes.specs.Inside.{SmallBounded}
@@ -46,4 +48,4 @@ put_bounded-requires c =
 
 pub returns : goal.returns
 returns c =
-    record { code = c.put_bounded.ensures.code ∙ ap search_code (said (goal.at.returns c).After-search_indexed); numbers = c.put_bounded.ensures.numbers ∙ ap (λ (x : Bounded). put 0 (search_numbers x) (start_of (goal.at.returns c).After-search_indexed).args.numbers.now) (said (goal.at.returns c).After-search_indexed); lists = c.search_indexed.ensures.lists ∙ ap (λ (m : ℤ). laid (indexed_reads (read_text (text_of (goal.at.returns c).After-search_indexed)) m (lows-of (goal.at.returns c).After-search_indexed) (highs-of (goal.at.returns c).After-search_indexed) (length (list_of (goal.at.returns c).After-search_indexed))) (list_of (goal.at.returns c).After-search_indexed)) (back (start_of (goal.at.returns c).After-search_indexed)) }
+    record { code = c.put_bounded.ensures.code ∙ ap search_code (said (goal.at.returns c).After-search_indexed); numbers = c.put_bounded.ensures.numbers ∙ ap (λ (x : Result Bounds Refusal). put 0 (search_numbers x) (start_of (goal.at.returns c).After-search_indexed).args.numbers.now) (said (goal.at.returns c).After-search_indexed); lists = c.search_indexed.ensures.lists ∙ ap (λ (m : ℤ). laid (indexed_reads (read_text (text_of (goal.at.returns c).After-search_indexed)) m (lows-of (goal.at.returns c).After-search_indexed) (highs-of (goal.at.returns c).After-search_indexed) (length (list_of (goal.at.returns c).After-search_indexed))) (list_of (goal.at.returns c).After-search_indexed)) (back (start_of (goal.at.returns c).After-search_indexed)) }

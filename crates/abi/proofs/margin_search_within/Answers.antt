@@ -1,4 +1,7 @@
 -- `abi::margin_search_within` meets its contract.
+use Rattle.std.proofs.Common.{Result}
+use Rattle.search_call.specs.declared.Bounds.{Bounds}
+use Rattle.line.specs.declared.Refusal.{Refusal}
 use mathlib.Core.Path.{◌≡◌, sym, ap, ap₂, subst, ◌∙◌}
 use mathlib.Core.List.{List}
 use Prim.Native.Nat.{ℕ}
@@ -9,7 +12,6 @@ use mir.Val.{to_z, of_z}
 use mir.ValLaws.{to_z-of_z}
 use Rattle.table.specs.Slices.{laid}
 use Rattle.table.specs.Table.{read_text}
-use Rattle.search_call.specs.declared.Bounded.{Bounded}
 use Rattle.search_call.specs.Call.{within_call, within_reads}
 use Rattle.codes.specs.Numbers.{search_code, search_numbers, put}
 use Rattle.codes.specs.Inside.{SmallBounded}
@@ -42,4 +44,4 @@ put_bounded-requires c =
 
 pub returns : goal.returns
 returns c =
-    record { code = c.put_bounded.ensures.code ∙ ap search_code (said (goal.at.returns c).After-search_within); numbers = c.put_bounded.ensures.numbers ∙ ap (λ (x : Bounded). put 0 (search_numbers x) (start_of (goal.at.returns c).After-search_within).args.numbers.now) (said (goal.at.returns c).After-search_within); lists = c.search_within.ensures.lists ∙ ap₂ (λ (m b : ℤ). laid (within_reads (read_text (text_of (goal.at.returns c).After-search_within)) m b (length (list_of (goal.at.returns c).After-search_within))) (list_of (goal.at.returns c).After-search_within)) (back (start_of (goal.at.returns c).After-search_within)) (budget-back (start_of (goal.at.returns c).After-search_within)) }
+    record { code = c.put_bounded.ensures.code ∙ ap search_code (said (goal.at.returns c).After-search_within); numbers = c.put_bounded.ensures.numbers ∙ ap (λ (x : Result Bounds Refusal). put 0 (search_numbers x) (start_of (goal.at.returns c).After-search_within).args.numbers.now) (said (goal.at.returns c).After-search_within); lists = c.search_within.ensures.lists ∙ ap₂ (λ (m b : ℤ). laid (within_reads (read_text (text_of (goal.at.returns c).After-search_within)) m b (length (list_of (goal.at.returns c).After-search_within))) (list_of (goal.at.returns c).After-search_within)) (back (start_of (goal.at.returns c).After-search_within)) (budget-back (start_of (goal.at.returns c).After-search_within)) }

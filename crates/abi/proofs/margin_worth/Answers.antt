@@ -1,6 +1,8 @@
 -- `abi::margin_worth` meets its contract.
-use mathlib.Core.Path.{sym, ap, subst, ◌∙◌}
+use Rattle.std.proofs.Common.{Result}
 use Rattle.worth.specs.declared.Exact.{Exact}
+use Rattle.line.specs.declared.Refusal.{Refusal}
+use mathlib.Core.Path.{sym, ap, subst, ◌∙◌}
 use Rattle.codes.specs.Numbers.{worth_code, worth_numbers, put}
 use Rattle.codes.specs.Inside.{SmallExact}
 use Rattle.abi.proofs.Answers.{exact-small}
@@ -13,4 +15,4 @@ put_exact-requires c =
 pub returns : goal.returns
 returns c =
     let e = c.exact_worth.ensures in
-    record { code = c.put_exact.ensures.code ∙ ap worth_code e; numbers = c.put_exact.ensures.numbers ∙ ap (λ (x : Exact). put 0 (worth_numbers x) c.args.numbers.now) e }
+    record { code = c.put_exact.ensures.code ∙ ap worth_code e; numbers = c.put_exact.ensures.numbers ∙ ap (λ (x : Result Exact Refusal). put 0 (worth_numbers x) c.args.numbers.now) e }

@@ -1,37 +1,43 @@
--- `field::read_columns` meets its contract: each return by the tests that led to it.
-use mathlib.Core.Path.{◌≡◌, sym, ◌∙◌}
-use Rattle.field.specs.Field.{signed, strip}
-use Rattle.field.specs.declared.Field.TheVariants.{Ill}
-use Rattle.field.proofs.Reader.{blank-by, none-by, cut-ready, cut-read}
+-- Each return by what stands before the digits.
+use Prim.Native.Nat.{◌<◌, ◌^◌}
+use mathlib.Core.Path.{sym, ◌∙◌}
+use native.Mathlib.Omega.{arith}
+use lib.ListN.{length-drop}
+use Rattle.field.proofs.Small.{digits_small}
+use Rattle.field.proofs.Reader.{all-blank, not-blank, bare, clear, not-clear}
 use Rattle.field.proofs.read_columns.Goals as goal
-use Rattle.field.proofs.read_columns.Goals.{After-before-then-is_clear, After-read_after-arg-1, After-start-k, Then-is_clear}
+use Rattle.field.proofs.read_columns.Goals.{After-last_number-start}
 
-pub returns-then-blanks-k : goal.returns-then-blanks-k
-returns-then-blanks-k c =
-    blank-by c.args.t.now c.start-k.result c.blanks.result c.if-k-t.true c.blanks.ensures
-    c.if-blanks-k.true
+small : (c : After-last_number-start) → c.last_number-start.result.1 < 10 ^ 18
+small c = digits_small _ _ c.last_number-start.ensures.number (omega (arith, length-drop c.last_number-start.result.0 c.args.t.now))
 
-pub returns-then-k-t : goal.returns-then-k-t
-returns-then-k-t c =
-    none-by c.args.t.now c.start-k.result c.blanks.result c.if-k-t.true c.blanks.ensures
-    c.start-k.ensures.1 c.if-blanks-k.false
+pub returns-then-are_blank : goal.returns-then-are_blank
+returns-then-are_blank c =
+    let l = c.last_number-start.ensures in
+    all-blank _ _ l.within l.stops c.if-start-t.true (sym c.are_blank.ensures ∙ c.if-are_blank.true)
 
-pub read_after-requires : goal.read_after-requires
-read_after-requires c =
-    let b = (goal.at.read_after-requires c).After-before-then-is_clear in
-    let e = (goal.at.read_after-requires c).Then-is_clear in
-    let k = (goal.at.read_after-requires c).After-start-k in
-    cut-ready c.args.t.now k.start-k.result b.before-then-is_clear.result b.before-then-is_clear.ensures e.if-k-t.false c.requires k.start-k.ensures
+pub returns-else-are_blank : goal.returns-else-are_blank
+returns-else-are_blank c =
+    let l = c.last_number-start.ensures in
+    not-blank _ _ l.within l.stops c.if-start-t.true (sym c.are_blank.ensures ∙ c.if-are_blank.false)
 
-pub returns-then-is_clear : goal.returns-then-is_clear
-returns-then-is_clear c =
-    let b = (goal.at.returns-then-is_clear c).After-read_after-arg-1 in
-    let i = (goal.at.returns-then-is_clear c).Then-is_clear in
-    c.read_after.ensures
-    ∙ cut-read c.args.t.now c.start-k.result b.before-then-is_clear.result b.before-then-is_clear.ensures i.is_clear.result c.start-k.ensures.0
-    i.is_clear.ensures b.if-is_clear.true
+pub number_after-requires : goal.number_after-requires
+number_after-requires c = small (goal.at.number_after-requires c).After-last_number-start
 
-pub returns-else-is_clear : goal.returns-else-is_clear
-returns-else-is_clear c =
-    let ill : signed (strip c.args.t.now) ≡ Ill = rw c.if-is_clear.false at c.is_clear.ensures in
-    sym ill
+pub number_after-requires-in-Some : goal.number_after-requires-in-Some
+number_after-requires-in-Some c = small (goal.at.number_after-requires-in-Some c).After-last_number-start
+
+pub returns-in-None : goal.returns-in-None
+returns-in-None c =
+    let l = c.last_number-start.ensures in
+    c.number_after.ensures ∙ bare _ _ l.within l.stops _ l.number c.if-start-t.false c.in-None.ensures.cases
+
+pub returns-in-Some : goal.returns-in-Some
+returns-in-Some c =
+    let l = c.last_number-start.ensures in
+    c.number_after-in-Some.ensures ∙ clear _ _ l.within l.stops _ l.number c.if-start-t.false _ _ c.in-Some.ensures.cases (sym c.if-are_blank-2.ensures)
+
+pub returns-in-Some-2 : goal.returns-in-Some-2
+returns-in-Some-2 c =
+    let l = c.last_number-start.ensures in
+    not-clear _ _ l.within l.stops _ l.number c.if-start-t.false _ _ c.in-Some.ensures.cases (sym c.if-are_blank-2.ensures)

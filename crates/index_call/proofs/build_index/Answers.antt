@@ -1,7 +1,8 @@
 -- `index_call::build_index` meets its contract.
+use Rattle.std.proofs.lemmas.Result.{err_from_is_err_and}
+use Rattle.std.proofs.Common.{Err}
 use Prim.Native.Nat.{ℕ, ◌≤◌}
 use mathlib.Core.Path.{◌≡◌, sym, ap, subst, ◌∙◌}
-use mathlib.Core.Bool.{true, false}
 use mathlib.Core.List.{List}
 use mathlib.Core.Option.{Option}
 use native.Mathlib.Omega.{arith}
@@ -12,17 +13,18 @@ use Rattle.line.specs.declared.Refusal.TheVariants.{NoRoom}
 use Rattle.line.specs.Refusal.{Verdict, refused}
 use Rattle.line.specs.Line.{to_nat}
 use Rattle.table.specs.declared.Summary.{Summary}
-use Rattle.table.specs.declared.Reading.TheVariants.{Refused}
+use Rattle.table.specs.Nodes.{kinds_in, stops_in, weights_in, heights_in}
 use Rattle.table.specs.Table.{Table, read_text}
 use Rattle.scale.proofs.Taken.{Taken, refused-by, taken-by, spread_at, lowest-back, highest-back}
 use Rattle.index.specs.Index.{written, lows_of, highs_of}
+use Rattle.indexing.specs.declared.Base.TheVariants.{Lowest, Highest}
 use Rattle.indexing.specs.Inside.{OwnEndsOf, entries_of}
 use Rattle.indexing.proofs.Entries.{written-nil}
 use Rattle.index_call.specs.Call.{room_in, indexed, index_answer, index_entries, index_call, index_lows, index_highs}
-use Rattle.index_call.proofs.Own.{slices-long, own-asks, own-small, own-lows, own-highs}
+use Rattle.index_call.proofs.Own.{nodes-long, own-asks, own-small, own-lows, own-highs}
 use Rattle.index_call.proofs.Call.{index_short, index-long, index-built}
 use Rattle.index_call.proofs.build_index.Goals as goal
-use Rattle.index_call.proofs.build_index.Goals.{After-decode, After-own_ends, After-span_of-span, Else-highs-t, In-Accepted, Start}
+use Rattle.index_call.proofs.build_index.Goals.{After-decode, After-own_ends, After-span_of-span, Else-highs-t, In_ok-t, Start}
 
 abbrev start_of : After-decode → Start
 start_of R = (goal.at.After-decode R).Start
@@ -40,20 +42,20 @@ abbrev room_of : After-decode → ℕ
 room_of R = room_in (lows-of R) (highs-of R)
 
 -- the reading refused x
-refused-at : (R : After-decode) (x : Refusal) → R.decode.result ≡ Refused x → read_text (text_of R) ≡ refused x
+refused-at : (R : After-decode) (x : Refusal) → R.decode.result ≡ Err x → read_text (text_of R) ≡ refused x
 refused-at R x e =
-    refused-by (text_of R) R.decode.result x R.decode.new.kind R.decode.new.stop R.decode.new.weight R.decode.new.height R.decode.ensures e
+    refused-by (text_of R) R.decode.result x (kinds_in R.decode.new.nodes) (stops_in R.decode.new.nodes) (weights_in R.decode.new.nodes) (heights_in R.decode.new.nodes) R.decode.ensures e
 
 -- at an accepted table: the reading, the summary, and what is left
-abbrev read_of : In-Accepted → After-decode
-read_of c = (goal.at.In-Accepted c).After-decode
+abbrev read_of : In_ok-t → After-decode
+read_of c = (goal.at.In_ok-t c).After-decode
 
-abbrev summary-of : In-Accepted → Summary
-summary-of c = c.in-Accepted.t
+abbrev summary-of : In_ok-t → Summary
+summary-of c = c.in_ok-t.t
 
-taken : (c : In-Accepted)
-    → Taken (text_of (read_of c)) (summary-of c) (read_of c).decode.new.kind (read_of c).decode.new.stop (read_of c).decode.new.weight (read_of c).decode.new.height
-taken c = taken-by (text_of (read_of c)) (read_of c).decode.ensures c.in-Accepted.is
+taken : (c : In_ok-t)
+    → Taken (text_of (read_of c)) (summary-of c) (kinds_in (read_of c).decode.new.nodes) (stops_in (read_of c).decode.new.nodes) (weights_in (read_of c).decode.new.nodes) (heights_in (read_of c).decode.new.nodes)
+taken c = taken-by (text_of (read_of c)) (read_of c).decode.ensures c.in_ok-t.was
 
 -- a refusal writes nothing
 refusing : (R : After-decode) (x : Refusal) → indexed (read_text (text_of R)) (room_of R) ≡ refused x
@@ -68,16 +70,16 @@ refusing R x e = (
 )
 
 pub returns-then-lows-t : goal.returns-then-lows-t
-returns-then-lows-t c = let all = let R = read_of (goal.at.returns-then-lows-t c).In-Accepted in
-    refusing R NoRoom (index_short (taken (goal.at.returns-then-lows-t c).In-Accepted) (room_of R) (omega (arith, c.if-lows-t.true))) in record { answers = all.0; lows = all.1.0; highs = all.1.1 }
+returns-then-lows-t c = let all = let R = read_of (goal.at.returns-then-lows-t c).In_ok-t in
+    refusing R NoRoom (index_short (taken (goal.at.returns-then-lows-t c).In_ok-t) (room_of R) (omega (arith, c.if-lows-t.true))) in record { answers = all.0; lows = all.1.0; highs = all.1.1 }
 
 -- where the index is built: at an accepted table and lists that are long enough
-abbrev known_of : Else-highs-t → In-Accepted
-known_of E = (goal.at.Else-highs-t E).In-Accepted
+abbrev known_of : Else-highs-t → In_ok-t
+known_of E = (goal.at.Else-highs-t E).In_ok-t
 
 pub returns-then-highs-t : goal.returns-then-highs-t
-returns-then-highs-t c = let all = let R = read_of (goal.at.returns-then-highs-t c).In-Accepted in
-    refusing R NoRoom (index_short (taken (goal.at.returns-then-highs-t c).In-Accepted) (room_of R) (omega (arith, c.if-highs-t.true))) in record { answers = all.0; lows = all.1.0; highs = all.1.1 }
+returns-then-highs-t c = let all = let R = read_of (goal.at.returns-then-highs-t c).In_ok-t in
+    refusing R NoRoom (index_short (taken (goal.at.returns-then-highs-t c).In_ok-t) (room_of R) (omega (arith, c.if-highs-t.true))) in record { answers = all.0; lows = all.1.0; highs = all.1.1 }
 
 pub span_of-span-requires : goal.span_of-span-requires
 span_of-span-requires c = spread_at (taken (known_of c))
@@ -87,10 +89,10 @@ long E = (omega (arith, E.if-lows-t.false), omega (arith, E.if-highs-t.false))
 
 pub own_ends-requires : goal.own_ends-requires
 own_ends-requires c =
-    let G = taken (goal.at.own_ends-requires c).In-Accepted in
+    let G = taken (goal.at.own_ends-requires c).In_ok-t in
     let a = own-asks G in
-    let n = slices-long G in
-    (n.0, n.1, n.2, n.3, n.3, (λ i l. omega (arith, c.span_of-span.ensures.0, a.0 i l)), a.1)
+    let n = nodes-long c.decode.new.nodes G in
+    (n.0, n.1, n.1, n.1, (λ i l. omega (arith, c.span_of-span.ensures.0, a.0 i l)), a.1)
 
 -- what it made
 abbrev spanned : After-own_ends → After-span_of-span
@@ -98,36 +100,34 @@ spanned O = (goal.at.After-own_ends O).After-span_of-span
 
 ended : (O : After-own_ends)
     → let K = known_of (goal.at.After-own_ends O).Else-highs-t in
-    OwnEndsOf (read_of K).decode.new.kind (read_of K).decode.new.stop (read_of K).decode.new.height (summary-of K).nodes (to_nat ((summary-of K).highest -ℤ (summary-of K).lowest)) O.own_ends.new.height O.own_ends.new.drop
+    OwnEndsOf (kinds_in (read_of K).decode.new.nodes) (stops_in (read_of K).decode.new.nodes) (heights_in (read_of K).decode.new.nodes) (summary-of K).nodes (to_nat ((summary-of K).highest -ℤ (summary-of K).lowest)) O.own_ends.new.rise O.own_ends.new.drop
 ended O =
     let K = known_of (goal.at.After-own_ends O).Else-highs-t in
-    subst (λ (m : ℕ). OwnEndsOf (read_of K).decode.new.kind (read_of K).decode.new.stop (read_of K).decode.new.height (summary-of K).nodes m O.own_ends.new.height O.own_ends.new.drop) (spanned O).span_of-span.ensures.0 O.own_ends.ensures.2
+    subst (λ (m : ℕ). OwnEndsOf (kinds_in (read_of K).decode.new.nodes) (stops_in (read_of K).decode.new.nodes) (heights_in (read_of K).decode.new.nodes) (summary-of K).nodes m O.own_ends.new.rise O.own_ends.new.drop) (spanned O).span_of-span.ensures.0 O.own_ends.ensures.2
 
 pub put_ends-requires : goal.put_ends-requires
 put_ends-requires c =
     let E = (goal.at.put_ends-requires c).Else-highs-t in
     let G = taken (known_of E) in
-    let n = slices-long G in
-    (n.0, omega (arith, c.own_ends.ensures.0, n.2), (long E).0, rw (lowest-back G) (spread_at G).lowest, (own-small G (ended (goal.at.put_ends-requires c).After-own_ends)).0)
+    let n = nodes-long c.decode.new.nodes G in
+    (n.0, omega (arith, c.own_ends.ensures.0, n.1), (long E).0, rw (lowest-back G) (spread_at G).lowest, (own-small G (ended (goal.at.put_ends-requires c).After-own_ends)).0)
 
--- the kinds are lent once more
-pub slice_bounds-put_ends-end-in-Accepted-2 : goal.slice_bounds-put_ends-end-in-Accepted-2
-slice_bounds-put_ends-end-in-Accepted-2 c = sym c.decode.auto.kind
-
-pub put_ends-requires-in-Accepted : goal.put_ends-requires-in-Accepted
-put_ends-requires-in-Accepted c =
-    let E = (goal.at.put_ends-requires-in-Accepted c).Else-highs-t in
+pub put_ends-requires-2 : goal.put_ends-requires-2
+put_ends-requires-2 c =
+    let E = (goal.at.put_ends-requires-2 c).Else-highs-t in
     let G = taken (known_of E) in
-    let n = slices-long G in
-    (n.0, omega (arith, c.own_ends.ensures.1, n.3), (long E).1, rw (highest-back G) (spread_at G).highest, (own-small G (ended (goal.at.put_ends-requires-in-Accepted c).After-own_ends)).1)
+    let n = nodes-long c.decode.new.nodes G in
+    (n.0, omega (arith, c.own_ends.ensures.1, n.1), (long E).1, rw (highest-back G) (spread_at G).highest, (own-small G (ended (goal.at.put_ends-requires-2 c).After-own_ends)).1)
 
-pub returns-in-Refused : goal.returns-in-Refused
-returns-in-Refused c = let all = let r = c.in-Refused in
-    refusing (goal.at.returns-in-Refused c).After-decode r.r (ap (λ (v : Verdict Table). indexed v (room_of (goal.at.returns-in-Refused c).After-decode)) (refused-at (goal.at.returns-in-Refused c).After-decode r.r r.is)) in record { answers = all.0; lows = all.1.0; highs = all.1.1 }
+pub returns-in_err-t : goal.returns-in_err-t
+returns-in_err-t c =
+    let r = c.in_err-t in
+    let p = err_from_is_err_and c.from_residual.result c.from_residual.ensures.1 in
+    let all = refusing (goal.at.returns-in_err-t c).After-decode r.field-0.0 (ap (λ (v : Verdict Table). indexed v (room_of (goal.at.returns-in_err-t c).After-decode)) (refused-at (goal.at.returns-in_err-t c).After-decode r.field-0.0 r.was)) in rw (p.1, p.2) record { answers = all.0; lows = all.1.0; highs = all.1.1 }
 
-pub returns-else-highs-t : goal.returns-else-highs-t
-returns-else-highs-t c =
-    let E = (goal.at.returns-else-highs-t c).Else-highs-t in
+pub returns : goal.returns
+returns c =
+    let E = (goal.at.returns c).Else-highs-t in
     let K = known_of E in
     let R = read_of K in
     let G = taken K in
@@ -136,9 +136,9 @@ returns-else-highs-t c =
     let all : indexed (read_text (text_of R)) (room_of R) ≡ read_text (text_of R) = index-long G (room_of R) (omega arith) in record {
       answers = index-built G (room_of R) ∙ ap index_answer (sym all);
       lows = c.put_ends.ensures
-          ∙ ap (λ (z : ℤ). written (entries_of R.decode.new.kind c.own_ends.new.height z true t.nodes) (lows-of R)) (lowest-back G)
-          ∙ ap (λ (l : List (Option ℤ)). written l (lows-of R)) (own-lows G (ended (goal.at.returns-else-highs-t c).After-own_ends) ∙ ap (index_entries lows_of) (sym all));
-      highs = c.put_ends-in-Accepted.ensures
-          ∙ ap (λ (z : ℤ). written (entries_of R.decode.new.kind c.own_ends.new.drop z false t.nodes) (highs-of R)) (highest-back G)
-          ∙ ap (λ (l : List (Option ℤ)). written l (highs-of R)) (own-highs G (ended (goal.at.returns-else-highs-t c).After-own_ends) ∙ ap (index_entries highs_of) (sym all));
+          ∙ ap (λ (z : ℤ). written (entries_of (kinds_in R.decode.new.nodes) c.own_ends.new.rise (Lowest z) t.nodes) (lows-of R)) (lowest-back G)
+          ∙ ap (λ (l : List (Option ℤ)). written l (lows-of R)) (own-lows G (ended (goal.at.returns c).After-own_ends) ∙ ap (index_entries lows_of) (sym all));
+      highs = c.put_ends-2.ensures
+          ∙ ap (λ (z : ℤ). written (entries_of (kinds_in R.decode.new.nodes) c.own_ends.new.drop (Highest z) t.nodes) (highs-of R)) (highest-back G)
+          ∙ ap (λ (l : List (Option ℤ)). written l (highs-of R)) (own-highs G (ended (goal.at.returns c).After-own_ends) ∙ ap (index_entries highs_of) (sym all));
     }

@@ -1,4 +1,6 @@
 -- `index_call::search_indexed` meets its contract.
+use Rattle.std.proofs.lemmas.Result.{err_from_is_err_and}
+use Rattle.std.proofs.Common.{Err, Ok}
 use Prim.Native.Nat.{ℕ, ◌≤◌}
 use mathlib.Core.Path.{◌≡◌, sym, ap, ap₂, subst, ◌∙◌}
 use mathlib.Core.Bool.{Bool, false, ◌&&◌}
@@ -14,21 +16,20 @@ use Rattle.line.specs.declared.Refusal.TheVariants.{NoRoom, BadMargin, BadIndex}
 use Rattle.line.specs.Refusal.{Verdict, refused}
 use Rattle.line.specs.Line.{to_nat}
 use Rattle.table.specs.declared.Summary.{Summary}
-use Rattle.table.specs.declared.Reading.TheVariants.{Refused}
 use Rattle.table.specs.Slices.{laid}
+use Rattle.table.specs.Nodes.{kinds_in, stops_in, weights_in, heights_in}
 use Rattle.table.specs.Table.{Table, read_text}
 use Rattle.scale.specs.Inside.{scale_for}
 use Rattle.scale.proofs.Taken.{Taken, refused-by, taken-by, spread_at}
 use Rattle.index.specs.Index.{agrees, lows_of, highs_of}
 use Rattle.indexing.specs.Inside.{Dropped, OwnEndsOf}
-use Rattle.search_call.specs.declared.Bounded.TheVariants.{Found as Given}
 use Rattle.search_call.specs.Inside.{rule_for, ends_for}
 use Rattle.search_call.specs.Call.{bad_margin, Sought, search_answer, search_list}
 use Rattle.index_call.specs.Call.{index_entries, sought_indexed, indexed_call, indexed_reads}
-use Rattle.index_call.proofs.Own.{slices-long, own-asks, own-small, drops-small, own-lows, own-highs}
+use Rattle.index_call.proofs.Own.{slices-long, nodes-long, own-asks, own-small, drops-small, own-lows, own-highs}
 use Rattle.index_call.proofs.Call.{own-test, own-passed, strange, own_of, bad-index, bad-margin, no_room, search-ready, found-small, given-at, reads_at}
 use Rattle.index_call.proofs.search_indexed.Goals as goal
-use Rattle.index_call.proofs.search_indexed.Goals.{After-decode, After-drops, After-ends_of-v, After-is_beyond, After-is_own, After-own_ends, After-search-f, After-span_of-span, Else-is_beyond, Else-leaves-t, Else-not-is_own, In-Accepted, Start}
+use Rattle.index_call.proofs.search_indexed.Goals.{After-decode, After-drops, After-ends_of-v, After-is_beyond, After-is_own, After-own_ends, After-search-f, After-span_of-span, Else-is_beyond, Else-leaves-t, Else-not-is_own, In_ok-t, Start}
 
 abbrev start_of : After-decode → Start
 start_of R = (goal.at.After-decode R).Start
@@ -49,20 +50,20 @@ abbrev list_of : After-decode → List ℕ
 list_of R = (start_of R).args.leaves.now
 
 -- the reading refused x
-refused-at : (R : After-decode) (x : Refusal) → R.decode.result ≡ Refused x → read_text (text_of R) ≡ refused x
+refused-at : (R : After-decode) (x : Refusal) → R.decode.result ≡ Err x → read_text (text_of R) ≡ refused x
 refused-at R x e =
-    refused-by (text_of R) R.decode.result x R.decode.new.kind R.decode.new.stop R.decode.new.weight R.decode.new.height R.decode.ensures e
+    refused-by (text_of R) R.decode.result x (kinds_in R.decode.new.nodes) (stops_in R.decode.new.nodes) (weights_in R.decode.new.nodes) (heights_in R.decode.new.nodes) R.decode.ensures e
 
 -- at an accepted table: the reading, the summary, and what is left
-abbrev read_of : In-Accepted → After-decode
-read_of c = (goal.at.In-Accepted c).After-decode
+abbrev read_of : In_ok-t → After-decode
+read_of c = (goal.at.In_ok-t c).After-decode
 
-abbrev summary-of : In-Accepted → Summary
-summary-of c = c.in-Accepted.t
+abbrev summary-of : In_ok-t → Summary
+summary-of c = c.in_ok-t.t
 
-taken : (c : In-Accepted)
-    → Taken (text_of (read_of c)) (summary-of c) (read_of c).decode.new.kind (read_of c).decode.new.stop (read_of c).decode.new.weight (read_of c).decode.new.height
-taken c = taken-by (text_of (read_of c)) (read_of c).decode.ensures c.in-Accepted.is
+taken : (c : In_ok-t)
+    → Taken (text_of (read_of c)) (summary-of c) (kinds_in (read_of c).decode.new.nodes) (stops_in (read_of c).decode.new.nodes) (weights_in (read_of c).decode.new.nodes) (heights_in (read_of c).decode.new.nodes)
+taken c = taken-by (text_of (read_of c)) (read_of c).decode.ensures c.in_ok-t.was
 
 -- the refusals, and what is then in the list
 refusing : (R : After-decode) (v : Verdict Sought) → sought_indexed (read_text (text_of R)) (margin-of R) (lows-of R) (highs-of R) (length (list_of R)) ≡ v
@@ -75,31 +76,31 @@ span_of-span-requires c = spread_at (taken c)
 
 pub own_ends-requires : goal.own_ends-requires
 own_ends-requires c =
-    let G = taken (goal.at.own_ends-requires c).In-Accepted in
+    let G = taken (goal.at.own_ends-requires c).In_ok-t in
     let a = own-asks G in
-    let n = slices-long G in
-    (n.0, n.1, n.2, n.3, n.3, (λ i l. omega (arith, c.span_of-span.ensures.0, a.0 i l)), a.1)
+    let n = nodes-long c.decode.new.nodes G in
+    (n.0, n.1, n.1, n.1, (λ i l. omega (arith, c.span_of-span.ensures.0, a.0 i l)), a.1)
 
 -- the ends that were made, of the table
 abbrev spanned : After-own_ends → After-span_of-span
 spanned O = (goal.at.After-own_ends O).After-span_of-span
 
-abbrev known_of : After-own_ends → In-Accepted
-known_of O = (goal.at.After-own_ends O).In-Accepted
+abbrev known_of : After-own_ends → In_ok-t
+known_of O = (goal.at.After-own_ends O).In_ok-t
 
 ended : (O : After-own_ends)
     → let K = known_of O in
-    OwnEndsOf (read_of K).decode.new.kind (read_of K).decode.new.stop (read_of K).decode.new.height (summary-of K).nodes (to_nat ((summary-of K).highest -ℤ (summary-of K).lowest)) O.own_ends.new.height O.own_ends.new.drop
+    OwnEndsOf (kinds_in (read_of K).decode.new.nodes) (stops_in (read_of K).decode.new.nodes) (heights_in (read_of K).decode.new.nodes) (summary-of K).nodes (to_nat ((summary-of K).highest -ℤ (summary-of K).lowest)) O.own_ends.new.rise O.own_ends.new.drop
 ended O =
     let K = known_of O in
-    subst (λ (m : ℕ). OwnEndsOf (read_of K).decode.new.kind (read_of K).decode.new.stop (read_of K).decode.new.height (summary-of K).nodes m O.own_ends.new.height O.own_ends.new.drop) (spanned O).span_of-span.ensures.0 O.own_ends.ensures.2
+    subst (λ (m : ℕ). OwnEndsOf (kinds_in (read_of K).decode.new.nodes) (stops_in (read_of K).decode.new.nodes) (heights_in (read_of K).decode.new.nodes) (summary-of K).nodes m O.own_ends.new.rise O.own_ends.new.drop) (spanned O).span_of-span.ensures.0 O.own_ends.ensures.2
 
 pub is_own-requires : goal.is_own-requires
 is_own-requires c =
     let G = taken (known_of (goal.at.is_own-requires c).After-own_ends) in
-    let n = slices-long G in
+    let n = nodes-long c.decode.new.nodes G in
     let s = own-small G (ended (goal.at.is_own-requires c).After-own_ends) in
-    (n.0, omega (arith, c.own_ends.ensures.0, n.2), omega (arith, c.own_ends.ensures.1, n.3), spread_at G, s.0, s.1)
+    (n.0, omega (arith, c.own_ends.ensures.0, n.1), omega (arith, c.own_ends.ensures.1, n.1), spread_at G, s.0, s.1)
 
 -- ---- the three tests
 abbrev made_of : After-is_own → After-own_ends
@@ -188,8 +189,8 @@ dropped L =
     let t = summary-of (known_of O) in
     subst (λ (m : ℕ). Dropped m O.own_ends.new.drop (dropped-of L).drops.new.drop t.nodes) (spanned O).span_of-span.ensures.0 (dropped-of L).drops.ensures.1
 
-long-heights : (O : After-own_ends) → length O.own_ends.new.height ≡ 1024
-long-heights O = O.own_ends.ensures.0 ∙ (read_of (known_of O)).decode.auto.height
+long-heights : (O : After-own_ends) → length O.own_ends.new.rise ≡ 1024
+long-heights O = O.own_ends.ensures.0
 
 rule-is : (L : After-ends_of-v) → L.rule_of-g.result ≡ rule_for (scale_for (summary-of (known_of (lent_of L)))) (margin-of (read_of (known_of (lent_of L))))
 rule-is L =
@@ -199,23 +200,10 @@ rule-is L =
 ends-are : (L : After-ends_of-v) → L.ends_of-v.result ≡ ends_for (scale_for (summary-of (known_of (lent_of L))))
 ends-are L = L.ends_of-v.ensures ∙ ap ends_for L.scale_of-s.ensures
 
--- the slices are lent once more
-pub slice_bounds-search-end : goal.slice_bounds-search-end
-slice_bounds-search-end c = sym (read_of (known_of (goal.at.slice_bounds-search-end c).After-own_ends)).decode.auto.kind
-
-pub slice_bounds-search-end-in-Accepted : goal.slice_bounds-search-end-in-Accepted
-slice_bounds-search-end-in-Accepted c = sym (read_of (known_of (goal.at.slice_bounds-search-end-in-Accepted c).After-own_ends)).decode.auto.stop
-
-pub slice_bounds-search-end-in-Accepted-2 : goal.slice_bounds-search-end-in-Accepted-2
-slice_bounds-search-end-in-Accepted-2 c = sym (read_of (known_of (goal.at.slice_bounds-search-end-in-Accepted-2 c).After-own_ends)).decode.auto.weight
-
-pub slice_bounds-search-end-in-Accepted-3 : goal.slice_bounds-search-end-in-Accepted-3
-slice_bounds-search-end-in-Accepted-3 c = sym (long-heights (goal.at.slice_bounds-search-end-in-Accepted-3 c).After-own_ends)
-
 pub search-f-requires : goal.search-f-requires
 search-f-requires c =
     let O = lent_of (goal.at.search-f-requires c).After-ends_of-v in
-    search-ready (taken (known_of O)) O.own_ends.new.height O.own_ends.new.drop (dropped-of (goal.at.search-f-requires c).After-ends_of-v).drops.new.drop (ended O) (long-heights O) (dropped-of (goal.at.search-f-requires c).After-ends_of-v).drops.ensures.0 (dropped (goal.at.search-f-requires c).After-ends_of-v)
+    search-ready (taken (known_of O)) O.own_ends.new.rise O.own_ends.new.drop (dropped-of (goal.at.search-f-requires c).After-ends_of-v).drops.new.drop (ended O) (long-heights O) (dropped-of (goal.at.search-f-requires c).After-ends_of-v).drops.ensures.0 (dropped (goal.at.search-f-requires c).After-ends_of-v)
     (margin-of (read_of (known_of O))) (good-margin (goal.at.search-f-requires c).Else-is_beyond) (rule-is (goal.at.search-f-requires c).After-ends_of-v) (ends-are (goal.at.search-f-requires c).After-ends_of-v)
 
 -- ---- what it found
@@ -228,7 +216,7 @@ small W =
     let L = asked_of W in
     let O = lent_of L in
     let R = read_of (known_of O) in
-    found-small (taken (known_of O)) O.own_ends.new.height O.own_ends.new.drop (dropped-of L).drops.new.drop (ended O) (long-heights O) (dropped-of L).drops.ensures.0 (dropped L)
+    found-small (taken (known_of O)) O.own_ends.new.rise O.own_ends.new.drop (dropped-of L).drops.new.drop (ended O) (long-heights O) (dropped-of L).drops.ensures.0 (dropped L)
     (margin-of R) (good-margin (goal.at.After-search-f W).Else-is_beyond) (rule-is L) (ends-are L) W.search-f.result (list_of R) W.search-f.new.leaves (long_of L).if-leaves-t.false W.search-f.ensures
 
 pub bounds_of-requires : goal.bounds_of-requires
@@ -236,25 +224,27 @@ bounds_of-requires c =
     let u = small (goal.at.bounds_of-requires c).After-search-f in
     (spread_at (taken (known_of (lent_of (asked_of (goal.at.bounds_of-requires c).After-search-f)))), u.0, u.1, u.2)
 
-pub returns-in-Refused : goal.returns-in-Refused
-returns-in-Refused c = let all = let r = c.in-Refused in
-    let v = refused-at (goal.at.returns-in-Refused c).After-decode r.r r.is in
-    refusing (goal.at.returns-in-Refused c).After-decode (refused r.r) (ap (λ (v : Verdict Table). sought_indexed v (margin-of (goal.at.returns-in-Refused c).After-decode) (lows-of (goal.at.returns-in-Refused c).After-decode) (highs-of (goal.at.returns-in-Refused c).After-decode) (length (list_of (goal.at.returns-in-Refused c).After-decode))) v) in record { answers = all.0; lists = all.1 }
+pub returns-in_err-t : goal.returns-in_err-t
+returns-in_err-t c =
+    let r = c.in_err-t in
+    let v = refused-at (goal.at.returns-in_err-t c).After-decode r.field-0.0 r.was in
+    let p = err_from_is_err_and c.from_residual.result c.from_residual.ensures.1 in
+    let all = refusing (goal.at.returns-in_err-t c).After-decode (refused r.field-0.0) (ap (λ (v : Verdict Table). sought_indexed v (margin-of (goal.at.returns-in_err-t c).After-decode) (lows-of (goal.at.returns-in_err-t c).After-decode) (highs-of (goal.at.returns-in_err-t c).After-decode) (length (list_of (goal.at.returns-in_err-t c).After-decode))) v) in rw (p.1, p.2) record { answers = all.0; lists = all.1 }
 
-pub returns-else-leaves-t : goal.returns-else-leaves-t
-returns-else-leaves-t c =
-    let L = asked_of (goal.at.returns-else-leaves-t c).After-search-f in
+pub returns : goal.returns
+returns c =
+    let L = asked_of (goal.at.returns c).After-search-f in
     let O = lent_of L in
     let K = known_of O in
     let R = read_of K in
     let G = taken K in
-    let H : List ℕ = O.own_ends.new.height in
+    let H : List ℕ = O.own_ends.new.rise in
     let D : List ℕ = O.own_ends.new.drop in
     let T : List ℕ = (dropped-of L).drops.new.drop in
     let mine = own_of G (margin-of R) (lows-of R) (highs-of R) (length (list_of R)) (own (passed-of (long_of L))) in record {
-      answers = ap Given c.bounds_of.ensures
-          ∙ given-at G H D T (ended O) (long-heights O) (dropped-of L).drops.ensures.0 (dropped L) (margin-of R) (good-margin (goal.at.returns-else-leaves-t c).Else-is_beyond) (rule-is L) (ends-are L)
+      answers = ap Ok c.bounds_of.ensures
+          ∙ given-at G H D T (ended O) (long-heights O) (dropped-of L).drops.ensures.0 (dropped L) (margin-of R) (good-margin (goal.at.returns c).Else-is_beyond) (rule-is L) (ends-are L)
           c.search-f.result (list_of R) c.search-f.new.leaves (long_of L).if-leaves-t.false c.search-f.ensures (lows-of R) (highs-of R) mine;
-      lists = reads_at G H D T (ended O) (long-heights O) (dropped-of L).drops.ensures.0 (dropped L) (margin-of R) (good-margin (goal.at.returns-else-leaves-t c).Else-is_beyond) (rule-is L) (ends-are L)
+      lists = reads_at G H D T (ended O) (long-heights O) (dropped-of L).drops.ensures.0 (dropped L) (margin-of R) (good-margin (goal.at.returns c).Else-is_beyond) (rule-is L) (ends-are L)
           c.search-f.result (list_of R) c.search-f.new.leaves (long_of L).if-leaves-t.false c.search-f.ensures (lows-of R) (highs-of R) mine;
     }

@@ -1,32 +1,21 @@
-use native.Mathlib.Omega.{arith}
+use Rattle.std.proofs.Common.{◌≡◌, get_or, arith}
+use Rattle.std.proofs.lemmas.Grind.{common_steps}
+use Rattle.table.specs.Nodes.{stops_in}
 use Rattle.indexing.proofs.Least.{least-none, least-later, least_more, least-done}
 use Rattle.indexing.proofs.least_of.Goals as goal
 
 pub loop-j-init : goal.loop-j-init
-loop-j-init c =
-    (c.requires.0, c.requires.1, c.requires.2, c.requires.3, least-none c.args.stop.now c.args.points.now c.args.c c.args.e)
+loop-j-init c = least-none (stops_in c.args.nodes.now) c.args.points.now c.args.c c.args.e
 
 pub loop-j-smaller : goal.loop-j-smaller
 loop-j-smaller c =
-    let a = c.args in
-    let v = c.loop-j.invariant in
-    let t = c.loop-j-test.true in
-    omega (arith, c.index-j.ensures, least-later a.stop.now a.points.now a.c a.e v.3 c.loop-j.m c.loop-j.j (v.4 v.3) t)
+    let j : c.from-j.result ≡ get_or (stops_in c.args.nodes.now) c.loop-j.j 0 = grind (arith, common_steps) in
+    omega (arith, j, least-later _ _ _ _ _ _ _ (c.loop-j.invariant c.requires.3) c.loop-j-test.true)
 
 pub loop-j-preserved : goal.loop-j-preserved
 loop-j-preserved c =
-    let a = c.args in
-    let v = c.loop-j.invariant in
-    let t = c.loop-j-test.true in (
-      v.0,
-      v.1,
-      v.2,
-      v.3,
-      λ R. rw (c.index-j.ensures, c.lesser-m.ensures)
-          (least_more a.stop.now a.points.now a.c a.e R c.loop-j.m c.loop-j.j (v.4 R) t),
-    )
+    let j : c.from-j.result ≡ get_or (stops_in c.args.nodes.now) c.loop-j.j 0 = grind (arith, common_steps) in
+    λ R. rw (j, c.min-m.ensures) (least_more _ _ _ _ R _ _ (c.loop-j.invariant R) c.loop-j-test.true)
 
 pub returns : goal.returns
-returns c =
-    let a = c.args in
-    λ R. least-done a.stop.now a.points.now a.c a.e R c.loop-j.m c.loop-j.j (c.loop-j.invariant.4 R) c.loop-j-test.false
+returns c = λ R. least-done _ _ _ _ R _ _ (c.loop-j.invariant R) c.loop-j-test.false

@@ -1,13 +1,12 @@
 -- `indexing::least_of` meets its contract.
-use Prim.Native.Nat.{◌-◌, ◌≤◌}
-use lib.ListN.{length}
+use Rattle.std.proofs.Common.{◌-◌}
+use Rattle.table.specs.Nodes.{stops_in}
 use Rattle.indexing.specs.Inside.{Run}
 use Rattle.indexing.proofs.Least.{Least}
 use Rattle.indexing.proofs.least_of.Given as goal
 
 abbrev pub invariant-loop-j : goal.invariant-loop-j
-invariant-loop-j l =
-    (l.e ≤ length l.stop) × (l.e ≤ length l.points) × (l.e ≤ 1024) × Run l.stop l.c l.e × ((R : Run l.stop l.c l.e) → Least l.stop l.points l.c l.e l.m l.j R)
+invariant-loop-j l = (R : Run (stops_in l.nodes) l.c l.e) → Least (stops_in l.nodes) l.points l.c l.e l.m l.j R
 
 abbrev pub decreases-loop-j : goal.decreases-loop-j
 decreases-loop-j l = l.e - l.j

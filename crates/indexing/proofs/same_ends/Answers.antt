@@ -1,74 +1,36 @@
-use Prim.Native.Nat.{ℕ}
-use mathlib.Core.Path.{◌≡◌, sym, ◌∙◌}
-use native.Mathlib.Omega.{arith}
-use borrow.Author.Rules.{rules}
-use lib.ListN.{get_or}
-use lib.IntN.{ℤ, pos}
-use mir.Syntax.{w64}
-use mir.Val.{to_z, of_z}
-use mir.ValLaws.{to_z-of_z}
+-- `indexing::same_ends` meets its contract.
+use Rattle.std.proofs.Common.{ℕ, ◌≡◌, true, false, cond, eqb, leb, pos, sym, ◌∙◌, length, get_or, rules, arith}
+use Rattle.std.proofs.Math.ListN.{get_or-map}
+use Rattle.std.proofs.lemmas.Grind.{common_steps}
+use Rattle.std.proofs.lemmas.Iterator.{YieldsList-from_range}
+use Rattle.std.proofs.lemmas.Iterator.Search.{all_from_yields_List}
+use borrow.Author.Tests.{tests}
+use Rattle.line.specs.Line.{code}
+use Rattle.line.specs.declared.Kind.TheVariants.{Leaf}
+use Rattle.numbers.specs.Integers.{eq_z}
+use Rattle.table.specs.declared.Node.{Node}
+use Rattle.table.specs.Nodes.{kinds_in}
 use Rattle.indexing.specs.Inside.{end_from}
-use Rattle.indexing.proofs.Entries.{agrees-short, comparing-none, comparing-done, comparing-more, comparing-differs}
+use Rattle.indexing.proofs.Entries.{agrees-short, agrees-tested, same_at}
 use Rattle.indexing.proofs.same_ends.Goals as goal
-use Rattle.indexing.proofs.same_ends.Goals.{Start}
 
-abbrev ends : Start → ℕ → ℤ
-ends s i = end_from (to_z w64 (of_z w64 s.args.base)) s.args.up (get_or s.args.points.now i 0)
+abbrev none_node : Node
+none_node = record { kind = Leaf; stop = 0; weight = 0; height = 0 }
 
-base-is : (s : Start) → to_z w64 (of_z w64 s.args.base) ≡ s.args.base
-base-is s = to_z-of_z w64 s.args.base s.ranges.base
-
-pub returns-then-list-n : goal.returns-then-list-n
-returns-then-list-n c =
+pub returns-then-n-list : goal.returns-then-n-list
+returns-then-n-list c =
     let a = c.args in
-    sym (agrees-short a.kind.now (λ (i : ℕ). end_from a.base a.up (get_or a.points.now i 0)) 0 a.n a.list.now c.if-list-n.true)
+    let f = λ (i : ℕ). end_from a.base (get_or a.points.now i 0) in
+    all_from_yields_List (same_at (kinds_in a.nodes.now) f a.list.now) _ _ c.all.result c.all.ensures.ran (YieldsList-from_range 0 a.n a.n (cc) (search rules))
+    (λ x b q k. (
+      search (rules, tests) depth 9,
+      (let e : b ≡ cond (eqb (code (get_or a.nodes.now x none_node).kind) 0) true (eq_z (f x) (get_or a.list.now x (pos 0))) = search (rules, tests) depth 9 in
+          e ∙ rw (← get_or-map (λ (n : Node). code n.kind) a.nodes.now x none_node)),
+    ))
+    ∙ agrees-tested (kinds_in a.nodes.now) f 0 a.n a.list.now (omega arith)
 
-pub loop-i-init : goal.loop-i-init
-loop-i-init c =
-    let s = (goal.at.loop-i-init c).Start in
-    let a = s.args in
-    let p = s.requires in
-    (omega arith, p.0, p.1, c.if-list-n.false, rw (base-is s) p.2, p.3, comparing-none a.kind.now (ends s) a.n a.list.now)
-
-pub same_end-requires : goal.same_end-requires
-same_end-requires c =
-    (c.loop-i.invariant.4, c.loop-i.invariant.5 c.loop-i.i c.loop-i-test.true)
-
-pub returns-then-not-same_end : goal.returns-then-not-same_end
-returns-then-not-same_end c =
-    let s = (goal.at.returns-then-not-same_end c).Start in
-    let a = s.args in
-    let v = c.loop-i.invariant in
-    let t = c.loop-i-test.true in
-    let y : ℤ = get_or a.list.now c.loop-i.i (pos 0) in
-    let back : to_z w64 (of_z w64 y) ≡ y = search rules in
-    let d = sym (c.if-not-same_end.true) ∙ c.same_end.ensures in
-    rw (← base-is s)
-    (sym (comparing-differs a.kind.now (ends s) a.n a.list.now c.loop-i.i v.6 t (omega (arith, v.3, t)) (d ∙ rw back)))
-
-pub loop-i-smaller : goal.loop-i-smaller
-loop-i-smaller c = omega arith
-
-pub loop-i-preserved : goal.loop-i-preserved
-loop-i-preserved c =
-    let s = (goal.at.loop-i-preserved c).Start in
-    let a = s.args in
-    let v = c.loop-i.invariant in
-    let t = c.loop-i-test.true in
-    let y : ℤ = get_or a.list.now c.loop-i.i (pos 0) in
-    let back : to_z w64 (of_z w64 y) ≡ y = search rules in
-    let d = sym (c.if-not-same_end.false) ∙ c.same_end.ensures in (
-      omega arith,
-      v.1,
-      v.2,
-      v.3,
-      v.4,
-      v.5,
-      comparing-more a.kind.now (ends s) a.n a.list.now c.loop-i.i v.6 t (omega (arith, v.3, t)) (d ∙ rw back),
-    )
-
-pub returns : goal.returns
-returns c =
-    let s = (goal.at.returns c).Start in
-    let a = s.args in
-    rw (← base-is s) (sym (comparing-done a.kind.now (ends s) a.n a.list.now c.loop-i.i c.loop-i.invariant.6 c.loop-i-test.false))
+pub returns-else-n-list : goal.returns-else-n-list
+returns-else-n-list c =
+    let a = c.args in
+    let l : leb a.n (length a.list.now) ≡ false = grind (arith, common_steps) in
+    l ∙ sym (agrees-short (kinds_in a.nodes.now) (λ (i : ℕ). end_from a.base (get_or a.points.now i 0)) 0 a.n a.list.now c.if-n-list.false)

@@ -1,59 +1,42 @@
 -- `judge::judge_play` meets its contract.
-use Prim.Native.Nat.{ℕ}
-use mathlib.Core.Path.{◌≡◌, sym, ap}
-use mathlib.Core.List.{List}
-use borrow.Author.Rules.{rules}
-use lib.IntN.{ℤ}
+use Rattle.std.proofs.Common.{rules, ◌≡◌, sym, ap}
+use Rattle.std.proofs.lemmas.Result.{err_from_is_err_and}
 use mir.Syntax.{w64}
 use mir.Val.{to_z, of_z}
 use Rattle.line.specs.Refusal.{Verdict}
-use Rattle.table.specs.declared.Summary.{Summary}
 use Rattle.table.specs.Table.{Table}
+use Rattle.table.specs.Nodes.{kinds_in, stops_in, weights_in, heights_in}
 use Rattle.scale.proofs.Taken.{Taken, refused-by, taken-by, spread_at, long}
 use Rattle.judge.specs.Call.{judge_call}
 use Rattle.judge.proofs.Call.{whole-at, given-at}
 use Rattle.judge.proofs.judge_play.Goals as goal
-use Rattle.judge.proofs.judge_play.Goals.{After-decode, In-Accepted, Start}
+use Rattle.judge.proofs.judge_play.Goals.{In_ok-t, Start}
 
-abbrev text_of : After-decode → List ℕ
-text_of R = R.args.text.now
+pub returns-in_err-t : goal.returns-in_err-t
+returns-in_err-t c =
+    let p = err_from_is_err_and c.from_residual.result c.from_residual.ensures.1 in
+    rw (p.1, p.2) (ap (λ (v : Verdict Table). judge_call v c.args.number) (sym (refused-by c.args.text.now _ _ _ _ _ _ c.decode.ensures c.in_err-t.was)))
 
-abbrev number_of : After-decode → ℤ
-number_of R = R.args.number
+-- what is left of an accepted text
+taken : (c : In_ok-t) → let l = c.decode.new.nodes in Taken c.args.text.now c.in_ok-t.t (kinds_in l) (stops_in l) (weights_in l) (heights_in l)
+taken c = taken-by c.args.text.now c.decode.ensures c.in_ok-t.was
 
--- at an accepted table: the reading, the summary, and what is left
-abbrev read_of : In-Accepted → After-decode
-read_of c = (goal.at.In-Accepted c).After-decode
+pub slice_bounds-lines-count : goal.slice_bounds-lines-count
+slice_bounds-lines-count c = long (taken (goal.at.slice_bounds-lines-count c).In_ok-t)
 
-abbrev summary-of : In-Accepted → Summary
-summary-of c = c.in-Accepted.t
+pub slice_bounds-lines-start : goal.slice_bounds-lines-start
+slice_bounds-lines-start c = long (taken (goal.at.slice_bounds-lines-start c).In_ok-t)
 
-taken : (c : In-Accepted)
-    → Taken (text_of (read_of c)) (summary-of c) (read_of c).decode.new.kind (read_of c).decode.new.stop (read_of c).decode.new.weight (read_of c).decode.new.height
-taken c = taken-by (text_of (read_of c)) (read_of c).decode.ensures c.in-Accepted.is
+pub scale_of-requires : goal.scale_of-requires
+scale_of-requires c = spread_at (taken (goal.at.scale_of-requires c).In_ok-t)
 
-pub slice_bounds-judge_table-count : goal.slice_bounds-judge_table-count
-slice_bounds-judge_table-count c = long (taken (goal.at.slice_bounds-judge_table-count c).In-Accepted)
+pub judge-requires : goal.judge-requires
+judge-requires c = whole-at (taken (goal.at.judge-requires c).In_ok-t) c.scale_of.ensures
 
-pub slice_bounds-judge_table-start : goal.slice_bounds-judge_table-start
-slice_bounds-judge_table-start c = long (taken (goal.at.slice_bounds-judge_table-start c).In-Accepted)
+number-back : (c : Start) → to_z w64 (of_z w64 c.args.number) ≡ c.args.number
+number-back c = search rules
 
-pub judge_table-requires : goal.judge_table-requires
-judge_table-requires c = whole-at (taken (goal.at.judge_table-requires c).In-Accepted) c.scale_of-g.ensures
-
-pub returns-in-Refused : goal.returns-in-Refused
-returns-in-Refused c =
-    let r = c.in-Refused in
-    ap (λ (v : Verdict Table). judge_call v (number_of (goal.at.returns-in-Refused c).After-decode)) (sym (refused-by (text_of (goal.at.returns-in-Refused c).After-decode) c.decode.result r.r _ _ _ _ c.decode.ensures r.is))
-
-number-back : (s : Start) → to_z w64 (of_z w64 s.args.number) ≡ s.args.number
-number-back s = search rules
-
-pub returns-in-Accepted : goal.returns-in-Accepted
-returns-in-Accepted c =
-    let R = read_of (goal.at.returns-in-Accepted c).In-Accepted in
-    given-at (taken (goal.at.returns-in-Accepted c).In-Accepted) c.scale_of-g.ensures (number_of R) c.judge_table.result
-    (rw (number-back (goal.at.returns-in-Accepted c).Start) at c.judge_table.ensures)
-
-pub scale_of-g-requires : goal.scale_of-g-requires
-scale_of-g-requires c = spread_at (taken c)
+pub returns : goal.returns
+returns c =
+    let s = (goal.at.returns c).Start in
+    given-at (taken (goal.at.returns c).In_ok-t) c.scale_of.ensures c.args.number c.judge.result (rw (number-back s) at c.judge.ensures)

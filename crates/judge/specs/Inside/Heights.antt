@@ -54,9 +54,3 @@ module _ {A : Type 0} where
   from (suc k) end = end
   from (suc k) (leaf n w v rest) = from k rest
   from (suc k) (inner n w kind under rest) = from k rest
-
-  -- the number of the first node
-  abbrev pub first_node : Forest A → Option ℕ
-  first_node end = none
-  first_node (leaf n w v rest) = some n
-  first_node (inner n w kind under rest) = some n

@@ -1,91 +1,47 @@
 -- `reading::decode_lines` meets its contract.
-use mathlib.Core.Path.{◌≡◌, subst}
-use mathlib.Core.List.{List, []}
+use mathlib.Core.Path.{◌≡◌}
+use mathlib.Core.List.{[]}
 use native.Mathlib.Omega.{arith}
 use lib.ListN.{drop, replicate}
-use Rattle.line.specs.declared.Line.{Line}
-use Rattle.line.specs.Refusal.{Verdict, refused}
+use Rattle.std.proofs.lemmas.Result.{err_from_is_err_and}
+use Rattle.line.specs.Refusal.{refused}
 use Rattle.table.specs.Table.{node_lines, lines_of}
-use Rattle.table.specs.Slices.{line_stops, laid}
-use Rattle.table.proofs.Grown.{lines-counted}
-use Rattle.gathering.specs.declared.Lines
-use Rattle.gathering.specs.declared.Lines.{Lines}
-use Rattle.gathering.specs.Inside.{Gathered}
-use Rattle.reading.proofs.Complete.{Lined, gathered-lined, gathered-refusal, stops-are, counts, decoded-all}
+use Rattle.reading.proofs.Complete.{Lined, gathered-lined, gathered-refusal, few-chances, nodes-counted, nodes-decoded}
 use Rattle.reading.proofs.Top.{decoded-refused}
 use Rattle.reading.proofs.decode_lines.Goals as goal
-use Rattle.reading.proofs.decode_lines.Goals.{After-node_lines, After-stops, In-Fine, Start}
+use Rattle.reading.proofs.decode_lines.Goals.{In_ok-m}
 
-abbrev start : After-node_lines → Start
-start c = (goal.at.After-node_lines c).Start
-
-abbrev verdict-of : After-node_lines → Verdict (List Line)
-verdict-of c = node_lines (start c).args.h (start c).args.n 0 [] (drop 25 (start c).args.text.now)
-
-abbrev GathersTo : After-node_lines → Lines → Type 0
-GathersTo c r =
-    Gathered (start c).args.h.lowest (verdict-of c) r (start c).args.kind.now (replicate 1024 0) (start c).args.weight.now (start c).args.height.now
-    c.node_lines.new.kind c.node_lines.new.up c.node_lines.new.weight c.node_lines.new.height
-
-gathers : (c : After-node_lines) (r : Lines) → c.node_lines.result ≡ r → GathersTo c r
-gathers c r e = subst (GathersTo c) e c.node_lines.ensures
-
-abbrev lines-of : In-Fine → After-node_lines
-lines-of c = (goal.at.In-Fine c).After-node_lines
-
-lined : (c : In-Fine)
-    → let N = lines-of c in
-    Lined (start N).args.h.lowest (verdict-of N) c.in-Fine.most c.in-Fine.leaves (start N).args.kind.now (replicate 1024 0) (start N).args.weight.now (start N).args.height.now
-    N.node_lines.new.kind N.node_lines.new.up N.node_lines.new.weight N.node_lines.new.height
-lined c =
-    let N = lines-of c in
-    gathered-lined (start N).args.h.lowest (verdict-of N) c.in-Fine.most c.in-Fine.leaves _ _ _ _ _ _ _ _ (gathers N (Lines.TheVariants.Fine c.in-Fine.most c.in-Fine.leaves) c.in-Fine.is)
-
-abbrev most-of : After-stops → In-Fine
-most-of c = (goal.at.After-stops c).In-Fine
-
--- where the stops are known
-stopped : (c : After-stops)
-    → let M = most-of c in
-    let N = lines-of M in
-    c.stops.new.stop ≡ laid (line_stops (lined M).lines) (start N).args.stop.now
-stopped c =
-    let M = most-of c in
-    let N = lines-of M in
-    let a = (start N).args in
-    stops-are a.h a.n (drop 25 a.text.now) (lined M).lines (replicate 1024 0) N.node_lines.new.up a.stop.now c.stops.new.stop (lined M).verdict (lined M).ups c.stops.ensures
+lined : (c : In_ok-m)
+    → let a = c.args in
+    Lined a.h.lowest (node_lines a.h a.n 0 [] (drop 25 a.text.now)) c.in_ok-m.m a.nodes.now (replicate 1024 0) c.node_lines.new.nodes c.node_lines.new.up
+lined c = gathered-lined _ _ _ _ _ _ _ c.in_ok-m.ensures
 
 pub completed-requires : goal.completed-requires
 completed-requires c =
-    let M = most-of (goal.at.completed-requires c).After-stops in
-    let N = lines-of M in
-    let b = start N in
-    let a = b.args in
-    let p = b.requires in
-    let L = lined M in (
-      omega (arith, N.node_lines.auto.kind, p.0.kinds, p.2),
-      omega (arith, c.stops.auto.stop, p.0.ups, p.2),
-      omega (arith, N.node_lines.auto.weight, p.0.weights, p.2),
+    let a = c.args in
+    let p = c.requires in
+    let e = c.stops.ensures in
+    let L = lined (goal.at.completed-requires c).In_ok-m in
+    let r = p.4 in (
+      omega arith,
       p.2,
-      p.4.total,
-      p.4.second,
-      rw L.most-is (lines-counted a.h a.n 0 [] (drop 25 a.text.now) L.lines L.verdict).1,
-      counts a.h a.n (drop 25 a.text.now) L.lines L.verdict p.1 a.kind.now a.stop.now a.weight.now a.height.now N.node_lines.new.kind c.stops.new.stop N.node_lines.new.weight N.node_lines.new.height L.kinds (stopped (goal.at.completed-requires c).After-stops) L.weights L.heights p.2 M.in-Fine.most M.in-Fine.leaves L.most-is L.leaves-is,
+      r.total,
+      r.second,
+      few-chances _ _ _ _ _ _ c.stops.new.nodes _ _ L,
+      nodes-counted a.h a.n (drop 25 a.text.now) _ _ _ _ _ _ L p.1 p.2 e.kinds e.stops e.weights e.heights,
     )
 
-pub returns-in-Refused : goal.returns-in-Refused
-returns-in-Refused c =
-    let r = c.in-Refused.r in
-    let e : verdict-of (goal.at.returns-in-Refused c).After-node_lines ≡ refused r = gathered-refusal (start (goal.at.returns-in-Refused c).After-node_lines).args.h.lowest (verdict-of (goal.at.returns-in-Refused c).After-node_lines) r _ _ _ _ _ _ _ _ (gathers (goal.at.returns-in-Refused c).After-node_lines (Lines.TheVariants.Refused r) c.in-Refused.is) in
-    decoded-refused (lines_of (start (goal.at.returns-in-Refused c).After-node_lines).args.h (start (goal.at.returns-in-Refused c).After-node_lines).args.n (drop 25 (start (goal.at.returns-in-Refused c).After-node_lines).args.text.now)) r _ _ _ _ _ _ _ _ (rw e)
+pub returns-in_err-m : goal.returns-in_err-m
+returns-in_err-m c =
+    let a = c.args in
+    let r = c.in_err-m.field-0.0 in
+    let e : node_lines a.h a.n 0 [] (drop 25 a.text.now) ≡ refused r = gathered-refusal a.h.lowest _ r _ _ _ _ c.in_err-m.ensures in
+    let p = err_from_is_err_and c.from_residual.result c.from_residual.ensures.1 in
+    rw (p.1, p.2) (decoded-refused (lines_of a.h a.n (drop 25 a.text.now)) r _ _ _ _ _ _ _ _ (rw e))
 
-pub returns-in-Fine : goal.returns-in-Fine
-returns-in-Fine c =
-    let M = most-of (goal.at.returns-in-Fine c).After-stops in
-    let N = lines-of M in
-    let b = start N in
-    let a = b.args in
-    let p = b.requires in
-    let L = lined M in
-    decoded-all a.h a.n (drop 25 a.text.now) L.lines L.verdict p.1 a.kind.now a.stop.now a.weight.now a.height.now N.node_lines.new.kind c.stops.new.stop N.node_lines.new.weight N.node_lines.new.height L.kinds (stopped (goal.at.returns-in-Fine c).After-stops) L.weights L.heights
-    p.2 M.in-Fine.most M.in-Fine.leaves L.most-is L.leaves-is c.completed.result c.completed.ensures
+pub returns : goal.returns
+returns c =
+    let p = c.requires in
+    let e = c.stops.ensures in
+    let L = lined (goal.at.returns c).In_ok-m in
+    nodes-decoded c.args.h c.args.n (drop 25 c.args.text.now) _ _ _ _ _ _ L p.1 p.2 e.kinds e.stops e.weights e.heights c.completed.result c.completed.ensures

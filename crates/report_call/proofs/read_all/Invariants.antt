@@ -4,8 +4,8 @@ use lib.ListN.{length}
 use Rattle.report_call.proofs.Going.{Going}
 use Rattle.report_call.proofs.read_all.Given as goal
 
-abbrev pub invariant-loop-at : goal.invariant-loop-at
-invariant-loop-at l = Going l.file l.scale l.initial.kinds l.initial.losses l.initial.marks l.kinds l.losses l.marks l.t l.at
+abbrev pub invariant-loop-reader : goal.invariant-loop-reader
+invariant-loop-reader l = Going l.file l.scale l.initial.kinds l.initial.losses l.initial.marks l.kinds l.losses l.marks l.t l.reader.file.now l.reader.at
 
-abbrev pub decreases-loop-at : goal.decreases-loop-at
-decreases-loop-at l = length l.file - l.at
+abbrev pub decreases-loop-reader : goal.decreases-loop-reader
+decreases-loop-reader l = length l.file - l.reader.at

@@ -1,24 +1,34 @@
--- What the contracts of the code cite: the lists before the first walk, and what the rollouts leave.
-use Rattle.std.specs.Prelude.{ℕ, ◌≤◌, ◌<◌, ◌≡◌, List, length, get_or, take}
+-- What the contract of `roll` cites: what the rollouts leave.
+use Rattle.std.specs.Prelude.{ℕ, ℤ, ◌≤◌, ◌≡◌, List, [], length, take, Ok, Err, Result, MatchResult}
+use Rattle.std.specs.Int.Signed.{mag}
+use Rattle.line.specs.declared.Refusal.{Refusal}
 use Rattle.line.specs.Refusal.{Verdict}
 use Rattle.table.specs.Table.{Table}
 use Rattle.table.specs.Slices.{laid}
+use Rattle.rollout.specs.Rollout.{Pair}
 use Rattle.rolled.specs.declared.Outcome.{Outcome}
+use Rattle.rolled.specs.declared.RolledOut.{RolledOut}
 use Rattle.rolled.specs.Call.{roll_call, roll_reads, roll_store}
 use Rattle.rolled.specs.Inside.Bounds.{lows_of, highs_of, risen, SmallHeights}
 
--- the first n highs are the highest end
-abbrev pub Started : (n top : ℕ) → List ℕ → Type 0
-Started n top high = (i : ℕ) → i < n → get_or high i 0 ≡ top
+-- what the call answers of it
+abbrev pub answer_of : Result Outcome Refusal → Result RolledOut Refusal
+answer_of (Ok o) = Ok (record { worth = o.worth; leaves = o.leaves })
+answer_of (Err r) = Err r
 
--- the outcome o, the leaf list, as it came and as it is now, and the lows and the highs above the base are those of the call
-pub record RollsTo (v : Verdict Table) (p : List ℕ) (room : ℕ) (o : Outcome) (came now low high : List ℕ) : Type 0 where
-  pub answers : o.answer ≡ roll_call v p (length came) room
-  pub nodes : o.nodes ≡ length (roll_store v p (length came) room)
+-- the lows and the highs above the base of the outcome o are those of the records, for which there is room
+pub record Bounded (o : Outcome) (records : List (Pair ℤ)) (room : ℕ) (low high : List ℕ) : Type 0 where
+  pub nodes : o.nodes ≡ length records
   pub fits : o.nodes ≤ room
   pub few : o.nodes ≤ 1024
-  pub lists : now ≡ laid (roll_reads v p (length came) room) came
-  pub lows-are : risen o.base (take o.nodes low) ≡ lows_of (roll_store v p (length came) room)
-  pub highs-are : risen o.base (take o.nodes high) ≡ highs_of (roll_store v p (length came) room)
+  pub small : mag o.base ≤ 35184372088832
+  pub lows-are : risen o.base (take o.nodes low) ≡ lows_of records
+  pub highs-are : risen o.base (take o.nodes high) ≡ highs_of records
   pub small_low : SmallHeights o.base o.nodes low
   pub small-high : SmallHeights o.base o.nodes high
+
+-- the outcome, the leaf list, as it came and as it is now, and the lows and the highs are those of the call; a refused one has no records
+pub record RollsTo (v : Verdict Table) (p : List ℕ) (room : ℕ) (r : Result Outcome Refusal) (came now low high : List ℕ) : Type 0 where
+  pub answers : answer_of r ≡ roll_call v p (length came) room
+  pub lists : now ≡ laid (roll_reads v p (length came) room) came
+  pub store : MatchResult r (λ o. Bounded o (roll_store v p (length came) room) room low high) (λ e. roll_store v p (length came) room ≡ [])

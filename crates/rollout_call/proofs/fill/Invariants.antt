@@ -1,11 +1,7 @@
--- `rollout_call::fill` meets its contract: the first i records are filled.
-use Rattle.std.proofs.Common.{◌-◌, ◌≡◌, ◌≤◌}
-use Rattle.rolled.specs.Inside.Bounds.{risen}
-use Rattle.rollout_call.specs.Inside.{filled}
+-- `rollout_call::fill` meets its contract: the first i records have the bounds.
+use Rattle.std.proofs.Common.{ℕ, ◌≡◌, ◌<◌, get_or}
+use Rattle.rollout_call.proofs.Filling.{none, bounds_at}
 use Rattle.rollout_call.proofs.fill.Given as goal
 
 abbrev pub invariant-loop-i : goal.invariant-loop-i
-invariant-loop-i l = (l.i ≤ l.n) × (l.store ≡ filled l.i (risen l.base l.low) (risen l.base l.high) l.initial.store)
-
-abbrev pub decreases-loop-i : goal.decreases-loop-i
-decreases-loop-i l = l.n - l.i
+invariant-loop-i l = (k : ℕ) → k < l.i → get_or l.record-items k none ≡ bounds_at l.base l.low l.high k

@@ -1,19 +1,13 @@
 -- `runs::run_end` meets its contract.
 use Prim.Native.Nat.{◌+◌, ◌-◌, ◌≤◌, ◌<◌}
 use mathlib.Core.Path.{◌≡◌}
-use lib.ListN.{length, take, drop}
-use Rattle.runs.specs.Inside.{reach, stop_in, HasStops}
+use lib.ListN.{take, drop}
+use Rattle.runs.specs.Inside.{reach, stop_in}
 use Rattle.runs.proofs.run_end.Given as goal
 
 abbrev pub invariant-loop-j : goal.invariant-loop-j
 invariant-loop-j l =
-    (l.i < l.j)
-    × (l.j ≤ l.n)
-    × (l.n ≤ length l.up)
-    × (l.n ≤ length l.stop)
-    × (l.n ≤ 1024)
-    × HasStops (take l.n l.up) l.stop (l.i + 1)
-    × (stop_in (take l.n l.up) l.i ≡ l.j + reach l.i (drop l.j (take l.n l.up)))
+    (l.i < l.j) × (l.j ≤ l.n) × (stop_in (take l.n l.up) l.i ≡ l.j + reach l.i (drop l.j (take l.n l.up)))
 
 abbrev pub decreases-loop-j : goal.decreases-loop-j
 decreases-loop-j l = l.n - l.j

@@ -1,20 +1,17 @@
--- `runs::stops` meets its contract.
-use Prim.Native.Nat.{◌≤◌, ◌<◌}
+-- The nodes from i on have their stops, and nothing else has changed.
+use Prim.Native.Nat.{◌<◌}
 use mathlib.Core.Path.{◌≡◌}
-use lib.ListN.{length, take, drop}
+use lib.ListN.{take, drop}
+use Rattle.table.specs.Nodes.{kinds_in, stops_in, weights_in, heights_in}
 use Rattle.runs.specs.Inside.{stop_in, HasStops}
 use Rattle.runs.proofs.stops.Given as goal
 
 abbrev pub invariant-loop-i : goal.invariant-loop-i
-invariant-loop-i l =
-    (l.i ≤ l.n)
-    × (l.n ≤ length l.up)
-    × (l.n ≤ length l.initial.stop)
-    × (l.n ≤ 1024)
-    × (length l.stop ≡ length l.initial.stop)
-    × HasStops (take l.n l.up) l.stop l.i
-    × (drop l.n l.stop ≡ drop l.n l.initial.stop)
-    × (l.i < l.n → l.e ≡ stop_in (take l.n l.up) l.i)
-
-abbrev pub decreases-loop-i : goal.decreases-loop-i
-decreases-loop-i l = l.i
+invariant-loop-i l = record {
+  known : HasStops (take l.n l.up) (stops_in l.nodes) l.i;
+  after : drop l.n (stops_in l.nodes) ≡ drop l.n (stops_in l.initial.nodes);
+  next : l.i < l.n → l.end ≡ stop_in (take l.n l.up) l.i;
+  kinds : kinds_in l.nodes ≡ kinds_in l.initial.nodes;
+  weights : weights_in l.nodes ≡ weights_in l.initial.nodes;
+  heights : heights_in l.nodes ≡ heights_in l.initial.nodes;
+}

@@ -1,13 +1,12 @@
 -- `scoring::position_at` meets its contract.
-use Prim.Native.Nat.{ℕ, ◌-◌}
-use mathlib.Core.Path.{sym, ap, ◌∙◌}
+use Prim.Native.Nat.{ℕ}
+use mathlib.Core.Path.{sym, ap}
 use mathlib.Core.List.{List}
 use native.Mathlib.Omega.{arith}
-use lib.ListN.{length, drop, length-drop}
-use lib.Seq.{take_all}
+use lib.ListN.{drop, length-drop}
 use Rattle.report.specs.Report.{size_of}
 use Rattle.report.proofs.Cases.{start-stops}
-use Rattle.scoring.specs.Inside.{said, said_of}
+use Rattle.scoring.specs.Inside.{said}
 use Rattle.scoring.proofs.Claims.{play-short}
 use Rattle.scoring.proofs.position_at.Goals as goal
 
@@ -16,9 +15,3 @@ returns-then-file-at c =
     let a = c.args in
     let rest : List ℕ = drop a.at a.file.now in
     sym (ap (said (size_of rest)) (start-stops rest (sym (play-short rest (omega (arith, length-drop a.at a.file.now, c.if-file-at.true))))))
-
-pub returns : goal.returns
-returns c =
-    let a = c.args in
-    let rest : List ℕ = drop a.at a.file.now in
-    c.position_of.ensures ∙ ap said_of (take_all (length a.file.now - a.at) rest (omega (arith, length-drop a.at a.file.now)))

@@ -1,82 +1,57 @@
 -- `scoring::score` meets its contract.
-use Prim.Native.Nat.{ℕ}
-use mathlib.Core.Path.{◌≡◌, sym, ap, ◌∙◌}
-use mathlib.Core.List.{List}
-use borrow.Author.Rules.{rules}
-use lib.IntN.{ℤ}
+use Rattle.std.proofs.Common.{rules, ℕ, ◌≡◌, sym, ap, ◌∙◌}
+use Rattle.std.proofs.lemmas.Result.{err_from_is_err_and}
 use mir.Syntax.{w64}
 use mir.Val.{to_z, of_z}
 use Rattle.line.specs.Refusal.{Verdict, fine, next}
-use Rattle.table.specs.declared.Summary.{Summary}
 use Rattle.table.specs.Table.{Table, read_text}
+use Rattle.table.specs.Nodes.{kinds_in, stops_in, weights_in, heights_in}
 use Rattle.scale.proofs.Taken.{Taken, refused-by, taken-by, spread_at, long}
 use Rattle.judge.specs.Judge.{Judgement, judge}
 use Rattle.judge.specs.Call.{judge_call}
 use Rattle.judge.proofs.Call.{whole-at, given-at}
 use Rattle.report.specs.Report.{row_of}
-use Rattle.scoring.specs.Inside.{said}
-use Rattle.scoring.proofs.Scores.{small_at, row_at}
+use Rattle.scoring.specs.Inside.{entry_as, said}
+use Rattle.scoring.proofs.Scores.{kind-first, small_at, row_at}
 use Rattle.scoring.proofs.score.Goals as goal
-use Rattle.scoring.proofs.score.Goals.{After-decode, After-judge_table-o, After-scale_of-g, In-Accepted, Start}
+use Rattle.scoring.proofs.score.Goals.{After-judge-o, In_ok-t, Start}
 
-abbrev start : After-decode → Start
-start R = (goal.at.After-decode R).Start
+pub returns-in_err-t : goal.returns-in_err-t
+returns-in_err-t c =
+    let p = err_from_is_err_and c.from_residual.result c.from_residual.ensures.1 in
+    rw (p.1, p.2) (ap (λ (v : Verdict Table). said c.args.size (next v (λ (t : Table). next (judge t c.args.number) (λ (j : Judgement). fine (row_of t j)))))
+    (sym (refused-by c.args.text.now _ _ _ _ _ _ c.decode.ensures c.in_err-t.was)))
 
-abbrev text_of : After-decode → List ℕ
-text_of R = (start R).args.text.now
+-- what is left of an accepted text
+taken : (c : In_ok-t) → let l = c.decode.new.nodes in Taken c.args.text.now c.in_ok-t.t (kinds_in l) (stops_in l) (weights_in l) (heights_in l)
+taken c = taken-by c.args.text.now c.decode.ensures c.in_ok-t.was
 
-abbrev number_of : After-decode → ℤ
-number_of R = (start R).args.number
+pub slice_bounds-lines-count : goal.slice_bounds-lines-count
+slice_bounds-lines-count c = long (taken (goal.at.slice_bounds-lines-count c).In_ok-t)
 
--- at an accepted table: the reading, the summary, and what is left
-abbrev read_of : In-Accepted → After-decode
-read_of c = (goal.at.In-Accepted c).After-decode
+pub slice_bounds-lines-start : goal.slice_bounds-lines-start
+slice_bounds-lines-start c = long (taken (goal.at.slice_bounds-lines-start c).In_ok-t)
 
-abbrev summary-of : In-Accepted → Summary
-summary-of c = c.in-Accepted.t
+pub scale_of-requires : goal.scale_of-requires
+scale_of-requires c = spread_at (taken (goal.at.scale_of-requires c).In_ok-t)
 
-taken : (c : In-Accepted)
-    → Taken (text_of (read_of c)) (summary-of c) (read_of c).decode.new.kind (read_of c).decode.new.stop (read_of c).decode.new.weight (read_of c).decode.new.height
-taken c = taken-by (text_of (read_of c)) (read_of c).decode.ensures c.in-Accepted.is
+pub judge-o-requires : goal.judge-o-requires
+judge-o-requires c = whole-at (taken (goal.at.judge-o-requires c).In_ok-t) c.scale_of.ensures
 
-pub judge_table-o-requires : goal.judge_table-o-requires
-judge_table-o-requires c = whole-at (taken (goal.at.judge_table-o-requires c).In-Accepted) c.scale_of-g.ensures
+number-back : (c : Start) → to_z w64 (of_z w64 c.args.number) ≡ c.args.number
+number-back c = search rules
 
--- ---- the judgement
-abbrev scale_at : After-judge_table-o → After-scale_of-g
-scale_at c = (goal.at.After-judge_table-o c).After-scale_of-g
-
-number-back : (s : Start) → to_z w64 (of_z w64 s.args.number) ≡ s.args.number
-number-back s = search rules
-
-given : (c : After-judge_table-o)
-    → let R = read_of (goal.at.After-judge_table-o c).In-Accepted in
-    c.judge_table-o.result ≡ judge_call (read_text (text_of R)) (number_of R)
+-- the judgement
+given : (c : After-judge-o) → c.judge-o.result ≡ judge_call (read_text c.args.text.now) c.args.number
 given c =
-    let S = scale_at c in
-    let R = read_of (goal.at.After-judge_table-o c).In-Accepted in
-    given-at (taken (goal.at.After-judge_table-o c).In-Accepted) S.scale_of-g.ensures (number_of R) c.judge_table-o.result (rw (number-back (start R)) at c.judge_table-o.ensures)
+    given-at (taken (goal.at.After-judge-o c).In_ok-t) c.scale_of.ensures c.args.number c.judge-o.result (rw (number-back (goal.at.After-judge-o c).Start) at c.judge-o.ensures)
 
 pub entry_of-requires : goal.entry_of-requires
-entry_of-requires c = let K = (goal.at.entry_of-requires c).In-Accepted in small_at (taken K) (number_of (read_of K)) c.judge_table-o.result (given c)
+entry_of-requires c =
+    small_at (taken (goal.at.entry_of-requires c).In_ok-t) c.args.number c.judge-o.result (given (goal.at.entry_of-requires c).After-judge-o)
 
-pub returns-in-Refused : goal.returns-in-Refused
-returns-in-Refused c =
-    let r = c.in-Refused in
-    ap (λ (v : Verdict Table). said (start (goal.at.returns-in-Refused c).After-decode).args.size (next v (λ (t : Table). next (judge t (number_of (goal.at.returns-in-Refused c).After-decode)) (λ (j : Judgement). fine (row_of t j)))))
-    (sym (refused-by (text_of (goal.at.returns-in-Refused c).After-decode) c.decode.result r.r _ _ _ _ c.decode.ensures r.is))
-
-pub returns-in-Accepted : goal.returns-in-Accepted
-returns-in-Accepted c =
-    let K = (goal.at.returns-in-Accepted c).In-Accepted in
-    let R = read_of K in
-    c.entry_of.ensures ∙ row_at (taken K) (number_of R) c.judge_table-o.result (given (goal.at.returns-in-Accepted c).After-judge_table-o) (start R).args.size
-
-pub scale_of-g-requires : goal.scale_of-g-requires
-scale_of-g-requires c = spread_at (taken c)
-
-pub slice_bounds-judge_table-count : goal.slice_bounds-judge_table-count
-slice_bounds-judge_table-count c = long (taken (goal.at.slice_bounds-judge_table-count c).In-Accepted)
-
-pub slice_bounds-judge_table-start : goal.slice_bounds-judge_table-start
-slice_bounds-judge_table-start c = long (taken (goal.at.slice_bounds-judge_table-start c).In-Accepted)
+pub returns : goal.returns
+returns c =
+    c.entry_of.ensures
+    ∙ ap (λ (k : ℕ). entry_as k c.in_ok-t.t.grain c.args.size c.judge-o.result) (kind-first c.decode.new.nodes)
+    ∙ row_at (taken (goal.at.returns c).In_ok-t) c.args.number c.judge-o.result (given (goal.at.returns c).After-judge-o) c.args.size

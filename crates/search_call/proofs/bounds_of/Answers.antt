@@ -11,10 +11,10 @@ returns c =
     let f = c.args.f in
     let p = c.requires in
     λ i. record {
-      low = grains-back t.lowest t.grain f.low _ p.0.lowest p.0.grain (le_trans p.1 p.2) c.in_grains-low.ensures i;
-      high = grains-back t.lowest t.grain f.high _ p.0.lowest p.0.grain p.2 c.in_grains-high.ensures i;
-      difference = apart-back f.low f.high p.2 c.apart-difference.ensures i;
-      play = c.play_at.ensures i;
+      low = grains-back t.lowest t.grain f.low _ p.0.lowest p.0.grain (le_trans p.1 p.2) c.in_grains.ensures i;
+      high = grains-back t.lowest t.grain f.high _ p.0.lowest p.0.grain p.2 c.in_grains-2.ensures i;
+      difference = apart-back f.low f.high p.2 c.apart.ensures i;
+      play = f.play;
       leaves = c.args.reads - f.left;
       spent = f.spent;
       grain = t.grain;

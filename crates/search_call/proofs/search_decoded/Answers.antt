@@ -1,8 +1,8 @@
 -- `search_call::search_decoded` meets its contract.
+use Rattle.std.proofs.Common.{Ok}
 use Prim.Native.Nat.{ℕ, min, ◌≤◌}
-use mathlib.Core.Path.{◌≡◌, sym, ap, ap₂, ◌∙◌}
+use mathlib.Core.Path.{◌≡◌, ap, ap₂, ◌∙◌}
 use mathlib.Core.List.{List}
-use native.Mathlib.Omega.{arith}
 use lib.ListN.{length}
 use lib.IntN.{ℤ}
 use mir.Syntax.{w64}
@@ -11,9 +11,8 @@ use Rattle.line.specs.Line.{to_nat}
 use Rattle.scale.specs.Inside.{scale_for}
 use Rattle.scale.proofs.Taken.{spread_at}
 use Rattle.steps.specs.declared.Found.{Found}
-use Rattle.search_call.specs.declared.Bounded.TheVariants.{Found as Given}
 use Rattle.search_call.specs.Inside.{rule_for, ends_for}
-use Rattle.search_call.proofs.Call.{part_length, search-ready, found-small, given-at, reads_at}
+use Rattle.search_call.proofs.Call.{search-ready, found-small, given-at, reads_at}
 use Rattle.search_call.proofs.search_decoded.Goals as goal
 use Rattle.search_call.proofs.search_decoded.Goals.{After-ends_of-v, After-reads_of-n, After-search-f, Start}
 
@@ -35,14 +34,6 @@ most-is N =
     N.reads_of-n.ensures ∙ ap (λ (z : ℤ). min (to_nat z) (length S.args.leaves.now)) (to_z-of_z w64 S.args.budget S.ranges.budget)
 
 -- that many are in the list
-pub slice_bounds-search-end-2 : goal.slice_bounds-search-end-2
-slice_bounds-search-end-2 c = omega (arith, most-is (goal.at.slice_bounds-search-end-2 c).After-reads_of-n)
-
-pub slice_bounds-search-end-3 : goal.slice_bounds-search-end-3
-slice_bounds-search-end-3 c =
-    let S = start_of (goal.at.slice_bounds-search-end-3 c).After-ends_of-v in
-    sym (part_length c.reads_of-n.result (to_nat S.args.budget) S.args.leaves.now (most-is (goal.at.slice_bounds-search-end-3 c).After-reads_of-n))
-
 pub search-f-requires : goal.search-f-requires
 search-f-requires c =
     let S = start_of (goal.at.search-f-requires c).After-ends_of-v in
@@ -75,7 +66,7 @@ returns c s G =
     let S = start_of L in
     let f : Found = c.search-f.result in
     let leaves : List ℕ = c.search-f.new.leaves in (
-      ap Given c.bounds_of.ensures
+      ap Ok c.bounds_of.ensures
           ∙ given-at G S.args.margin S.args.budget S.requires.margin S.requires.budget (rule-is L) (ends-are L) f N.reads_of-n.result S.args.leaves.now leaves (most-is N) S.requires.long c.search-f.ensures,
       reads_at G S.args.margin S.args.budget S.requires.margin S.requires.budget (rule-is L) (ends-are L) f N.reads_of-n.result S.args.leaves.now leaves (most-is N) S.requires.long c.search-f.ensures,
     )

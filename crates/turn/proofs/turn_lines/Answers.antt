@@ -28,12 +28,6 @@ turn_line-requires c =
     let t = c.loop-i-test.true in
     (part-long a.text.now c.loop-i.i (omega (arith, v.2, t)), omega (arith, v.3, v.4, t), row-roomy a.text.now a.n c.loop-i.i t v.5)
 
-pub overflow_add-i : goal.overflow_add-i
-overflow_add-i c = let v = c.loop-i.invariant in record { fits = omega (arith, v.0, v.1) }
-
-pub loop-i-smaller : goal.loop-i-smaller
-loop-i-smaller c = omega (arith, c.loop-i-test.true)
-
 pub loop-i-preserved : goal.loop-i-preserved
 loop-i-preserved c =
     let a = c.args in

@@ -15,6 +15,3 @@ invariant-loop-i l =
     × (length l.buffer ≡ length l.initial.buffer)
     × RowsRoomy (l.n - l.i) (drop (25 * l.i + 25) l.text)
     × (sets l.initial.buffer 25 (turned_rows l.n (drop 25 l.text)) ≡ sets l.buffer (25 * l.i + 25) (turned_rows (l.n - l.i) (drop (25 * l.i + 25) l.text)))
-
-abbrev pub decreases-loop-i : goal.decreases-loop-i
-decreases-loop-i l = l.n - l.i

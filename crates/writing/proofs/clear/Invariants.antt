@@ -11,6 +11,3 @@ invariant-loop-i l =
     × (length l.buffer ≡ length l.initial.buffer)
     × (l.at + l.width ≤ length l.initial.buffer)
     × (sets l.initial.buffer l.at (replicate l.width 32) ≡ sets l.buffer (l.at + l.i) (replicate (l.width - l.i) 32))
-
-abbrev pub decreases-loop-i : goal.decreases-loop-i
-decreases-loop-i l = l.width - l.i

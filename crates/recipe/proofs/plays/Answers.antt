@@ -1,5 +1,0 @@
--- `recipe::plays` meets its contract.
-use Rattle.recipe.proofs.plays.Goals as goal
-
-pub returns-then-dice : goal.returns-then-dice
-returns-then-dice c = rw c.if-dice.true
