@@ -103,20 +103,19 @@ fn put_refusal(page: &mut Page, r: Refusal)
     page.put_count(b"line  ", r.line() as u64);
 }
 
-// The search of a table at a margin, printed.
-fn print_search(table: &[u8], margin: i64) -> Page
-    ensures { result ≡ printed (rows_of (sought (read_text table.now) margin 1024)) }
+// The search of a table at a margin, printed. The page is lent: one that is handed out is cleared and copied once more by each that does (docs/SPEED.md).
+fn print_search(page: &mut Page, table: &[u8], margin: i64)
+    requires { page.old ≡ [] }
+    ensures { page.new ≡ printed (rows_of (sought (read_text table.now) margin 1024)) }
 {
-    let mut page = Page::new();
     let mut leaves = [0u16; 1024];
     match search_call::search_table(table, margin, &mut leaves) {
-        Err(r) => put_refusal(&mut page, r),
+        Err(r) => put_refusal(page, r),
         Ok(b) => {
-            put_bounds(&mut page, b, play_marks(table, b.play));
-            put_leaves(&mut page, &leaves[..b.leaves]);
+            put_bounds(page, b, play_marks(table, b.play));
+            put_leaves(page, &leaves[..b.leaves]);
         }
     }
-    page
 }
 
 // What the program prints for an input: as many bytes as `output` has room for, and their number. The rest of `output` is kept.
@@ -125,7 +124,8 @@ pub fn answer(input: &[u8], output: &mut [u8]) -> usize
     ensures output { output.new ≡ fitted (output_of input.now) output.old }
 {
     let table = &input[input.len().min(15)..];
-    let page = print_search(table, margin_of(input));
+    let mut page = Page::new();
+    print_search(&mut page, table, margin_of(input));
     let text = page.bytes();
     let n = text.len().min(output.len());
     output[..n].copy_from_slice(&text[..n]);

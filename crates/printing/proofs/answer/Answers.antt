@@ -12,7 +12,7 @@ text_is : (c : After-bytes-text) → c.bytes-text.result.now ≡ output_of c.arg
 text_is c =
     let margin : to_z w64 (of_z w64 c.margin_of.result) ≡ c.margin_of.result = search rules in
     c.bytes-text.ensures
-    ∙ c.print_search-page.ensures
+    ∙ c.print_search.ensures
     ∙ ap₂ (λ (l : List ℕ) (z : ℤ). printed (rows_of (sought (read_text l) z 1024))) (part-table c.args.input.now c.min.result c.min.ensures) (margin ∙ c.margin_of.ensures)
 
 pub returns-clause-bytes : goal.returns-clause-bytes

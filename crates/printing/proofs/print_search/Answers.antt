@@ -16,7 +16,7 @@ handed z = to_z w64 (of_z w64 z)
 
 pub put_refusal-requires : goal.put_refusal-requires
 put_refusal-requires c =
-    (c.new-page.ensures, refused-low c.args.table.now (handed c.args.margin) 1024 c.in-Err.r c.in-Err.ensures.answers)
+    (c.requires, refused-low c.args.table.now (handed c.args.margin) 1024 c.in-Err.r c.in-Err.ensures.answers)
 
 pub play_marks-requires : goal.play_marks-requires
 play_marks-requires c = found_lined c.args.table.now (handed c.args.margin) 1024 c.in-Ok.b c.in-Ok.ensures.answers
@@ -24,7 +24,7 @@ play_marks-requires c = found_lined c.args.table.now (handed c.args.margin) 1024
 pub put_bounds-requires : goal.put_bounds-requires
 put_bounds-requires c =
     let narrow = found-narrow c.args.table.now (handed c.args.margin) 1024 c.in-Ok.b c.in-Ok.ensures.answers in
-    (c.new-page.ensures, narrow c.play_marks.result c.play_marks.ensures)
+    (c.requires, narrow c.play_marks.result c.play_marks.ensures)
 
 pub put_leaves-requires : goal.put_leaves-requires
 put_leaves-requires c =
