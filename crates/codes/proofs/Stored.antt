@@ -1,4 +1,4 @@
--- What `put` says of an entry at a time, of all entries at once.
+-- What `put` says of an entry at a time, of all entries at once. A law of the definition: the code writes an entry at a time.
 use Rattle.std.proofs.Common.{ℕ, zero, suc, ◌≡◌, min, List, [], ◌∷◌, ◌++◌, length, take, drop, refl, sym, ap, ◌∙◌, arith}
 use Rattle.codes.specs.Numbers.{put}
 

@@ -17,13 +17,16 @@ use search_call::Bounds;
 use table::Summary;
 use worth::Exact;
 
-// Writes the values to the front of `numbers`, as many as it has room for.
-#[tactic(auto, using(crate::proofs::Stored::front_stored))]
+// Writes the values to the front of `numbers`, as many as it has room for. A loop over the few that there are: by `copy_from_slice` the benchmark's archive would
+// need `memcpy` from outside.
 fn put<T: Copy>(values: &[T], numbers: &mut [T])
     ensures { numbers.new ≡ put 0 values.now numbers.old }
 {
-    let n = values.len().min(numbers.len());
-    numbers[..n].copy_from_slice(&values[..n]);
+    for (i, value) in values.iter().enumerate() {
+        if i < numbers.len() {
+            numbers[i] = *value;
+        }
+    }
 }
 
 // The line and the number of a refusal as one.
