@@ -103,7 +103,7 @@ fn put_refusal(page: &mut Page, r: Refusal)
     page.put_count(b"line  ", r.line() as u64);
 }
 
-// The search of a table at a margin, printed. The page is lent: one that is handed out is cleared and copied once more by each that does (docs/SPEED.md).
+// The search of a table at a margin, printed. The page is lent: a function that hands out one of its own clears and copies it once more (docs/SPEED.md).
 fn print_search(page: &mut Page, table: &[u8], margin: i64)
     requires { page.old ≡ [] }
     ensures { page.new ≡ printed (rows_of (sought (read_text table.now) margin 1024)) }
