@@ -26,6 +26,19 @@ use Rattle.indexing.specs.declared.Base.TheVariants.{Lowest, Highest}
 use Rattle.indexing.specs.Inside.{OwnEnds, Ended, end_from, entries_from, entries_of}
 use Rattle.indexing.proofs.Ended.{greatest-within}
 
+-- ---- a list that entries are written to keeps its length
+
+written-length : (xs : List (Option ℤ)) (l : List ℤ) → length (written xs l) ≡ length l
+unfolding written
+written-length [] [] = refl
+written-length [] (z ∷ l) = refl
+written-length (x ∷ xs) [] = refl
+written-length (none ∷ xs) (z ∷ l) = ap suc (written-length xs l)
+written-length (some x ∷ xs) (z ∷ l) = ap suc (written-length xs l)
+
+pub written-long : (xs : List (Option ℤ)) (l r : List ℤ) → r ≡ written xs l → length r ≡ length l
+written-long xs l r e = ap length e ∙ written-length xs l
+
 -- ---- one entry more in a list
 
 put_one : Option ℤ → ℕ → List ℤ → List ℤ

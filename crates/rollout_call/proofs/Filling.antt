@@ -3,7 +3,7 @@ use Prim.Native.Nat.{ℕ, zero, suc, ◌≤◌, ◌<◌}
 use mathlib.Core.Path.{◌≡◌, refl, sym, ap, ap₂, ◌∙◌}
 use mathlib.Core.List.{List, [], ◌∷◌, ◌++◌, map, map-append}
 use native.Mathlib.Omega.{arith}
-use lib.ListN.{length, get_or, take, drop, take-append-drop}
+use lib.ListN.{length, get_or, take, drop, length-map, take-append-drop}
 use lib.IntN.{ℤ, pos, ◌+ℤ◌}
 use Rattle.rollout.specs.Rollout.{Pair}
 use Rattle.rolled.specs.Inside.Bounds.{lows_of, highs_of, risen}
@@ -50,3 +50,19 @@ filled-recorded rs b ls hs ys n e el eh =
     ap₂ (λ (x y : List ℤ). filled n x y ys) (risen-front b n ls (lows_of rs) el) (risen-front b n hs (highs_of rs) eh)
     ∙ ap (λ (k : ℕ). filled k (lows_of rs ++ risen b (drop n ls)) (highs_of rs ++ risen b (drop n hs)) ys) e
     ∙ ap (λ (l : List Record). l ++ drop (length rs) ys) (recorded-all rs (risen b (drop n ls)) (risen b (drop n hs)))
+
+-- ---- the store keeps its length
+
+pub length-filled : (n : ℕ) (ls hs : List ℤ) (st : List Record) → n ≤ length ls → n ≤ length hs → n ≤ length st → length (filled n ls hs st) ≡ length st
+unfolding records_of
+length-filled zero ls hs st a b c = refl
+length-filled (suc n) [] hs st a b c = absurd (omega arith)
+length-filled (suc n) (l ∷ ls) [] st a b c = absurd (omega arith)
+length-filled (suc n) (l ∷ ls) (h ∷ hs) [] a b c = absurd (omega arith)
+length-filled (suc n) (l ∷ ls) (h ∷ hs) (s ∷ st) a b c = ap suc (length-filled n ls hs st (omega arith) (omega arith) (omega arith))
+
+pub length-risen : (b : ℤ) (n : ℕ) (ls hs : List ℕ) (st : List Record) → n ≤ length ls → n ≤ length hs → n ≤ length st
+    → length (filled n (risen b ls) (risen b hs) st) ≡ length st
+length-risen b n ls hs st a c d =
+    let f : ℕ → ℤ = λ h. b +ℤ pos h in
+    length-filled n (risen b ls) (risen b hs) st (omega (arith, length-map ls f)) (omega (arith, length-map hs f)) d
