@@ -2,7 +2,7 @@
 // lies below its highest end; and these as an index's entries, written to a list or compared with one.
 #![tactic(auto)]
 
-ghost use Rattle.std.specs.Prelude.{◌≡◌, true, cond, ◌-◌, ◌<◌, ◌≤◌, eqb, length, get_or, set};
+ghost use Rattle.std.specs.Prelude.{ℕ, ◌≡◌, true, cond, ◌-◌, ◌<◌, ◌≤◌, eqb, length, get_or, set, map};
 ghost use Rattle.std.specs.Int.Signed.{mag};
 ghost use Rattle.numbers.specs.Integers.{eq_z};
 ghost use Rattle.line.specs.Line.{code};
@@ -92,30 +92,54 @@ pub fn own_ends(nodes: &[Node], rise: &mut [u32], drop: &mut [u32], n: usize, sp
     least_under(nodes, rise, n);
 }
 
+// What shows whether it is a leaf: a node, or the number of its kind alone, where 0 is a leaf's and any other an inner node's.
+pub trait Kinded: Copy {
+    ghost kind_number: { Self → ℕ };
+
+    fn is_leaf(self) -> bool
+        ensures { result ≡ eqb (kind_number self) 0 };
+}
+
+impl Kinded for Node {
+    ghost kind_number = { λ n. code n.kind };
+
+    fn is_leaf(self) -> bool {
+        self.kind == Kind::Leaf
+    }
+}
+
+impl Kinded for u8 {
+    ghost kind_number = { λ k. k };
+
+    fn is_leaf(self) -> bool {
+        self == 0
+    }
+}
+
 // The entries of n nodes, written to a list: a leaf has none.
-pub fn put_ends(nodes: &[Node], points: &[u32], n: usize, base: Base, list: &mut [i64])
+pub fn put_ends<T: Kinded>(nodes: &[T], points: &[u32], n: usize, base: Base, list: &mut [i64])
     requires { (n ≤ length nodes.now) × (n ≤ length points.now) × (n ≤ length list.old) × (mag (base_of base) ≤ 1000000) × Small 2000000 points.now n }
-    ensures { list.new ≡ written (entries_of (kinds_in nodes.now) points.now base n) list.old }
+    ensures { list.new ≡ written (entries_of (map T.kind_number nodes.now) points.now base n) list.old }
 {
     for (i, node) in nodes[..n].iter().enumerate() {
-        if node.kind != Kind::Leaf {
+        if !node.is_leaf() {
             list[i] = base.end(points[i]);
         }
     }
 }
 
-// Whether z is the entry of a node of this kind, where it has one.
-fn same_end(kind: Kind, x: u32, base: Base, z: i64) -> bool
-    requires { (mag (base_of base) ≤ 1000000) × (x ≤ 2000000) }
-    ensures { result ≡ cond (eqb (code kind) 0) true (eq_z (end_from base x) z) }
+// Whether z is the entry of node i, where it has one.
+fn same_end<T: Kinded>(nodes: &[T], points: &[u32], i: usize, base: Base, z: i64) -> bool
+    requires { (i < length nodes.now) × (i < length points.now) × (mag (base_of base) ≤ 1000000) × (get_or points.now i 0 ≤ 2000000) }
+    ensures { result ≡ cond (eqb (get_or (map T.kind_number nodes.now) i 0) 0) true (eq_z (end_from base (get_or points.now i 0)) z) }
 {
-    kind == Kind::Leaf || base.end(x) == z
+    nodes[i].is_leaf() || base.end(points[i]) == z
 }
 
 // Whether a list has the entries of n nodes.
-pub fn same_ends(nodes: &[Node], points: &[u32], n: usize, base: Base, list: &[i64]) -> bool
+pub fn same_ends<T: Kinded>(nodes: &[T], points: &[u32], n: usize, base: Base, list: &[i64]) -> bool
     requires { (n ≤ length nodes.now) × (n ≤ length points.now) × (mag (base_of base) ≤ 1000000) × Small 2000000 points.now n }
-    ensures { result ≡ agrees (entries_of (kinds_in nodes.now) points.now base n) list.now }
+    ensures { result ≡ agrees (entries_of (map T.kind_number nodes.now) points.now base n) list.now }
 {
-    n <= list.len() && (0..n).all(|i| same_end(nodes[i].kind, points[i], base, list[i]))
+    n <= list.len() && (0..n).all(|i| same_end(nodes, points, i, base, list[i]))
 }

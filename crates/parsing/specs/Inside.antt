@@ -1,11 +1,13 @@
 -- What `header` and `node_line` promise to the crate `reading`, and what the contracts below them cite. No promise of a public call names these.
 use Rattle.line.specs.declared.Refusal.{Refusal}
+use Rattle.parsing.specs.declared.CodedStep.{CodedStep}
 use Rattle.parsing.specs.declared.PlacedLine.{PlacedLine}
-use Rattle.std.specs.Prelude.{ℕ, ◌≤◌, ◌<◌, List, ◌∷◌, reverse, take, Err, None, Ok, Option, Result, Some}
+use Rattle.std.specs.Prelude.{ℕ, ◌≤◌, ◌<◌, cond, eqb, List, ◌∷◌, reverse, take, Err, None, Ok, Option, Result, Some}
 use Rattle.line.specs.declared.Head.{Head}
 use Rattle.line.specs.declared.Entry.{Entry}
 use Rattle.line.specs.Refusal.{Verdict, refused, fine, unless}
 use Rattle.line.specs.declared.Kind.{Kind}
+use Rattle.line.specs.declared.Kind.TheVariants.{Leaf, Max, Min, Chance}
 use Rattle.line.specs.declared.Step.{Step}
 use Rattle.line.specs.Line.{Above, wrong, path, stepped, step_of, Placed, placed, late_checks}
 
@@ -29,6 +31,13 @@ module _ (P : List Step) where
 -- node i, of the kind k, below the steps P of its parent, where only 10, 7 and 3 are left to check
 abbrev pub placing_of : Head → ℕ → Kind → Entry → List Step → Verdict Placed
 placing_of h i k e P = unless (late_checks h i k e P) (placed i k e (stepped i k P))
+
+-- a step whose kind is a number: 2 stands for N, and so does every number from 4 on, which is neither a leaf's nor a C's
+abbrev pub kind_on_path : ℕ → Kind
+kind_on_path k = cond (eqb k 0) Leaf (cond (eqb k 1) Max (cond (eqb k 3) Chance Min))
+
+abbrev pub step_coded : CodedStep → Step
+step_coded s = record { node = s.node; kind = kind_on_path s.kind; chances = s.chances }
 
 -- "at most four C on a path"
 abbrev pub Rare : Step → Type 0

@@ -5,7 +5,7 @@ ghost use Rattle.std.specs.Prelude.{◌≡◌, not, cond, List, [], ◌∷◌, �
 ghost use Rattle.std.specs.List.{All};
 ghost use Rattle.line.specs.Line.{second_of, total_of, heading_of, ill_heading, bad_second, wide_heading, larger, entry_of, climb, ancestors, chances_of, at_chance, line_said, place_of, ill_entry, misfilled, wide_entry, node_line, header as header_of};
 ghost use Rattle.line.specs.declared.Step.{Step};
-ghost use Rattle.parsing.specs.Inside.{head_shown, lowest, above_shown, placing_shown, placing_of, Upto, Roomy, Rare};
+ghost use Rattle.parsing.specs.Inside.{head_shown, lowest, above_shown, placing_shown, placing_of, Upto, Roomy, Rare, step_coded};
 
 use field::Field;
 use line::{Entry, Head, Heading, Kind, Line, Refusal, Step};
@@ -131,6 +131,31 @@ fn is_wide_entry(h: Head, e: Entry) -> bool
     e.weight.is_outside(1, h.larger_total() as i64) || e.utility.is_outside(h.lowest, h.highest)
 }
 
+// A step whose kind is the number that stands for it: 0 for L, 1 for M, 3 for C, and any other for N. No rule about a path tells M from N.
+#[derive(Clone, Copy)]
+pub struct CodedStep {
+    pub node: u64,
+    pub kind: u8,
+    pub chances: u64,
+}
+
+impl From<CodedStep> for Step {
+    ghost from_gives = { λ s step. step ≡ step_coded s };
+
+    fn from(s: CodedStep) -> Step {
+        Step {
+            node: s.node,
+            kind: match s.kind {
+                0 => Kind::Leaf,
+                1 => Kind::Max,
+                3 => Kind::Chance,
+                _ => Kind::Min,
+            },
+            chances: s.chances,
+        }
+    }
+}
+
 // The path from the root down to a node line, the root's step first. A contract sees the steps from the node up to the root.
 #[derive(Drop)]
 pub struct Path {
@@ -162,11 +187,11 @@ impl Path {
     }
 
     // A step below the first d, in place of those that stood there.
-    pub fn push(&mut self, d: usize, step: Step)
-        requires { (d ≤ length self.old) × (d < 64) × Rare step }
-        ensures { self.new ≡ step ∷ lowest d self.old }
+    pub fn push<S: Into<Step>>(&mut self, d: usize, step: S)
+        requires { (d ≤ length self.old) × (d < 64) × ((s : Step) → S.converts step s → Rare s) }
+        ensures { (s : Step) × S.converts step s × (self.new ≡ s ∷ lowest d self.old) }
     {
-        self.steps[d] = step;
+        self.steps[d] = step.into();
         self.depth = d + 1;
     }
 

@@ -6,3 +6,4 @@ pub mod Checks
 pub mod Reread
 pub mod Shaped
 pub mod Stored
+pub mod Coded

@@ -4,8 +4,11 @@ use Rattle.field.specs.Field.{text_of}
 use Rattle.field.specs.declared.Field.{Field}
 use Rattle.field.specs.declared.Field.TheVariants.{Blank, Ill, Number}
 use Rattle.line.specs.declared.Entry.{Entry}
+use Rattle.line.specs.declared.Kind.{Kind}
+use Rattle.line.specs.declared.Kind.TheVariants.{Leaf, Max, Min, Chance}
 use Rattle.line.specs.declared.Line.{Line}
 use Rattle.line.specs.Line.{letter, is_leaf}
+use Rattle.writing.specs.declared.CodedLine.{CodedLine}
 use Rattle.writing.specs.Text.{columns, blank, newline}
 
 -- ---- a field in its columns
@@ -51,3 +54,12 @@ pub record Short (l : Line) : Type 0 where
   pub parent : l.parent < 10 ^ 5
   pub weight : l.weight < 10 ^ 5
   pub utility : nat_abs l.utility < 10 ^ 7
+
+-- ---- a node line whose kind is a number
+
+-- 3 and more stand for C
+abbrev pub kind_written : ℕ → Kind
+kind_written k = cond (eqb k 0) Leaf (cond (eqb k 1) Max (cond (eqb k 2) Min Chance))
+
+abbrev pub line_coded : CodedLine → Line
+line_coded l = record { node = l.node; kind = kind_written l.kind; parent = l.parent; weight = l.weight; utility = l.utility; chances = l.chances }

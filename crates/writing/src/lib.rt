@@ -4,8 +4,9 @@
 ghost use Rattle.std.specs.Prelude.{◌≡◌, cond, ◌+◌, ◌≤◌, length, replicate};
 ghost use Rattle.std.proofs.lemmas.List.Edits.{sets};
 ghost use Rattle.line.specs.Inside.{Ranged};
+ghost use Rattle.line.specs.declared.Line.{Line};
 ghost use Rattle.writing.specs.Text.{totals_text, header_text, line_text};
-ghost use Rattle.writing.specs.Inside.{shown, Fits, entry_text, Roomy, entry_for, Short};
+ghost use Rattle.writing.specs.Inside.{shown, Fits, entry_text, Roomy, entry_for, Short, line_coded};
 
 use field::Field;
 use line::{Entry, Head, Kind, Line};
@@ -103,10 +104,41 @@ fn entry_for(l: Line) -> Entry
     }
 }
 
+// A node line whose kind is the number that stands for it: 0 for L, 1 for M, 2 for N, and any other for C.
+#[derive(Clone, Copy)]
+pub struct CodedLine {
+    pub node: usize,
+    pub kind: u8,
+    pub parent: u64,
+    pub weight: u64,
+    pub utility: i64,
+    pub chances: u64,
+}
+
+impl From<CodedLine> for Line {
+    ghost from_gives = { λ l said. said ≡ line_coded l };
+
+    fn from(l: CodedLine) -> Line {
+        Line {
+            node: l.node,
+            kind: match l.kind {
+                0 => Kind::Leaf,
+                1 => Kind::Max,
+                2 => Kind::Min,
+                _ => Kind::Chance,
+            },
+            parent: l.parent,
+            weight: l.weight,
+            utility: l.utility,
+            chances: l.chances,
+        }
+    }
+}
+
 // A node line by what it says, from the byte `at` on.
-pub fn put_line(buffer: &mut [u8], at: usize, l: Line)
-    requires { (at + 25 ≤ length buffer.old) × Short l }
-    ensures { buffer.new ≡ sets buffer.old at (line_text l) }
+pub fn put_line<L: Into<Line>>(buffer: &mut [u8], at: usize, l: L)
+    requires { (at + 25 ≤ length buffer.old) × ((said : Line) → L.converts l said → Short said) }
+    ensures { (said : Line) × L.converts l said × (buffer.new ≡ sets buffer.old at (line_text said)) }
 {
-    put_entry(buffer, at, entry_for(l));
+    put_entry(buffer, at, entry_for(l.into()));
 }

@@ -67,7 +67,7 @@ loop-i-preserved c =
     let s = c.loop-i in
     let l = c.in_ok-p.p.line in
     let node = c.node_of.ensures ∙ ap (λ (z : ℤ). node_of z l) (lowest-back c.args.h c.requires.4) in
-    rw (node, c.push.ensures, c.step.ensures, c.max-most.ensures, c.from-leaves.ensures, c.eq.ensures, leaf_same l.kind, byte-is (is_leaf l.kind))
+    rw (node, c.push.ensures.2, c.push.ensures.1, c.step.ensures, c.max-most.ensures, c.from-leaves.ensures, c.eq.ensures, leaf_same l.kind, byte-is (is_leaf l.kind))
     (gathering-more _ _ _ _ _ _ _ _ _ _ _ s.invariant c.requires.2 c.requires.4 c.loop-i-test.true l _ (line-is (goal.at.loop-i-preserved c).In_ok-p) c.requires.0 c.requires.1)
 
 pub returns : goal.returns

@@ -8,11 +8,14 @@ use Rattle.writing.proofs.Again.{line-roomy}
 use Rattle.writing.proofs.put_line.Goals as goal
 
 pub put_entry-requires : goal.put_entry-requires
-put_entry-requires c = (c.requires.0, subst Roomy (sym c.entry_for.ensures) (line-roomy c.args.l c.requires.1))
+put_entry-requires g c = (c.requires.0, subst Roomy (sym c.entry_for.ensures) (line-roomy c.into.result (c.requires.1 c.into.result c.into.ensures)))
 
 pub returns : goal.returns
-returns c =
-    let a = c.args in
-    c.put_entry.ensures
-    ∙ ap (λ (e : Entry). sets a.buffer.now a.at (entry_text e)) c.entry_for.ensures
-    ∙ ap (sets a.buffer.now a.at) (sym (line-text a.l))
+returns g c =
+    let a = c.args in (
+      c.into.result,
+      c.into.ensures,
+      (c.put_entry.ensures
+          ∙ ap (λ (e : Entry). sets a.buffer.now a.at (entry_text e)) c.entry_for.ensures
+          ∙ ap (sets a.buffer.now a.at) (sym (line-text c.into.result))),
+    )
