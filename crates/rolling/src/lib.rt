@@ -78,13 +78,14 @@ impl Window {
         let mut left = j;
         let mut i = c;
         loop {
+            let next = usize::from(nodes[i].stop);
             if self.is_candidate(low, high, i) {
                 if left == 0 {
                     return i;
                 }
                 left -= 1;
             }
-            i = usize::from(nodes[i].stop);
+            i = next;
         }
     }
 

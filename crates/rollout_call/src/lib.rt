@@ -46,7 +46,7 @@ pub fn rollouts(
     ensures lists { leaves.new ≡ laid (roll_reads (read_text text.now) policy.now (length leaves.old) (length store.old)) leaves.old }
     ensures store { store.new ≡ recorded (roll_store (read_text text.now) policy.now (length leaves.old) (length store.old)) store.old }
 {
-    // An entry more than is used: so a node and its two bounds, which a walk reads together, do not lie in the same eighth of their cache lines.
+    // An entry more than is used: so the nodes and the two lists, of which a walk reads an entry each, do not all begin at one place of a cache line.
     let mut lows = [0u64; 1025];
     let mut highs = [0u64; 1025];
     let low = &mut lows[..1024];

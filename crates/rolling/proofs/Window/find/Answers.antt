@@ -1,12 +1,10 @@
-use Rattle.std.proofs.Common.{ℕ, ◌≡◌, ◌<◌, sym, ◌∙◌, get_or, arith}
+use Rattle.std.proofs.Common.{◌≡◌, ◌<◌, ◌-◌, sym, ◌∙◌, get_or, arith}
 use Rattle.std.proofs.lemmas.Grind.{common_steps}
-use Rattle.table.specs.Tree.{Forest}
 use Rattle.table.specs.Nodes.{stops_in}
-use Rattle.rolling.specs.Inside.Lists.{candidates_s}
-use Rattle.rolling.specs.Inside.Contracts.{stored, Siblings}
-use Rattle.rolling.proofs.Rows.{Seeking, seek-start, seek-within, seek-first, seek_found, seek-past, seek-less}
+use Rattle.rolling.specs.Inside.Contracts.{stored}
+use Rattle.rolling.proofs.Rows.{seek-start, seek-within, seek-first, seek_found, seek-past, seek-less}
 use Rattle.rolling.proofs.Window.find.Goals as goal
-use Rattle.rolling.proofs.Window.find.Goals.{After-from-i, then-is_candidate+else-left-eq0, else-is_candidate}
+use Rattle.rolling.proofs.Window.find.Goals.{After-from-next}
 
 pub loop-self-init : goal.loop-self-init
 loop-self-init c =
@@ -20,27 +18,37 @@ returns-then-left-eq0 c =
     λ F h l. seek_found (c.loop-self.invariant.1 F h l) (sym c.is_candidate.ensures ∙ c.if-is_candidate.true) c.if-left-eq0.true
 
 -- where the next child begins
-stop : (c : After-from-i) → c.from-i.result ≡ get_or (stops_in c.args.nodes.now) c.loop-self.i 0
+stop : (c : After-from-next) → c.from-next.result ≡ get_or (stops_in c.args.nodes.now) c.loop-self.i 0
 stop c = grind (arith, common_steps)
 
-pub loop-self-smaller : goal.loop-self-smaller
-loop-self-smaller c =
+-- it lies further on
+further : (c : After-from-next) → c.args.e - c.from-next.result < c.args.e - c.loop-self.i
+further c =
     let R = c.requires in
     let s = stop c in
     let after = seek-first (c.loop-self.invariant.1 R.nodes R.row R.some) in
     omega (arith, after.below)
 
+pub loop-self-smaller-else-left-eq0 : goal.loop-self-smaller-else-left-eq0
+loop-self-smaller-else-left-eq0 c = further (goal.at.loop-self-smaller-else-left-eq0 c).After-from-next
+
+pub loop-self-smaller : goal.loop-self-smaller
+loop-self-smaller c = further (goal.at.loop-self-smaller c).After-from-next
+
+pub loop-self-preserved-else-left-eq0 : goal.loop-self-preserved-else-left-eq0
+loop-self-preserved-else-left-eq0 c =
+    let R = c.requires in
+    let s = stop (goal.at.loop-self-preserved-else-left-eq0 c).After-from-next in
+    let t = sym c.is_candidate.ensures ∙ c.if-is_candidate.true in
+    let n = c.from-next.result in (
+      seek-within (seek-less (c.loop-self.invariant.1 R.nodes R.row R.some) n s t c.if-left-eq0.false),
+      λ F h l. seek-less (c.loop-self.invariant.1 F h l) n s t c.if-left-eq0.false,
+    )
+
 pub loop-self-preserved : goal.loop-self-preserved
 loop-self-preserved c =
-    let a = c.args in
     let R = c.requires in
-    let s = stop c in
-    let on : (F : Forest ℕ) → Siblings (stops_in a.nodes.now) a.c a.e F → a.j < candidates_s a.self.alpha a.self.beta F (stored a.low.now a.high.now)
-    → Seeking (stops_in a.nodes.now) a.e a.self.alpha a.self.beta (stored a.low.now a.high.now) F a.j c.if-is_candidate.left c.from-i.result
-    = λ F h l. elim c.if-is_candidate.branch [
-      | then-is_candidate+else-left-eq0 w ↦
-          rw w.left-is (seek-less (c.loop-self.invariant.1 F h l) c.from-i.result s (sym c.is_candidate.ensures ∙ w.if-is_candidate.true) w.if-left-eq0.false)
-      | else-is_candidate w ↦
-          rw w.left-is (seek-past (c.loop-self.invariant.1 F h l) c.from-i.result s (sym c.is_candidate.ensures ∙ w.if-is_candidate.false))
-    ] in
-    (seek-within (on R.nodes R.row R.some), on)
+    let s = stop (goal.at.loop-self-preserved c).After-from-next in
+    let t = sym c.is_candidate.ensures ∙ c.if-is_candidate.false in
+    let n = c.from-next.result in
+    (seek-within (seek-past (c.loop-self.invariant.1 R.nodes R.row R.some) n s t), λ F h l. seek-past (c.loop-self.invariant.1 F h l) n s t)
