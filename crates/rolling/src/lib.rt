@@ -78,6 +78,7 @@ impl Window {
         let mut left = j;
         let mut i = c;
         loop {
+            // Looked up first: the way along the row then waits for no more than that (docs/SPEED.md, "The design pass").
             let next = usize::from(nodes[i].stop);
             if self.is_candidate(low, high, i) {
                 if left == 0 {
